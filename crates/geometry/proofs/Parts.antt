@@ -1,0 +1,32 @@
+-- A part that was lent and filled, said of the whole.
+use mathlib.Core.Path.{_≡_, refl, ap, sym, _∙_}
+use mathlib.Core.List.{List, [], _∷_, _++_, append-nil}
+use Prim.Native.Nat.{ℕ, _+_, _-_, _≤_}
+use native.Mathlib.Nat.{add-sub-cancel-left}
+use native.Mathlib.Omega.{arith}
+use lib.ListN.{length, take, drop, length-take, length-drop, drop-of-length-le}
+use lib.Seq.{take-length, length-take-le}
+use Rattle.geometry.specs.Number.{numberBytes}
+use Rattle.geometry.specs.NumberLaws.{length-number}
+use Rattle.geometry.specs.Page.{overwritten}
+
+module _ (at k : ℕ) (b last : List ℕ) where
+  filled : (xs : List ℕ) → length xs ≡ k → last ≡ xs → take at b ++ (last ++ drop (at + k - at) (drop at b)) ≡ overwritten at xs b
+  unfolding overwritten
+  filled xs e f = rw (add-sub-cancel-left at k, f, e)
+
+pub bytes-put : (at : ℕ) (xs b last : List ℕ) → last ≡ take (length xs) xs ++ drop (length xs) (take (at + length xs - at) (drop at b))
+    → take at b ++ (last ++ drop (at + length xs - at) (drop at b)) ≡ overwritten at xs b
+bytes-put at xs b last e = filled at (length xs) b last xs refl (e ∙ copied)
+  where
+    copied : take (length xs) xs ++ drop (length xs) (take (at + length xs - at) (drop at b)) ≡ xs
+    copied =
+        let z : length (take (length xs) (drop at b)) ≤ length xs = simp length-take (omega arith) in
+        rw (add-sub-cancel-left at (length xs), drop-of-length-le (take (length xs) (drop at b)) z, take-length xs) (append-nil xs)
+
+pub number-put : (at n x : ℕ) (b last : List ℕ) → at + n ≤ length b → last ≡ numberBytes (length (take (at + n - at) (drop at b))) x
+    → take at b ++ (last ++ drop (at + n - at) (drop at b)) ≡ overwritten at (numberBytes n x) b
+number-put at n x b last h e = filled at n b last (numberBytes n x) (length-number n x) (e ∙ ap (λ (k : ℕ). numberBytes k x) size)
+  where
+    size : length (take (at + n - at) (drop at b)) ≡ n
+    size = rw (add-sub-cancel-left at n) (length-take-le n (drop at b) (simp length-drop (omega arith)))

@@ -1,0 +1,12 @@
+use Rattle.geometry.proofs.Parts.{number-put}
+use borrow.Author.Needs.{needs}
+use Rattle.geometry.proofs.put_number.Statement.{statement}
+use Rattle.geometry.proofs.put_number.Tie as tie
+
+returns : tie.Need-returns
+returns c = number-put _ _ _ _ _ (c .before .before .before .before .before .pre) (c .before .before .write-number .ensures)
+
+pub put-number-spec : {M : Type 1} → statement M
+put-number-spec =
+    tie.close
+    (tie.spec (λ c. search needs) (λ c. search needs) (λ c. search needs) (λ c. search needs) (λ c κs. search needs) (λ c. search needs) returns)

@@ -1,0 +1,197 @@
+// The sizes of an image, numbers of n bytes, and an image's pages.
+ghost use mathlib.Core.Path.{_≡_};
+ghost use Prim.Native.Nat.{ℕ, _+_, _*_, _^_, _≤_, _<_};
+ghost use lib.ListN.{length, take, drop};
+ghost use Rattle.geometry.specs.Geometry.{geometryOf, dataCapacity, entrySize, controlSize, firstEntries, laterEntries, bitmapSize, Valid, Fit};
+ghost use Rattle.geometry.specs.Number.{number, numberBytes};
+ghost use Rattle.geometry.specs.Page.{overwritten, pageOf};
+
+// Page length P, page count N, bytes of a page number n.
+pub struct Geometry {
+    pub size: usize,
+    pub pages: usize,
+    pub width: usize,
+}
+
+// A geometry that fits, or refusal 1.
+pub enum Shape {
+    Fits(Geometry),
+    Wrong,
+}
+
+// The least and greatest page length and page count.
+pub const LEAST_SIZE: u32 = 32;
+
+pub const MOST_SIZE: u32 = 256;
+
+pub const LEAST_PAGES: u32 = 2;
+
+pub const MOST_PAGES: u32 = 65535;
+
+// The greatest page count whose page numbers take one byte.
+pub const MOST_NARROW: usize = 256;
+
+// Bytes of the fields of a packet, a directory entry and a control field.
+pub const LENGTH_BYTES: usize = 1;
+
+pub const CHECK_BYTES: usize = 2;
+
+pub const NAME_BYTES: usize = 4;
+
+pub const EXTENSION_BYTES: usize = 1;
+
+pub const MARKER_BYTES: usize = 1;
+
+pub const BITMAP_CONTROL_BYTES: usize = 1;
+
+pub const BITMAP_FIELD_BYTES: usize = 4;
+
+impl Geometry {
+    // Judges page length, page count, image length and owner table length.
+    pub fn new(size: u32, pages: u32, image: usize, owners: usize) -> Shape
+        ensures { λ r. ⌜ r ≡ geometryOf size pages image owners ⌝ }
+    {
+        if size < LEAST_SIZE {
+            return Shape::Wrong;
+        }
+        if MOST_SIZE < size {
+            return Shape::Wrong;
+        }
+        if pages < LEAST_PAGES {
+            return Shape::Wrong;
+        }
+        if MOST_PAGES < pages {
+            return Shape::Wrong;
+        }
+        Geometry::sized(size as usize, pages as usize, image, owners)
+    }
+
+    // Judges the two lengths for a page length and a page count within their bounds.
+    fn sized(size: usize, pages: usize, image: usize, owners: usize) -> Shape
+        requires { ⌜ (32 ≤ size) × (size ≤ 256) × (2 ≤ pages) × (pages ≤ 65535) ⌝ }
+        ensures { λ r. ⌜ r ≡ geometryOf size pages image owners ⌝ }
+    {
+        if image != size * pages {
+            return Shape::Wrong;
+        }
+        if owners < pages {
+            return Shape::Wrong;
+        }
+        let mut width = 2;
+        if pages <= MOST_NARROW {
+            width = 1;
+        }
+        Shape::Fits(Geometry { size, pages, width })
+    }
+
+    // The greatest number of data bytes in a packet.
+    pub fn data_capacity(self) -> usize
+        requires { ⌜ Valid self ⌝ }
+        ensures { λ r. ⌜ r ≡ dataCapacity self ⌝ }
+    {
+        self.size - (LENGTH_BYTES + CHECK_BYTES) - self.width
+    }
+
+    // Bytes of a directory entry: name, extension, start page, number of pages.
+    pub fn entry_size(self) -> usize
+        requires { ⌜ Valid self ⌝ }
+        ensures { λ r. ⌜ (r ≡ entrySize self) × (7 ≤ r) × (r ≤ 9) ⌝ }
+    {
+        NAME_BYTES + EXTENSION_BYTES + 2 * self.width
+    }
+
+    // Bytes of the control field of a directory's first page.
+    pub fn control_size(self) -> usize
+        requires { ⌜ Valid self ⌝ }
+        ensures { λ r. ⌜ (r ≡ controlSize self) × (7 ≤ r) × (r ≤ 8) ⌝ }
+    {
+        MARKER_BYTES + self.width + BITMAP_CONTROL_BYTES + BITMAP_FIELD_BYTES
+    }
+
+    // Entries that fit in a directory's first page.
+    pub fn first_entries(self) -> usize
+        requires { ⌜ Valid self ⌝ }
+        ensures { λ r. ⌜ r ≡ firstEntries self ⌝ }
+    {
+        (self.data_capacity() - self.control_size()) / self.entry_size()
+    }
+
+    // Entries that fit in a directory's continuation page.
+    pub fn later_entries(self) -> usize
+        requires { ⌜ Valid self ⌝ }
+        ensures { λ r. ⌜ r ≡ laterEntries self ⌝ }
+    {
+        self.data_capacity() / self.entry_size()
+    }
+
+    // Bytes of a bitmap file.
+    pub fn bitmap_size(self) -> usize
+        requires { ⌜ Valid self ⌝ }
+        ensures { λ r. ⌜ r ≡ bitmapSize self ⌝ }
+    {
+        (self.pages + 7) / 8
+    }
+}
+
+// A byte as a number.
+pub fn wide(byte: u8) -> usize
+    ensures { λ r. ⌜ (r ≡ byte) × (r < 256) ⌝ }
+{
+    byte as usize
+}
+
+// The number in a slice of at most four bytes, low byte first.
+pub fn read_number(bytes: &[u8]) -> usize
+    requires { ⌜ length (now bytes) ≤ 4 ⌝ }
+    ensures { λ r. ⌜ (r ≡ number (now (bytes .entry))) × (r < 256 ^ length (now (bytes .entry))) ⌝ }
+{
+    let mut value: usize = 0;
+    let mut left = bytes.len();
+    while 0 < left {
+        left -= 1;
+        value = wide(bytes[left]) + 256 * value;
+    }
+    value
+}
+
+// Fills a slice with a number, low byte first.
+pub fn write_number(bytes: &mut [u8], x: usize)
+    ensures { λ _. ⌜ now (bytes .exit) ≡ numberBytes (length (now (bytes .entry))) x ⌝ }
+{
+    let mut rest = x;
+    let mut i = 0;
+    while i < bytes.len() {
+        bytes[i] = (rest % 256) as u8;
+        rest = rest / 256;
+        i += 1;
+    }
+}
+
+// Copies bytes into a slice from a place on.
+pub fn put_bytes(target: &mut [u8], at: usize, bytes: &[u8])
+    requires { ⌜ at + length (now bytes) ≤ length (now target) ⌝ }
+    ensures { λ _. ⌜ now (target .exit) ≡ overwritten at (now (bytes .entry)) (now (target .entry)) ⌝ }
+{
+    let end = at + bytes.len();
+    bytes::copy(bytes, &mut target[at..end]);
+}
+
+// Writes a number of n bytes into a slice from a place on.
+pub fn put_number(target: &mut [u8], at: usize, n: usize, x: usize)
+    requires { ⌜ at + n ≤ length (now target) ⌝ }
+    ensures { λ _. ⌜ now (target .exit) ≡ overwritten at (numberBytes n x) (now (target .entry)) ⌝ }
+{
+    let end = at + n;
+    write_number(&mut target[at..end], x);
+}
+
+// A page of an image.
+pub fn page_of<'a>(image: &'a [u8], g: Geometry, page: usize) -> &'a [u8]
+    requires { ⌜ Fit g (now image) ⌝ }
+    requires { ⌜ page < g .pages ⌝ }
+    ensures { λ r. ⌜ now r ≡ pageOf g page (now (image .entry)) ⌝ }
+{
+    let at = page * g.size;
+    let end = at + g.size;
+    &image[at..end]
+}

@@ -1,0 +1,86 @@
+// Packets: a page judged, its data read, a packet written.
+use geometry::Geometry;
+ghost use mathlib.Core.Path.{_≡_};
+ghost use Prim.Native.Nat.{ℕ, _+_, _*_, _≤_, _<_};
+ghost use lib.ListN.{length, take, drop};
+ghost use Rattle.geometry.specs.Geometry.{Fit};
+ghost use Rattle.packet.specs.Packet.{packetOf, pointerOf, written, writePage, write};
+ghost use Rattle.packet.specs.Judged.{judged};
+
+// What a page holds.
+pub enum Judged {
+    // a right packet, with so many data bytes and that continuation pointer
+    Whole { length: usize, next: usize },
+    // length or check wrong
+    Bad,
+}
+
+// The continuation pointer of a packet of `size` bytes: its last n bytes.
+fn pointer(page: &[u8], size: usize, n: usize) -> usize
+    requires { ⌜ (n ≤ size) × (size < length (now page)) × (1 ≤ n) × (n ≤ 2) ⌝ }
+    ensures { λ r. ⌜ r ≡ pointerOf n size (now (page .entry)) ⌝ }
+{
+    let end = size + 1;
+    let start = end - n;
+    geometry::read_number(&page[start..end])
+}
+
+// Judges the packet in the page with number p.
+pub fn judge(page: &[u8], p: usize, n: usize) -> Judged
+    requires { ⌜ (1 ≤ n) × (n ≤ 2) × (p < 65536) × (0 < length (now page)) ⌝ }
+    ensures { λ r. ⌜ r ≡ judged (packetOf n p (now (page .entry))) ⌝ }
+{
+    let size = geometry::wide(page[0]);
+    if size < n {
+        return Judged::Bad;
+    }
+    if page.len() < size + 3 {
+        return Judged::Bad;
+    }
+    let end = size + 1;
+    let check = end + 2;
+    let sum = crc16::crc_of(p as u16, &page[..end]);
+    let stored = geometry::read_number(&page[end..check]);
+    if stored != 65535 - (sum as usize) {
+        return Judged::Bad;
+    }
+    Judged::Whole {
+        length: size - n,
+        next: pointer(page, size, n),
+    }
+}
+
+// The data bytes of a packet.
+pub fn data_of<'a>(page: &'a [u8], size: usize) -> &'a [u8]
+    requires { ⌜ size + 1 ≤ length (now page) ⌝ }
+    ensures { λ r. ⌜ now r ≡ take size (drop 1 (now (page .entry))) ⌝ }
+{
+    let end = size + 1;
+    &page[1..end]
+}
+
+// Writes a packet into the page with number p; the rest of the page stays.
+pub fn write_packet(page: &mut [u8], p: usize, n: usize, bytes: &[u8], next: usize)
+    requires { ⌜ (1 ≤ n) × (n ≤ 2) × (p < 65536) × (length (now bytes) + n + 3 ≤ length (now page)) × (length (now page) ≤ 256) ⌝ }
+    ensures { λ _. ⌜ now (page .exit) ≡ written n p (now (bytes .entry)) next (now (page .entry)) ⌝ }
+{
+    let size = bytes.len() + n;
+    let start = bytes.len() + 1;
+    let end = size + 1;
+    geometry::put_number(page, 0, 1, size);
+    geometry::put_bytes(page, 1, bytes);
+    geometry::put_number(page, start, n, next);
+    let sum = crc16::crc_of(p as u16, &page[..end]);
+    geometry::put_number(page, end, 2, 65535 - (sum as usize));
+}
+
+// The same in a page of an image.
+pub fn write_page(image: &mut [u8], g: Geometry, p: usize, bytes: &[u8], next: usize)
+    requires { ⌜ Fit g (now image) ⌝ }
+    requires { ⌜ (p < g .pages) × (length (now bytes) + g .width + 3 ≤ g .size) ⌝ }
+    ensures { λ _. ⌜ now (image .exit) ≡ writePage g (write p (now (bytes .entry)) next) (now (image .entry)) ⌝ }
+{
+    let at = p * g.size;
+    let end = at + g.size;
+    write_packet(&mut image[at..end], p, g.width, bytes, next);
+}
