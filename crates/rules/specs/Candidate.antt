@@ -1,0 +1,130 @@
+-- Document 01, "Words of demand 3", over byte images.
+use mathlib.Core.Path.{_≡_}
+use mathlib.Core.Bool.{Bool, true, false}
+use mathlib.Core.List.{List, [], _∷_, _++_}
+use Prim.Native.Nat.{ℕ, _≤_}
+use lib.Dec.{eqb}
+use lib.ListN.{length}
+use Rattle.geometry.specs.declared.Geometry.{Geometry}
+use Rattle.geometry.specs.declared.Shape.the-variants.{Fits}
+use Rattle.geometry.specs.Geometry.{geometryOf}
+use Rattle.geometry.specs.Number.{Bytes}
+use Rattle.packet.specs.Packet.{viewOf}
+use Rattle.rules.specs.Result.{Res, ok}
+use Rattle.rules.specs.PageSets.{count}
+use Rattle.rules.specs.Chain.{Link, pages, content}
+use Rattle.rules.specs.Names.{key, attribute, entryBytes}
+use Rattle.rules.specs.Tree.{Label, Items, fileEntry, directoryEntry, ownPages, Map, inRoot, inFile, Image, used}
+use Rattle.rules.specs.Control.{theRoot}
+use Rattle.rules.specs.Check.{check}
+use Rattle.rules.specs.Paths.{Path, pathOf, fileKey, directoryKey, Found, nothing, aFile, aDirectory, find, atRoot, Place, directoryAt}
+
+-- accepted: the order of the check meets no fault
+abbrev pub Accepted : Geometry → List ℕ → Image → Type 0
+Accepted g image i = check g (viewOf g image) ≡ ok i
+
+-- nothing but room could refuse a put: owner table long enough, path well formed, its directories there, the file absent or not read-only
+pub record OnlyRoom (P N : ℕ) (image table path : List ℕ) : Type 0 where
+  pub geometry : Geometry
+  pub right : geometryOf P N (length image) (length table) ≡ Fits geometry
+  pub tree : Image
+  pub accepted : Accepted geometry image tree
+  pub to : Path
+  pub formed : pathOf path ≡ ok to
+  pub place : Place
+  pub there : directoryAt (to .directories) atRoot theRoot (tree .tree) ≡ ok place
+  pub writable : (l : Label) (ls : List Link) → find (fileKey to) (place .items) ≡ aFile l ls → attribute (l .extension) ≡ 0
+
+-- files and directories of two images are matched by path: the keys that lead to them; no key leads to the root
+abbrev pub lookUp : List ℕ → Found → Found
+lookUp [] x = x
+lookUp (k ∷ ks) nothing = nothing
+lookUp (k ∷ ks) (aFile l ls) = nothing
+lookUp (k ∷ ks) (aDirectory l d) = lookUp ks (find k d)
+
+-- the root as what no key leads to; it has no entry
+abbrev pub rootLabel : Label
+rootLabel = record { name = 0; extension = 0 }
+
+unfoldable pub atPath : List ℕ → Image → Found
+atPath ks i = lookUp ks (aDirectory rootLabel (i .tree))
+
+-- the chain of a file or directory
+abbrev pub chainPages : Found → List ℕ
+chainPages nothing = []
+chainPages (aFile l ls) = pages ls
+chainPages (aDirectory l d) = ownPages d
+
+-- the bytes of its entry
+abbrev pub foundEntry : Geometry → Found → List ℕ
+foundEntry g nothing = []
+foundEntry g (aFile l ls) = entryBytes (g .width) (fileEntry l ls)
+foundEntry g (aDirectory l d) = entryBytes (g .width) (directoryEntry l d)
+
+-- there is a file or directory
+abbrev pub Exists : Found → Type 0
+Exists nothing = ⊥
+Exists (aFile l ls) = Unit {0}
+Exists (aDirectory l d) = Unit {0}
+
+-- has the pages it had: its chain has these and no others
+abbrev pub SamePages : List ℕ → List ℕ → Type 0
+SamePages old new = (x : ℕ) → count x new ≡ count x old
+
+-- at least these
+abbrev pub AtLeast : List ℕ → List ℕ → Type 0
+AtLeast old new = (x : ℕ) → 1 ≤ count x old → 1 ≤ count x new
+
+-- what it reads, for a file; bytes are compared as read
+abbrev pub reads : Found → List ℕ
+reads nothing = []
+reads (aFile l ls) = content ls
+reads (aDirectory l d) = []
+
+-- for the bitmap: it is local in both, or its file has the same pages
+abbrev pub SameMap : Map → Map → Type 0
+SameMap inRoot inRoot = Unit {0}
+SameMap inRoot (inFile ms) = ⊥
+SameMap (inFile ls) inRoot = ⊥
+SameMap (inFile ls) (inFile ms) = SamePages (pages ls) (pages ms)
+
+-- the target: the directory that the put's directory names lead to, the root if there are none; and the put's file
+abbrev pub targetPath : Path → List ℕ
+targetPath q = directoryKeys (q .directories)
+  where
+    directoryKeys : List ℕ → List ℕ
+    directoryKeys [] = []
+    directoryKeys (x ∷ xs) = directoryKey x ∷ directoryKeys xs
+
+abbrev pub filePath : Path → List ℕ
+filePath q = targetPath q ++ (fileKey q ∷ [])
+
+-- an entry is kept if it stands in the same directory with the same bytes, in any order
+abbrev pub Kept : Geometry → List ℕ → Image → Image → Type 0
+Kept g ks old new = foundEntry g (atPath ks new) ≡ foundEntry g (atPath ks old)
+
+-- a candidate for a put of bytes at the path q into an old image: a new one of the same P and N
+pub record Candidate (g : Geometry) (old : List ℕ) (q : Path) (bytes : List ℕ) (new : List ℕ) : Type 0 where
+  pub areBytes : Bytes new
+  pub sized : length new ≡ length old
+  pub before : Image
+  pub was : Accepted g old before
+  pub after : Image
+  pub accepted : Accepted g new after
+  -- the path's file reads the bytes
+  pub label : Label
+  pub links : List Link
+  pub file : atPath (filePath q) after ≡ aFile label links
+  pub asked : content links ≡ bytes
+  -- every other entry is kept: the entries are those with a path of at least one key
+  pub kept : (k : ℕ) (ks : List ℕ) → (k ∷ ks ≡ filePath q → ⊥) → Exists (atPath (k ∷ ks) before) → Kept g (k ∷ ks) before after
+  -- every file and directory of the old image but the put's file and the target has the pages it had
+  pub pages : (ks : List ℕ) → (ks ≡ filePath q → ⊥) → (ks ≡ targetPath q → ⊥) → Exists (atPath ks before) → SamePages (chainPages (atPath ks before)) (chainPages (atPath ks after))
+  pub target : AtLeast (chainPages (atPath (targetPath q) before)) (chainPages (atPath (targetPath q) after))
+  -- every other file reads the same bytes
+  pub same : (ks : List ℕ) → (ks ≡ filePath q → ⊥) → Exists (atPath ks before) → reads (atPath ks after) ≡ reads (atPath ks before)
+  pub map : SameMap (before .map) (after .map)
+
+-- the pages in use that an image has
+abbrev pub pagesInUse : Image → ℕ
+pagesInUse i = length (used i)

@@ -1,0 +1,119 @@
+-- Document 01, "Order of the check". The first fault met is the answer.
+use mathlib.Core.Bool.{Bool, true, false, not, _||_}
+use mathlib.Core.List.{List, [], _∷_, _++_}
+use Prim.Native.Nat.{ℕ, zero, suc, _+_, _*_, _/_, _%_}
+use lib.Dec.{leb, ltb, eqb}
+use lib.ListN.{length}
+use Rattle.geometry.specs.declared.Geometry.{Geometry}
+use Rattle.geometry.specs.Choose.{choose}
+use Rattle.geometry.specs.Geometry.{controlSize, bitmapSize}
+use Rattle.packet.specs.Packet.{View}
+use Rattle.rules.specs.declared.Entry.{Entry}
+use Rattle.rules.specs.Result.{Res, ok, err, andThen as _>>=_, andAfter as _>>_, refuse-unless}
+use Rattle.rules.specs.PageSets.{mem}
+use Rattle.rules.specs.Chain.{Link, pages, content, packetAt, Test, anyPage, walk}
+use Rattle.rules.specs.Names.{validName, fileNumber, directoryNumber, key}
+use Rattle.rules.specs.Tree.{labelOf, Items, end, page, file, dir, Token, newPage, entry, linkTokens, allPages, Map, inRoot, inFile, mapPages, Image, used}
+use Rattle.rules.specs.Control.{Above, theRoot, Head, headOf, mapStart, mapCount, rootPage, subPage}
+use Rattle.rules.specs.Bitmap.{lowestDifference}
+
+-- what stands under an entry
+pub data Part : Type 0 where
+  chain : List Link → Part
+  directory : Items → Part
+
+abbrev pub partPages : Part → List ℕ
+partPages (chain ls) = pages ls
+partPages (directory d) = allPages d
+
+abbrev pub add : Entry → Part → Items → Items
+add e (chain ls) t = file (labelOf e) ls t
+add e (directory d) t = dir (labelOf e) d t
+
+-- how a subdirectory is judged: the directory that holds its entry, the claimed pages, the page of the entry, the entry
+abbrev pub Judge : Type 0
+Judge = Above → List ℕ → ℕ → Entry → Res Items
+
+-- the bytes of the bitmap as they stand
+abbrev pub rawBits : Head → Map → List ℕ
+rawBits h inRoot = h .field
+rawBits h (inFile ls) = content ls
+
+-- the bitmap, lowest bit first (13)
+unfoldable pub judgeBits : List ℕ → List ℕ → Res (Unit {0})
+judgeBits raw inUse = let d = lowestDifference raw inUse 0 (8 * length raw) in refuse-unless (eqb d (8 * length raw)) 13 d
+
+-- the tree, the bitmap's place and its bytes as they stand
+pub record Scan : Type 0 where
+  pub image : Image
+  pub raw : List ℕ
+
+module _ (g : Geometry) (v : View) where
+  -- start page (6), then its chain and count (8)
+  unfoldable pub judgeFile : List ℕ → ℕ → Entry → Res Part
+  judgeFile claimed p e = do
+    refuse-unless (ltb 0 (e .start)) 6 p
+    ls ← walk (g .pages) v anyPage (suc (g .pages)) 0 claimed p (e .start)
+    refuse-unless (eqb (e .pages) (length ls)) 8 p
+    ok (chain ls)
+
+  -- an entry: first byte above 127 (10), name (9), extension number (10), twice (11), then its chain or its directory
+  unfoldable pub judgeEntry : Judge → Above → List ℕ → ℕ → List ℕ → Entry → Res Part
+  judgeEntry sub here claimed p seen e = do
+    refuse-unless (leb (e .name % 256) 127) 10 p
+    refuse-unless (validName (e .name)) 9 p
+    refuse-unless (fileNumber (e .extension) || directoryNumber (e .extension)) 10 p
+    refuse-unless (not (mem (key (e .name) (e .extension)) seen)) 11 p
+    choose (directoryNumber (e .extension)) (do
+      d ← sub here claimed p e
+      ok (directory d)) (judgeFile claimed p e)
+
+  -- a directory's entries in chain order
+  unfoldable pub judgeEntries : Judge → Above → List ℕ → ℕ → List ℕ → List Token → Res Items
+  judgeEntries sub here claimed p seen [] = ok end
+  judgeEntries sub here claimed p seen (newPage q ∷ ts) = do
+    t ← judgeEntries sub here claimed q seen ts
+    ok (page q t)
+  judgeEntries sub here claimed p seen (entry e ∷ ts) = do
+    x ← judgeEntry sub here claimed p seen e
+    t ← judgeEntries sub here (partPages x ++ claimed) p (key (e .name) (e .extension) ∷ seen) ts
+    ok (add e x t)
+
+  -- a directory: its whole chain first, then its entries
+  unfoldable pub judgeDirectory : Judge → Test → Above → List ℕ → ℕ → Res Items
+  judgeDirectory sub test here claimed p = do
+    ls ← walk (g .pages) v test (suc (g .pages)) 0 claimed p (here .start)
+    judgeEntries sub here (pages ls ++ claimed) (here .start) [] (linkTokens g (controlSize g) ls)
+
+  -- a subdirectory with so many levels left: at level nine (12), its count (8), its start page (6), then its directory to the end
+  unfoldable pub judgeSub : ℕ → Judge
+  judgeSub zero above claimed p e = err 12 p
+  judgeSub (suc levels) above claimed p e = do
+    refuse-unless (eqb (e .pages) 0) 8 p
+    refuse-unless (ltb 0 (e .start)) 6 p
+    judgeDirectory (judgeSub levels) (subPage g above) (record { name = e .name; start = e .start }) claimed p
+
+  -- the bitmap file's chain, its page count, then its bytes
+  unfoldable pub judgeMap : Head → Res Map
+  judgeMap h = choose (h .local) (ok inRoot) (do
+    refuse-unless (ltb 0 (mapStart (g .width) h)) 6 0
+    ls ← walk (g .pages) v anyPage (suc (g .pages)) 0 [] 0 (mapStart (g .width) h)
+    refuse-unless (eqb (mapCount (g .width) h) (length ls)) 8 0
+    refuse-unless (eqb (length (content ls)) (bitmapSize g)) 8 0
+    ok (inFile ls))
+
+  -- the first half of the check: all faults but 13
+  unfoldable pub scan : Res Scan
+  scan = do
+    x ← packetAt v 0
+    h ← headOf g (x .bytes)
+    m ← judgeMap h
+    t ← judgeDirectory (judgeSub 8) (rootPage g) theRoot (mapPages m) 0
+    ok (record { image = record { tree = t; map = m }; raw = rawBits h m })
+
+  -- accepted (a term of document 01): the order of the check meets no fault. Last the bitmap
+  unfoldable pub check : Res Image
+  check = do
+    s ← scan
+    judgeBits (s .raw) (used (s .image))
+    ok (s .image)

@@ -1,0 +1,40 @@
+-- Document 01, "Edits": delete.
+use mathlib.Core.List.{List, [], _∷_}
+use Prim.Native.Nat.{ℕ}
+use lib.Dec.{eqb}
+use Rattle.geometry.specs.declared.Geometry.{Geometry}
+use Rattle.geometry.specs.Choose.{choose}
+use Rattle.packet.specs.Packet.{viewOf}
+use Rattle.rules.specs.Result.{Res, ok, err, andThen as _>>=_, andAfter as _>>_}
+use Rattle.rules.specs.Tree.{keyOf, Items, end, page, file, dir, Image}
+use Rattle.rules.specs.Control.{theRoot}
+use Rattle.rules.specs.Check.{check}
+use Rattle.rules.specs.Paths.{Path, pathOf, fileKey, Found, nothing, aFile, aDirectory, find, atRoot, Place, directoryAt}
+use Rattle.rules.specs.Writes.{Edit}
+use Rattle.rules.specs.Put.{writable, plainEdit}
+
+-- the file's entry goes, later entries of its page move up, the directory keeps its pages
+abbrev pub remove : ℕ → Items → Items
+remove k end = end
+remove k (page p t) = page p (remove k t)
+remove k (file l ls t) = choose (eqb k (keyOf l)) t (file l ls (remove k t))
+remove k (dir l d t) = dir l d (remove k t)
+
+-- 15 for a file that is absent
+unfoldable pub present : Found → Res (Unit {0})
+present nothing = err 15 0
+present (aFile l ls) = ok tt
+present (aDirectory l d) = err 15 0
+
+unfoldable pub deleteEdit : Path → Place → Edit
+deleteEdit q place = record { site = place .site; before = place .items; after = remove (fileKey q) (place .items); chain = [] }
+
+-- the image after a delete
+unfoldable pub delete : Geometry → List ℕ → List ℕ → Res (List ℕ)
+delete g path image = do
+  i ← check g (viewOf g image)
+  q ← pathOf path
+  d ← directoryAt (q .directories) atRoot theRoot (i .tree)
+  present (find (fileKey q) (d .items))
+  writable (find (fileKey q) (d .items))
+  ok (plainEdit g (q .directories) (deleteEdit q d) i image)

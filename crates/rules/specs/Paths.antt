@@ -1,0 +1,88 @@
+-- Document 01, "Edits": paths, and what stands at one.
+use mathlib.Core.Bool.{Bool, true, false, _&&_}
+use mathlib.Core.List.{List, [], _∷_, _++_}
+use Prim.Native.Nat.{ℕ, zero, suc, _+_, _-_, _*_, _/_, _%_}
+use lib.Dec.{leb, eqb}
+use lib.ListN.{length, getD, take, drop}
+use Rattle.geometry.specs.Choose.{choose}
+use Rattle.geometry.specs.Number.{number}
+use Rattle.rules.specs.Result.{Res, ok, err, andThen as _>>=_, andAfter as _>>_, refuse-unless}
+use Rattle.rules.specs.Chain.{Link}
+use Rattle.rules.specs.Names.{validName, key}
+use Rattle.rules.specs.Tree.{Label, keyOf, Items, end, page, file, dir, startOf}
+use Rattle.rules.specs.Control.{Above}
+
+pub record Path : Type 0 where
+  pub directories : List ℕ
+  pub name : ℕ
+  pub extension : ℕ
+
+-- k four-byte names
+abbrev pub namesIn : ℕ → List ℕ → List ℕ
+namesIn zero b = []
+namesIn (suc k) b = number (take 4 b) ∷ namesIn k (drop 4 b)
+
+abbrev pub validNames : List ℕ → Bool
+validNames [] = true
+validNames (x ∷ xs) = validName x && validNames xs
+
+-- none to eight four-byte directory names, then a four-byte file name and one byte
+abbrev pub pathLength : ℕ → Bool
+pathLength n = eqb (n % 4) 1 && (leb 5 n && leb n 37)
+
+-- any other length, name or byte than 0 to 99 is 14
+unfoldable pub pathOf : List ℕ → Res Path
+pathOf b = do
+  refuse-unless (pathLength (length b)) 14 0
+  refuse-unless (validNames (namesIn (length b / 4) b)) 14 0
+  refuse-unless (leb (getD b (length b - 1) 0) 99) 14 0
+  ok (record { directories = namesIn (length b / 4 - 1) b; name = number (take 4 (drop (length b - 5) b)); extension = getD b (length b - 1) 0 })
+
+-- the keys of a directory's name and of the path's file
+abbrev pub directoryKey : ℕ → ℕ
+directoryKey name = key name 127
+
+abbrev pub fileKey : Path → ℕ
+fileKey q = key (q .name) (q .extension)
+
+-- what stands in a directory under a key
+pub data Found : Type 0 where
+  nothing : Found
+  aFile : Label → List Link → Found
+  aDirectory : Label → Items → Found
+
+abbrev pub find : ℕ → Items → Found
+find k end = nothing
+find k (page p t) = find k t
+find k (file l ls t) = choose (eqb k (keyOf l)) (aFile l ls) (find k t)
+find k (dir l d t) = choose (eqb k (keyOf l)) (aDirectory l d) (find k t)
+
+-- a directory's own place: the root, or a subdirectory of the directory above it
+pub data Site : Type 0 where
+  atRoot : Site
+  below : Above → Site
+
+pub record Place : Type 0 where
+  pub site : Site
+  pub items : Items
+
+-- the directory that the names lead to from the directory `here`, which stands at a site with the items t; 15 if one is missing
+unfoldable pub directoryAt : List ℕ → Site → Above → Items → Res Place
+directoryAt [] site here t = ok (record { site = site; items = t })
+directoryAt (x ∷ xs) site here t = into (find (directoryKey x) t) (λ d. directoryAt xs (below here) (record { name = x; start = startOf d }) d)
+  where
+    into : Found → (Items → Res Place) → Res Place
+    into nothing go = err 15 0
+    into (aFile l ls) go = err 15 0
+    into (aDirectory l d) go = go d
+
+-- a change of the directory that the names lead to
+abbrev pub changeIn : ℕ → (Items → Items) → Items → Items
+changeIn k f end = end
+changeIn k f (page p t) = page p (changeIn k f t)
+changeIn k f (file l ls t) = file l ls (changeIn k f t)
+changeIn k f (dir l d t) = choose (eqb k (keyOf l)) (dir l (f d) t) (dir l d (changeIn k f t))
+
+abbrev pub changeAt : List ℕ → (Items → Items) → Items → Items
+changeAt [] f t = f t
+changeAt (x ∷ xs) f t = changeIn (directoryKey x) (changeAt xs f) t

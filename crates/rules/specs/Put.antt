@@ -1,0 +1,86 @@
+-- Document 01, "Edits": put.
+use mathlib.Core.Bool.{Bool, true, false}
+use mathlib.Core.List.{List, [], _∷_, _++_}
+use Prim.Native.Nat.{ℕ, zero, suc, _+_, _-_}
+use lib.Dec.{leb, ltb, eqb}
+use lib.ListN.{length, take, drop, getD}
+use Rattle.geometry.specs.declared.Geometry.{Geometry}
+use Rattle.geometry.specs.Choose.{choose}
+use Rattle.geometry.specs.Geometry.{dataCapacity, firstEntries, laterEntries}
+use Rattle.packet.specs.Packet.{viewOf, play}
+use Rattle.rules.specs.Result.{Res, ok, err, andThen as _>>=_, andAfter as _>>_, refuse-unless}
+use Rattle.rules.specs.PageSets.{bit, mem, freePages}
+use Rattle.rules.specs.Chain.{Link, spread, pagesFor}
+use Rattle.rules.specs.Tree.{Label, keyOf, Items, end, page, file, dir, allPages, keys, mapPages, Image, used}
+use Rattle.rules.specs.Names.{attribute}
+use Rattle.rules.specs.Control.{theRoot}
+use Rattle.rules.specs.Bitmap.{bitmapOf}
+use Rattle.rules.specs.Check.{check}
+use Rattle.rules.specs.Paths.{Path, pathOf, fileKey, Found, nothing, aFile, aDirectory, find, atRoot, Place, directoryAt, changeAt}
+use Rattle.rules.specs.Writes.{Edit, edited, editWrites}
+
+-- a new entry, put in front by `new`, goes to the end of the first directory page with space, in chain order: `room` entries are free on this page,
+-- `next` on the next one, `later` on each further one; if there is none, page q joins the directory's end
+abbrev pub insert : (Items → Items) → ℕ → ℕ → ℕ → ℕ → Items → Items
+insert new later q next zero end = page q (new end)
+insert new later q next (suc r) end = new end
+insert new later q next zero (page p t) = page p (insert new later q later next t)
+insert new later q next (suc r) (page p t) = new (page p t)
+insert new later q next r (file l ls t) = file l ls (insert new later q next (r - 1) t)
+insert new later q next r (dir l d t) = dir l d (insert new later q next (r - 1) t)
+
+-- whether no page has space
+abbrev pub isFull : ℕ → ℕ → ℕ → Items → Bool
+isFull later next zero end = true
+isFull later next (suc r) end = false
+isFull later next zero (page p t) = isFull later later next t
+isFull later next (suc r) (page p t) = false
+isFull later next r (file l ls t) = isFull later next (r - 1) t
+isFull later next r (dir l d t) = isFull later next (r - 1) t
+
+-- a replaced file: its entry stays in place
+abbrev pub replace : ℕ → List Link → Items → Items
+replace k new end = end
+replace k new (page p t) = page p (replace k new t)
+replace k new (file l ls t) = choose (eqb k (keyOf l)) (file l new t) (file l ls (replace k new t))
+replace k new (dir l d t) = dir l d (replace k new t)
+
+-- 16: the top bit makes a file read-only
+unfoldable pub writable : Found → Res (Unit {0})
+writable nothing = ok tt
+writable (aFile l ls) = refuse-unless (eqb (attribute (l .extension)) 0) 16 0
+writable (aDirectory l d) = ok tt
+
+-- the pages in use but for the replaced chain, which counts as free
+unfoldable pub keptPages : Path → Image → List ℕ
+keptPages q i = allPages (changeAt (q .directories) (replace (fileKey q) []) (i .tree)) ++ mapPages (i .map)
+
+-- the edit of a put over the free pages, rising; 17 if they are too few. If the directory needs a page, the lowest free one is its; the file then takes the next
+unfoldable pub putEdit : Geometry → List ℕ → Path → List ℕ → Place → Res Edit
+putEdit g free q bytes place =
+    let there = mem (fileKey q) (keys (place .items)) in
+    let extra = choose there 0 (bit (isFull (laterEntries g) (firstEntries g) 0 (place .items))) in
+    let wanted = pagesFor (dataCapacity g) (length bytes) in
+    let chain = spread (dataCapacity g) (take wanted (drop extra free)) bytes in
+    let new = file (record { name = q .name; extension = q .extension }) chain in do
+      refuse-unless (leb (extra + wanted) (length free)) 17 0
+      ok (record {
+        site = place .site;
+        before = place .items;
+        after = choose there (replace (fileKey q) chain (place .items)) (insert new (laterEntries g) (getD free 0 0) (firstEntries g) 0 (place .items));
+        chain = chain;
+      })
+
+-- the image after an edit that marks nothing beforehand
+unfoldable pub plainEdit : Geometry → List ℕ → Edit → Image → List ℕ → List ℕ
+plainEdit g names e i image = play g (editWrites g (bitmapOf g (used i) (i .map)) e i (edited g names e i)) image
+
+-- the image after a put
+unfoldable pub put : Geometry → List ℕ → List ℕ → List ℕ → Res (List ℕ)
+put g path bytes image = do
+  i ← check g (viewOf g image)
+  q ← pathOf path
+  d ← directoryAt (q .directories) atRoot theRoot (i .tree)
+  writable (find (fileKey q) (d .items))
+  e ← putEdit g (freePages (keptPages q i) (g .pages)) q bytes d
+  ok (plainEdit g (q .directories) e i image)
