@@ -18,7 +18,7 @@ use Rattle.rules.specs.Names.{nameByte, validName, fileNumber, directoryNumber}
 use Rattle.rules.specs.Tree.{Image}
 use Rattle.rules.specs.Control.{marker, rootControl, subControl, headOf, wholeEntries, rootPage, subPage}
 use Rattle.rules.specs.Bitmap.{bitAt, lowestDifference, bitmapFrom}
-use Rattle.rules.specs.Check.{judgeBits, judgeFile, judgeEntry, judgeEntries, judgeDirectory, judgeSub, judgeMap, scan, check}
+use Rattle.rules.specs.Check.{judgeBits, judgeLabel, judgeFile, judgeEntry, judgeEntries, judgeDirectory, judgeSub, judgeMap, scan, check}
 use Rattle.rules.specs.Owners.{totals}
 use Rattle.rules.specs.Listing.{linesOf, lineAt}
 use Rattle.rules.specs.Paths.{pathOf, directoryAt}
@@ -124,5 +124,5 @@ cases =
     ∷ []
 
 pub all-as-printed : map (λ (c : Case). c .given) cases ≡ map (λ (c : Case). c .printed) cases
-unfolding cases formatted withDemo without usedIn entryPages fileOf threeFiles fourFiles flipBit bitStep bitSteps byteStep crc16 choose widthFor right geometryOf dataCapacity entrySize controlSize firstEntries laterEntries bitmapSize pageOf withPage checkOf pointerOf isPacket packetOf viewOf packetBytes written writePage play andThen refuse-unless hit freePages packetAt anyPage walk nameByte validName fileNumber directoryNumber marker rootControl subControl headOf wholeEntries rootPage subPage bitAt lowestDifference bitmapFrom judgeBits judgeFile judgeEntry judgeEntries judgeDirectory judgeSub judgeMap scan check lineAt pathOf directoryAt edited editWrites emptyImage formatWrites format writable keptPages putEdit plainEdit put present deleteEdit delete
+unfolding cases formatted withDemo without usedIn entryPages fileOf threeFiles fourFiles flipBit bitStep bitSteps byteStep crc16 choose widthFor right geometryOf dataCapacity entrySize controlSize firstEntries laterEntries bitmapSize pageOf withPage checkOf pointerOf isPacket packetOf viewOf packetBytes written writePage play andThen refuse-unless hit freePages packetAt anyPage walk nameByte validName fileNumber directoryNumber marker rootControl subControl headOf wholeEntries rootPage subPage bitAt lowestDifference bitmapFrom judgeBits judgeLabel judgeFile judgeEntry judgeEntries judgeDirectory judgeSub judgeMap scan check lineAt pathOf directoryAt edited editWrites emptyImage formatWrites format writable keptPages putEdit plainEdit put present deleteEdit delete
 all-as-printed = refl

@@ -1,14 +1,21 @@
 -- A part that was lent and filled, said of the whole.
 use mathlib.Core.Path.{_≡_, refl, ap, sym, _∙_}
 use mathlib.Core.List.{List, [], _∷_, _++_, append-nil}
-use Prim.Native.Nat.{ℕ, _+_, _-_, _≤_}
+use Prim.Native.Nat.{ℕ, _+_, _-_, _^_, _≤_, _<_}
 use native.Mathlib.Nat.{add-sub-cancel-left}
 use native.Mathlib.Omega.{arith}
 use lib.ListN.{length, take, drop, length-take, length-drop, drop-of-length-le}
 use lib.Seq.{take-length, length-take-le}
-use Rattle.geometry.specs.Number.{numberBytes}
+use Rattle.geometry.specs.Number.{number, numberBytes}
 use Rattle.geometry.specs.NumberLaws.{length-number}
 use Rattle.geometry.specs.Page.{overwritten}
+
+-- a number read from a part
+pub number-read : (at n x : ℕ) (b : List ℕ) → at + n ≤ length b → x ≡ number (take (at + n - at) (drop at b)) → x < 256 ^ length (take (at + n - at) (drop at b))
+    → (x ≡ number (take n (drop at b))) × (x < 256 ^ n)
+number-read at n x b h e k =
+    let s : length (take n (drop at b)) ≡ n = length-take-le n (drop at b) (simp length-drop (omega arith)) in
+    (e ∙ rw (add-sub-cancel-left at n), rw (add-sub-cancel-left at n, s) at k)
 
 module _ (at k : ℕ) (b last : List ℕ) where
   filled : (xs : List ℕ) → length xs ≡ k → last ≡ xs → take at b ++ (last ++ drop (at + k - at) (drop at b)) ≡ overwritten at xs b

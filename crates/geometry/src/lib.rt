@@ -141,7 +141,7 @@ pub fn wide(byte: u8) -> usize
 }
 
 // The number in a slice of at most four bytes, low byte first.
-pub fn read_number(bytes: &[u8]) -> usize
+fn read_number(bytes: &[u8]) -> usize
     requires { ⌜ length (now bytes) ≤ 4 ⌝ }
     ensures { λ r. ⌜ (r ≡ number (now (bytes .entry))) × (r < 256 ^ length (now (bytes .entry))) ⌝ }
 {
@@ -154,8 +154,17 @@ pub fn read_number(bytes: &[u8]) -> usize
     value
 }
 
+// The number of n bytes from a place of a slice on.
+pub fn number_at(bytes: &[u8], at: usize, n: usize) -> usize
+    requires { ⌜ (n ≤ 4) × (at + n ≤ length (now bytes)) ⌝ }
+    ensures { λ r. ⌜ (r ≡ number (take n (drop at (now (bytes .entry))))) × (r < 256 ^ n) ⌝ }
+{
+    let end = at + n;
+    read_number(&bytes[at..end])
+}
+
 // Fills a slice with a number, low byte first.
-pub fn write_number(bytes: &mut [u8], x: usize)
+fn write_number(bytes: &mut [u8], x: usize)
     ensures { λ _. ⌜ now (bytes .exit) ≡ numberBytes (length (now (bytes .entry))) x ⌝ }
 {
     let mut rest = x;

@@ -2,7 +2,6 @@
 use mathlib.Core.Path.{_≡_, refl, ap, ap₂, sym, _∙_}
 use mathlib.Core.List.{List}
 use Prim.Native.Nat.{ℕ, _+_, _-_, _<_, _≤_}
-use native.Mathlib.Nat.{add-sub-cancel-left}
 use native.Mathlib.Omega.{arith}
 use lib.ListN.{length, getD, take, drop, length-drop}
 use lib.Seq.{length-take-le}
@@ -24,16 +23,13 @@ module _ (n p len : ℕ) (b : List ℕ) (e : len ≡ getD b 0 0) where
   unfolding packetOf isPacket
   too-long h k = simp (packetOf, isPacket, ← e, le-leb n len h, lt-leb (len + 3) (length b) k, choose-false)
 
-  module _ (w x : ℕ) (h : n ≤ len) (k : len + 3 ≤ length b) (s′ : w ≡ number (take (len + 1 + 2 - (len + 1)) (drop (len + 1) b))) (d : x ≡ crc16 p (take (len + 1) b)) where
-    s : w ≡ number (take 2 (drop (len + 1) b))
-    s = s′ ∙ simp add-sub-cancel-left
-
+  module _ (w x : ℕ) (h : n ≤ len) (k : len + 3 ≤ length b) (s : w ≡ number (take 2 (drop (len + 1) b))) (d : x ≡ crc16 p (take (len + 1) b)) where
     pub wrong-check : (w ≡ 65535 - x → ⊥) → Bad ≡ judged (packetOf n p b)
     unfolding packetOf isPacket checkOf
     wrong-check t = simp (packetOf, isPacket, checkOf, ← e, le-leb n len h, le-leb (len + 3) (length b) k, ← s, ← d, ne-eqb w (65535 - x) t, choose-false)
 
-    pub right-check : (next : ℕ) → w ≡ 65535 - x → next ≡ pointerOf n len b → Whole (len - n) next ≡ judged (packetOf n p b)
-    unfolding packetOf isPacket checkOf
+    pub right-check : (next : ℕ) → w ≡ 65535 - x → next ≡ number (take n (drop (len + 1 - n) b)) → Whole (len - n) next ≡ judged (packetOf n p b)
+    unfolding packetOf isPacket checkOf pointerOf
     right-check next t q =
         let l : length (take (len - n) (drop 1 b)) ≡ len - n = length-take-le (len - n) (drop 1 b) (simp length-drop (omega arith)) in
-        simp (packetOf, isPacket, checkOf, ← e, le-leb n len h, le-leb (len + 3) (length b) k, ← s, ← d, eq-eqb w (65535 - x) t, choose-true, ← q) (ap (λ (y : ℕ). Whole y next) (sym l))
+        simp (packetOf, isPacket, checkOf, ← e, le-leb n len h, le-leb (len + 3) (length b) k, ← s, ← d, eq-eqb w (65535 - x) t, choose-true, pointerOf, ← q) (ap (λ (y : ℕ). Whole y next) (sym l))

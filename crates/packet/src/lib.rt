@@ -4,7 +4,7 @@ ghost use mathlib.Core.Path.{_≡_};
 ghost use Prim.Native.Nat.{ℕ, _+_, _*_, _≤_, _<_};
 ghost use lib.ListN.{length, take, drop};
 ghost use Rattle.geometry.specs.Geometry.{Fit};
-ghost use Rattle.packet.specs.Packet.{packetOf, pointerOf, written, writePage, write};
+ghost use Rattle.packet.specs.Packet.{packetOf, written, writePage, write};
 ghost use Rattle.packet.specs.Judged.{judged};
 
 // What a page holds.
@@ -13,16 +13,6 @@ pub enum Judged {
     Whole { length: usize, next: usize },
     // length or check wrong
     Bad,
-}
-
-// The continuation pointer of a packet of `size` bytes: its last n bytes.
-fn pointer(page: &[u8], size: usize, n: usize) -> usize
-    requires { ⌜ (n ≤ size) × (size < length (now page)) × (1 ≤ n) × (n ≤ 2) ⌝ }
-    ensures { λ r. ⌜ r ≡ pointerOf n size (now (page .entry)) ⌝ }
-{
-    let end = size + 1;
-    let start = end - n;
-    geometry::read_number(&page[start..end])
 }
 
 // Judges the packet in the page with number p.
@@ -38,15 +28,14 @@ pub fn judge(page: &[u8], p: usize, n: usize) -> Judged
         return Judged::Bad;
     }
     let end = size + 1;
-    let check = end + 2;
     let sum = crc16::crc_of(p as u16, &page[..end]);
-    let stored = geometry::read_number(&page[end..check]);
+    let stored = geometry::number_at(page, end, 2);
     if stored != 65535 - (sum as usize) {
         return Judged::Bad;
     }
     Judged::Whole {
         length: size - n,
-        next: pointer(page, size, n),
+        next: geometry::number_at(page, end - n, n),
     }
 }
 

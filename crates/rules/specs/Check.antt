@@ -43,6 +43,13 @@ rawBits h (inFile ls) = content ls
 unfoldable pub judgeBits : List ℕ → List ℕ → Res (Unit {0})
 judgeBits raw inUse = let d = lowestDifference raw inUse 0 (8 * length raw) in refuse-unless (eqb d (8 * length raw)) 13 d
 
+-- an entry's first byte above 127 (10), name (9), extension number (10)
+unfoldable pub judgeLabel : ℕ → Entry → Res (Unit {0})
+judgeLabel p e = do
+  refuse-unless (leb (e .name % 256) 127) 10 p
+  refuse-unless (validName (e .name)) 9 p
+  refuse-unless (fileNumber (e .extension) || directoryNumber (e .extension)) 10 p
+
 -- the tree, the bitmap's place and its bytes as they stand
 pub record Scan : Type 0 where
   pub image : Image
@@ -57,12 +64,10 @@ module _ (g : Geometry) (v : View) where
     refuse-unless (eqb (e .pages) (length ls)) 8 p
     ok (chain ls)
 
-  -- an entry: first byte above 127 (10), name (9), extension number (10), twice (11), then its chain or its directory
+  -- an entry: its name and extension, twice (11), then its chain or its directory
   unfoldable pub judgeEntry : Judge → Above → List ℕ → ℕ → List ℕ → Entry → Res Part
   judgeEntry sub here claimed p seen e = do
-    refuse-unless (leb (e .name % 256) 127) 10 p
-    refuse-unless (validName (e .name)) 9 p
-    refuse-unless (fileNumber (e .extension) || directoryNumber (e .extension)) 10 p
+    judgeLabel p e
     refuse-unless (not (mem (key (e .name) (e .extension)) seen)) 11 p
     choose (directoryNumber (e .extension)) (do
       d ← sub here claimed p e

@@ -17,13 +17,6 @@ use Rattle.rules.specs.Tree.{Map, inRoot, inFile}
 unfoldable pub marker : ℕ → ℕ
 marker n = 0xA9 + n
 
--- two lists are equal
-abbrev pub sameList : List ℕ → List ℕ → Bool
-sameList [] [] = true
-sameList [] (y ∷ ys) = false
-sameList (x ∷ xs) [] = false
-sameList (x ∷ xs) (y ∷ ys) = eqb x y && sameList xs ys
-
 -- a bitmap file's place in four bytes: n = 1: 0, 0, start, pages; n = 2: start, pages
 abbrev pub placeBytes : ℕ → ℕ → ℕ → List ℕ
 placeBytes n start count = replicate (4 - 2 * n) 0 ++ (numberBytes n start ++ numberBytes n count)
@@ -60,10 +53,10 @@ pub record Head : Type 0 where
 
 -- where bitmap control and the four bytes stand
 abbrev pub controlAt : ℕ → List ℕ → ℕ
-controlAt n b = getD b (1 + n) 0
+controlAt n b = getD b (n + 1) 0
 
 abbrev pub fieldAt : ℕ → List ℕ → List ℕ
-fieldAt n b = take 4 (drop (2 + n) b)
+fieldAt n b = take 4 (drop (n + 2) b)
 
 -- a local bitmap is allowed only for N below 32
 abbrev pub localAllowed : Geometry → Bool
@@ -71,7 +64,7 @@ localAllowed g = ltb (g .pages) 32
 
 -- a bitmap file's place begins with zeros for n = 1
 abbrev pub placeZeros : ℕ → List ℕ → Bool
-placeZeros n field = sameList (take (4 - 2 * n) field) (replicate (4 - 2 * n) 0)
+placeZeros n field = eqb (number (take (4 - 2 * n) field)) 0
 
 -- in the order of the check: too short (4), marker (3), in progress (5), the rest (4): map address, bits 1 to 6, the four bytes
 unfoldable pub headOf : Geometry → List ℕ → Res Head
@@ -100,11 +93,15 @@ unfoldable pub rootPage : Geometry → Test
 rootPage g zero p b = wholeEntries g p (drop (controlSize g) b)
 rootPage g (suc i) p b = wholeEntries g p b
 
+-- a subdirectory's control field after the marker: name and start page of the directory above, a zero byte between
+abbrev pub backReference : ℕ → Above → List ℕ → Bool
+backReference n up b = eqb (number (take 4 (drop 1 b))) (up .name) && (eqb (getD b 5 0) 0 && eqb (number (take n (drop 6 b))) (up .start))
+
 -- the pages of a subdirectory: on its first page too short (4), marker (3), rest (4)
 unfoldable pub subPage : Geometry → Above → Test
 subPage g up zero p b = do
   refuse-unless (leb (controlSize g) (length b)) 4 p
   refuse-unless (eqb (getD b 0 0) (marker (g .width))) 3 p
-  refuse-unless (sameList (take (controlSize g) b) (subControl (g .width) up)) 4 p
+  refuse-unless (backReference (g .width) up b) 4 p
   wholeEntries g p (drop (controlSize g) b)
 subPage g up (suc i) p b = wholeEntries g p b

@@ -1,5 +1,5 @@
 -- The ordered page writes of an edit.
-use mathlib.Core.Bool.{Bool, _&&_}
+use mathlib.Core.Bool.{Bool, true, false, _&&_}
 use mathlib.Core.List.{List, [], _∷_, _++_}
 use Prim.Native.Nat.{ℕ}
 use lib.Dec.{eqb}
@@ -9,9 +9,16 @@ use Rattle.geometry.specs.Choose.{choose}
 use Rattle.packet.specs.Packet.{Write, write}
 use Rattle.rules.specs.Chain.{Link, linked}
 use Rattle.rules.specs.Tree.{Items, directoryLinks, allPages, Map, inRoot, inFile, mapPages, Image, used}
-use Rattle.rules.specs.Control.{sameList, rootControl, subControl}
+use Rattle.rules.specs.Control.{rootControl, subControl}
 use Rattle.rules.specs.Bitmap.{bitmapOf, refill, remap}
 use Rattle.rules.specs.Paths.{Site, atRoot, below, changeAt}
+
+-- two lists are equal
+abbrev pub sameList : List ℕ → List ℕ → Bool
+sameList [] [] = true
+sameList [] (y ∷ ys) = false
+sameList (x ∷ xs) [] = false
+sameList (x ∷ xs) (y ∷ ys) = eqb x y && sameList xs ys
 
 abbrev pub sameWrite : Write → Write → Bool
 sameWrite (write p b n) (write q c m) = eqb p q && (sameList b c && eqb n m)

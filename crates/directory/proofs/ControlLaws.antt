@@ -1,0 +1,161 @@
+-- Control fields as the code reads them.
+use mathlib.Core.Path.{_≡_, refl, sym, ap, ap₂, _∙_}
+use mathlib.Core.Bool.{Bool, true, false}
+use mathlib.Core.List.{List, [], _∷_}
+use Prim.Native.Nat.{ℕ, zero, suc, _+_, _-_, _*_, _%_, _≤_, _<_}
+use native.Mathlib.Omega.{arith}
+use lib.Dec.{leb, eqb}
+use lib.ListN.{length, getD, take, drop, length-drop, drop-of-length-le}
+use lib.Seq.{take-nil, take-take, drop-drop}
+use borrow.Author.Tests.{le-leb, lt-leb, lt-ltb, le-ltb, eq-eqb, ne-eqb}
+use Rattle.geometry.specs.declared.Geometry.{Geometry}
+use Rattle.geometry.specs.Choose.{choose}
+use Rattle.geometry.specs.ChooseLaws.{choose-true, choose-false}
+use Rattle.geometry.specs.Geometry.{controlSize}
+use Rattle.geometry.specs.Number.{number}
+use Rattle.rules.specs.Result.{Res, ok, err, andThen, refuse-unless}
+use Rattle.rules.specs.Chain.{anyPage}
+use Rattle.rules.specs.Control.{marker, Above, controlAt, fieldAt, localAllowed, placeZeros, headOf, mapStart, mapCount, wholeEntries, rootPage, backReference, subPage}
+use Rattle.directory.specs.declared.control.Root.{Root}
+use Rattle.directory.specs.declared.control.Root.the-variants.{Local, Remote, Refused}
+use Rattle.directory.specs.declared.control.Kind.{Kind}
+use Rattle.directory.specs.declared.control.Kind.the-variants as kind
+use Rattle.directory.specs.Faults.{faultAt, place, control, testOf, WholeFault, PageFault, SubFault}
+
+drop-take : (k m : ℕ) (l : List ℕ) → drop k (take (k + m) l) ≡ take m (drop k l)
+drop-take zero m l = let e : 0 + m ≡ m = omega arith in rw e
+drop-take (suc k) m [] = ap (drop (suc k)) (take-nil (suc k + m)) ∙ sym (take-nil m)
+drop-take (suc k) m (x ∷ l) = let e : suc k + m ≡ suc (k + m) = omega arith in rw e (drop-take k m l)
+
+-- a part of the four bitmap bytes, read from the page
+pub in-field : (n k j : ℕ) (b : List ℕ) → k + j ≤ 4 → take j (drop k (fieldAt n b)) ≡ take j (drop (n + 2 + k) b)
+in-field n k j b h =
+    let e : 4 ≡ k + (4 - k) = omega arith in
+    ap (λ (m : ℕ). take j (drop k (take m (drop (n + 2) b)))) e
+    ∙ ap (take j) (drop-take k (4 - k) (drop (n + 2) b))
+    ∙ take-take j (4 - k) (drop k (drop (n + 2) b)) (omega arith)
+    ∙ ap (take j) (drop-drop k (n + 2) b)
+
+-- the bitmap file's place
+module _ (n : ℕ) (b : List ℕ) (h : 1 ≤ n) (k : n ≤ 2) (x : ℕ) (e : x ≡ number (take (4 - 2 * n) (drop (n + 2) b))) where
+  zeros : number (take (4 - 2 * n) (fieldAt n b)) ≡ x
+  zeros = ap number (take-take (4 - 2 * n) 4 (drop (n + 2) b) (omega arith)) ∙ sym e
+
+  pub no-place : (x ≡ 0 → ⊥) → Refused 4 ≡ place n (fieldAt n b)
+  unfolding place
+  no-place z = simp (place, zeros, ne-eqb x 0 z, choose-false)
+
+  pub a-place : x ≡ 0 → (s c : ℕ) → s ≡ number (take n (drop (6 - n) b)) → c ≡ number (take n (drop 6 b)) → Remote s c ≡ place n (fieldAt n b)
+  unfolding place
+  a-place z s c p q =
+      let i : n + 2 + (4 - 2 * n) ≡ 6 - n = omega arith in
+      let j : n + 2 + (4 - n) ≡ 6 = omega arith in
+      let u : number (take n (drop (4 - 2 * n) (fieldAt n b))) ≡ s = ap number (in-field n (4 - 2 * n) n b (omega arith) ∙ ap (λ (m : ℕ). take n (drop m b)) i) ∙ sym p in
+      let v : number (take n (drop (4 - n) (fieldAt n b))) ≡ c = ap number (in-field n (4 - n) n b (omega arith) ∙ ap (λ (m : ℕ). take n (drop m b)) j) ∙ sym q in
+      simp (place, zeros, eq-eqb x 0 z, choose-true, u, v)
+
+-- the root's control field, test after test
+module _ (g : Geometry) (b : List ℕ) (k : ℕ) (q : k ≡ controlSize g) where
+  pub root-short : length b < k → Refused 4 ≡ control (g .width) (headOf g b)
+  unfolding headOf andThen refuse-unless
+  root-short h = simp (headOf, ← q, lt-leb k (length b) h)
+
+  module _ (h : k ≤ length b) (m : ℕ) (e : m ≡ getD b 0 0) where
+    pub root-marker : (m ≡ 169 + g .width → ⊥) → Refused 3 ≡ control (g .width) (headOf g b)
+    unfolding headOf andThen refuse-unless marker
+    root-marker z = simp (headOf, ← q, le-leb k (length b) h, ← e, marker, ne-eqb m (169 + g .width) z)
+
+    module _ (z : m ≡ 169 + g .width) where
+      pub root-progress : (controlAt (g .width) b % 2 ≡ 0 → ⊥) → Refused 5 ≡ control (g .width) (headOf g b)
+      unfolding headOf andThen refuse-unless marker
+      root-progress y = simp (headOf, ← q, le-leb k (length b) h, ← e, marker, eq-eqb m (169 + g .width) z, ne-eqb (controlAt (g .width) b % 2) 0 y)
+
+      module _ (y : controlAt (g .width) b % 2 ≡ 0) (a : ℕ) (d : a ≡ number (take (g .width) (drop 1 b))) where
+        pub root-address : (a ≡ 0 → ⊥) → Refused 4 ≡ control (g .width) (headOf g b)
+        unfolding headOf andThen refuse-unless marker
+        root-address w = simp (headOf, ← q, le-leb k (length b) h, ← e, marker, eq-eqb m (169 + g .width) z, eq-eqb (controlAt (g .width) b % 2) 0 y, ← d, ne-eqb a 0 w)
+
+        module _ (w : a ≡ 0) where
+          pub root-bits : (controlAt (g .width) b % 128 ≡ 0 → ⊥) → Refused 4 ≡ control (g .width) (headOf g b)
+          unfolding headOf andThen refuse-unless marker
+          root-bits v = simp (headOf, ← q, le-leb k (length b) h, ← e, marker, eq-eqb m (169 + g .width) z, eq-eqb (controlAt (g .width) b % 2) 0 y, ← d, eq-eqb a 0 w, ne-eqb (controlAt (g .width) b % 128) 0 v)
+
+          module _ (v : controlAt (g .width) b % 128 ≡ 0) where
+            remote : controlAt (g .width) b < 128 → (t : Bool) → placeZeros (g .width) (fieldAt (g .width) b) ≡ t → place (g .width) (fieldAt (g .width) b) ≡ control (g .width) (headOf g b)
+            unfolding headOf andThen refuse-unless marker place
+            remote u true s = simp (place, headOf, ← q, le-leb k (length b) h, ← e, marker, eq-eqb m (169 + g .width) z, eq-eqb (controlAt (g .width) b % 2) 0 y, ← d, eq-eqb a 0 w, eq-eqb (controlAt (g .width) b % 128) 0 v, lt-leb 128 (controlAt (g .width) b) u, choose-false, s, choose-true)
+            remote u false s = simp (place, headOf, ← q, le-leb k (length b) h, ← e, marker, eq-eqb m (169 + g .width) z, eq-eqb (controlAt (g .width) b % 2) 0 y, ← d, eq-eqb a 0 w, eq-eqb (controlAt (g .width) b % 128) 0 v, lt-leb 128 (controlAt (g .width) b) u, choose-false, s)
+
+            pub root-remote : controlAt (g .width) b < 128 → (r : Root) → r ≡ place (g .width) (fieldAt (g .width) b) → r ≡ control (g .width) (headOf g b)
+            root-remote u r f = f ∙ remote u (placeZeros (g .width) (fieldAt (g .width) b)) refl
+
+            pub root-local : 128 ≤ controlAt (g .width) b → g .pages < 32 → Local ≡ control (g .width) (headOf g b)
+            unfolding headOf andThen refuse-unless marker
+            root-local u l = simp (headOf, ← q, le-leb k (length b) h, ← e, marker, eq-eqb m (169 + g .width) z, eq-eqb (controlAt (g .width) b % 2) 0 y, ← d, eq-eqb a 0 w, eq-eqb (controlAt (g .width) b % 128) 0 v, le-leb 128 (controlAt (g .width) b) u, choose-true, lt-ltb (g .pages) 32 l)
+
+            pub root-large : 128 ≤ controlAt (g .width) b → 32 ≤ g .pages → Refused 4 ≡ control (g .width) (headOf g b)
+            unfolding headOf andThen refuse-unless marker
+            root-large u l = simp (headOf, ← q, le-leb k (length b) h, ← e, marker, eq-eqb m (169 + g .width) z, eq-eqb (controlAt (g .width) b % 2) 0 y, ← d, eq-eqb a 0 w, eq-eqb (controlAt (g .width) b % 128) 0 v, le-leb 128 (controlAt (g .width) b) u, choose-true, le-ltb (g .pages) 32 l)
+
+-- a subdirectory's first page, test after test
+module _ (g : Geometry) (up : Above) (b : List ℕ) (k : ℕ) (q : k ≡ controlSize g) where
+  pub sub-short : length b < k → SubFault g up b 4
+  unfolding subPage andThen refuse-unless faultAt
+  sub-short h p = simp (subPage, ← q, lt-leb k (length b) h)
+
+  module _ (h : k ≤ length b) (m : ℕ) (e : m ≡ getD b 0 0) where
+    pub sub-marker : (m ≡ 169 + g .width → ⊥) → SubFault g up b 3
+    unfolding subPage andThen refuse-unless faultAt marker
+    sub-marker z p = simp (subPage, ← q, le-leb k (length b) h, ← e, marker, ne-eqb m (169 + g .width) z)
+
+    module _ (z : m ≡ 169 + g .width) (a : ℕ) (d : a ≡ number (take 4 (drop 1 b))) where
+      pub sub-name : (a ≡ up .name → ⊥) → SubFault g up b 4
+      unfolding subPage andThen refuse-unless faultAt marker
+      sub-name w p = simp (subPage, ← q, le-leb k (length b) h, ← e, marker, eq-eqb m (169 + g .width) z, ← d, ne-eqb a (up .name) w)
+
+      module _ (w : a ≡ up .name) where
+        pub sub-zero : (getD b 5 0 ≡ 0 → ⊥) → SubFault g up b 4
+        unfolding subPage andThen refuse-unless faultAt marker
+        sub-zero y p = simp (subPage, ← q, le-leb k (length b) h, ← e, marker, eq-eqb m (169 + g .width) z, ← d, eq-eqb a (up .name) w, ne-eqb (getD b 5 0) 0 y)
+
+        module _ (y : getD b 5 0 ≡ 0) (s : ℕ) (f : s ≡ number (take (g .width) (drop 6 b))) where
+          pub sub-start : (s ≡ up .start → ⊥) → SubFault g up b 4
+          unfolding subPage andThen refuse-unless faultAt marker
+          sub-start v p = simp (subPage, ← q, le-leb k (length b) h, ← e, marker, eq-eqb m (169 + g .width) z, ← d, eq-eqb a (up .name) w, eq-eqb (getD b 5 0) 0 y, ← f, ne-eqb s (up .start) v)
+
+          pub sub-whole : s ≡ up .start → (r : ℕ) → WholeFault g (length b - k) r → SubFault g up b r
+          unfolding subPage andThen refuse-unless faultAt marker
+          sub-whole v r u p =
+              simp (subPage, ← q, le-leb k (length b) h, ← e, marker, eq-eqb m (169 + g .width) z, ← d, eq-eqb a (up .name) w, eq-eqb (getD b 5 0) 0 y, ← f, eq-eqb s (up .start) v)
+              (u (drop k b) p (length-drop k b))
+
+-- the test by the kind of chain
+pub of-kind : (g : Geometry) (d e : Kind) (i : ℕ) (b : List ℕ) (r : ℕ) → d ≡ e → PageFault g e i b r → PageFault g d i b r
+of-kind g d e i b r q f p = rw q (f p)
+
+pub file-page : (g : Geometry) (i : ℕ) (b : List ℕ) → PageFault g kind.File i b 0
+unfolding testOf anyPage faultAt
+file-page g i b p = refl
+
+module _ (g : Geometry) (b : List ℕ) (r : ℕ) where
+  pub root-later : (i : ℕ) → (i ≡ 0 → ⊥) → WholeFault g (length b) r → PageFault g kind.Root i b r
+  unfolding testOf rootPage
+  root-later zero z u p = absurd (z refl)
+  root-later (suc i) z u p = u b p refl
+
+  pub sub-later : (name start i : ℕ) → (i ≡ 0 → ⊥) → WholeFault g (length b) r → PageFault g (kind.Sub name start) i b r
+  unfolding testOf subPage
+  sub-later name start zero z u p = absurd (z refl)
+  sub-later name start (suc i) z u p = u b p refl
+
+  pub sub-first : (name start i : ℕ) → i ≡ 0 → SubFault g (record { name = name; start = start }) b r → PageFault g (kind.Sub name start) i b r
+  unfolding testOf
+  sub-first name start i z u p = rw z (u p)
+
+  module _ (k : ℕ) (q : k ≡ controlSize g) where
+    pub root-first : (i : ℕ) → i ≡ 0 → WholeFault g (length b - k) r → PageFault g kind.Root i b r
+    unfolding testOf rootPage
+    root-first i z u p = rw (z, ← q) (u (drop k b) p (length-drop k b))
+
+    pub root-first-short : (i : ℕ) → i ≡ 0 → length b < k → WholeFault g 0 r → PageFault g kind.Root i b r
+    root-first-short i z h u = let e : length b - k ≡ 0 = omega arith in root-first i z (rw e u)

@@ -1,0 +1,4 @@
+// Directory pages: names, entries and control fields, judged and read from bytes.
+pub mod control;
+pub mod entries;
+pub mod names;
