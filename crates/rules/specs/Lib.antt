@@ -17,3 +17,13 @@ pub mod Calls
 pub mod ListText
 pub mod WellFormed
 pub mod Candidate
+pub mod ResultLaws
+pub mod PageSetLaws
+pub mod ChainLaws
+pub mod Soundness
+pub mod OwnerLaws
+pub mod BitmapLaws
+pub mod EditLaws
+pub mod RefusalLaws
+pub mod CallLaws
+pub mod DigitLaws

@@ -1,0 +1,57 @@
+-- Laws of answers: what a run that ends well has met, and runs that begin alike.
+use mathlib.Core.Path.{_≡_, refl, ap}
+use mathlib.Core.Bool.{Bool, true, false}
+use Prim.Native.Nat.{ℕ}
+use native.Mathlib.Omega.{arith}
+use Rattle.rules.specs.Result.{Res, ok, err, andThen, andAfter, refuse-unless}
+
+pub ok-inj : {A : Type 0} {a b : A} → ok a ≡ ok b → a ≡ b
+ok-inj e = cc
+
+-- a fault is no value
+pub clash : {A : Type 0} {a : A} {n p : ℕ} {C : Type 0} → err n p ≡ ok a → C
+clash {a = a} {n = n} {p = p} e = absurd (let z : _≡_ {A = ℕ} 0 1 = cc in omega arith)
+
+-- what a run in two steps has met, if it ends well
+pub on-then : {A B C : Type 0} (r : Res A) (f : A → Res B) (b : B) → andThen r f ≡ ok b → ((a : A) → r ≡ ok a → f a ≡ ok b → C) → C
+unfolding andThen
+on-then (ok a) f b e k = k a refl e
+on-then (err n p) f b e k = clash e
+
+pub on-refuse : {B C : Type 0} (t : Bool) (n p : ℕ) (r : Res B) (b : B) → andAfter (refuse-unless t n p) r ≡ ok b → (t ≡ true → r ≡ ok b → C) → C
+unfolding andThen refuse-unless
+on-refuse true n p r b e k = k refl e
+on-refuse false n p r b e k = clash e
+
+-- and of a test alone
+pub refuse-inv : (t : Bool) (n p : ℕ) (u : Unit {0}) → refuse-unless t n p ≡ ok u → t ≡ true
+unfolding refuse-unless
+refuse-inv true n p u e = refl
+refuse-inv false n p u e = clash e
+
+pub then-ok : {A B : Type 0} (a : A) (f : A → Res B) → andThen (ok a) f ≡ f a
+unfolding andThen
+then-ok a f = refl
+
+pub then-err : {A B : Type 0} (n p : ℕ) (f : A → Res B) → andThen (err n p) f ≡ err n p
+unfolding andThen
+then-err n p f = refl
+
+pub refuse-true : (n p : ℕ) → refuse-unless true n p ≡ ok tt
+unfolding refuse-unless
+refuse-true n p = refl
+
+pub refuse-false : (n p : ℕ) → refuse-unless false n p ≡ err n p
+unfolding refuse-unless
+refuse-false n p = refl
+
+-- two runs that begin alike
+pub then-cong : {A B : Type 0} (r : Res A) (f g : A → Res B) → ((a : A) → r ≡ ok a → f a ≡ g a) → andThen r f ≡ andThen r g
+unfolding andThen
+then-cong (ok a) f g h = h a refl
+then-cong (err n p) f g h = refl
+
+pub refuse-cong : {B : Type 0} (t : Bool) (n p : ℕ) (r s : Res B) → (t ≡ true → r ≡ s) → andAfter (refuse-unless t n p) r ≡ andAfter (refuse-unless t n p) s
+unfolding andThen refuse-unless
+refuse-cong true n p r s h = h refl
+refuse-cong false n p r s h = refl
