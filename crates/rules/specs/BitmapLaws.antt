@@ -1,23 +1,22 @@
 -- The bitmap: its bits are exactly the pages in use, and bytes with these bits are the bitmap's; a bitmap file filled anew.
-use mathlib.Core.Path.{_≡_, refl, ap, ap₂, sym, _∙_, subst}
+use mathlib.Core.Path.{_≡_, refl, ap, ap₂, sym, _∙_}
 use mathlib.Core.Bool.{Bool, true, false}
 use mathlib.Core.List.{List, [], _∷_, _++_}
-use Prim.Native.Nat.{ℕ, zero, suc, _+_, _-_, _*_, _/_, _%_, _^_, _≤_, _<_}
-use native.Mathlib.Nat.{div-div-eq-div-mul, div-one, pow-succ'}
+use Prim.Native.Nat.{ℕ, zero, suc, _+_, _*_, _/_, _%_, _^_, _≤_, _<_}
+use native.Mathlib.Nat.{div-div-eq-div-mul, pow-succ'}
 use native.Mathlib.Omega.{arith}
 use native.Mathlib.Decide.{decLt}
-use lib.Dec.{eqb}
 use lib.ListN.{length, getD, take, drop, length-append, length-drop, take-append-drop}
-use lib.Seq.{length-take-le, take-at, drop-at}
-use borrow.Author.Tests.{eqb-true, eqb-false, eq-eqb, ne-eqb}
-use Rattle.geometry.specs.Choose.{choose}
-use Rattle.geometry.specs.ChooseLaws.{choose-true, choose-false, on-choose}
+use lib.Seq.{take-at, drop-at}
+use borrow.Author.Tests.{eqb-true, eq-eqb, ne-eqb}
+use Rattle.geometry.specs.ChooseLaws.{choose-true, choose-false}
 use Rattle.geometry.specs.Number.{Bytes}
-use Rattle.rules.specs.Result.{Res, ok, err, refuse-unless}
+use Rattle.rules.specs.Result.{ok, refuse-unless}
 use Rattle.rules.specs.ResultLaws.{refuse-inv, refuse-true}
 use Rattle.rules.specs.PageSets.{bit, mem}
-use Rattle.rules.specs.PageSetLaws.{Hit, same, other, hits}
+use Rattle.rules.specs.PageSetLaws.{same, other, hits}
 use Rattle.rules.specs.Chain.{Link, link, pages, first, content}
+use Rattle.rules.specs.ChainLaws.{no-bytes}
 use Rattle.rules.specs.Tree.{Map, inRoot, inFile, mapPages}
 use Rattle.rules.specs.Bitmap.{bitAt, lowestDifference, byteFor, bitmapFrom, refill, remap}
 use Rattle.rules.specs.Check.{judgeBits}
@@ -115,7 +114,8 @@ byte-from used k (suc n) x l h =
     let r = byte-from used (k + 1) n (x / 2) (omega arith) (λ j i. ap (λ (y : ℕ). y % 2) (sym (half x j)) ∙ h (suc j) (omega arith) ∙ ap (λ (m : ℕ). bit (mem m used)) (f j)) in
     omega arith
 
-bitmap-from : (used raw : List ℕ) (k : ℕ) → Bytes raw → ((i j : ℕ) → i < length raw → j < 8 → getD raw i 0 / 2 ^ j % 2 ≡ bit (mem (k + 8 * i + j) used)) → raw ≡ bitmapFrom used k (length raw)
+bitmap-from : (used raw : List ℕ) (k : ℕ) → Bytes raw → ((i j : ℕ) → i < length raw → j < 8 → getD raw i 0 / 2 ^ j % 2 ≡ bit (mem (k + 8 * i + j) used))
+    → raw ≡ bitmapFrom used k (length raw)
 unfolding bitmapFrom
 bitmap-from used [] k b h = refl
 bitmap-from used (x ∷ raw) k b h =
@@ -162,10 +162,6 @@ first-refill (link p b ∷ ls) bits = refl
 pub length-refill : (ls : List Link) (bits : List ℕ) → length (refill ls bits) ≡ length ls
 length-refill [] bits = refl
 length-refill (link p b ∷ ls) bits = ap suc (length-refill ls (drop (length b) bits))
-
-no-bytes : (bs : List ℕ) → length bs ≤ 0 → [] ≡ bs
-no-bytes [] h = refl
-no-bytes (b ∷ bs) h = absurd (omega arith)
 
 -- it then holds these bytes
 pub content-refill : (ls : List Link) (bits : List ℕ) → length bits ≡ length (content ls) → content (refill ls bits) ≡ bits

@@ -1,20 +1,19 @@
 -- Chains: what an accepted walk has met, that each chain is accepted, that fuel never decides; bytes spread over pages.
 use mathlib.Core.Path.{_≡_, refl, ap, sym, _∙_, subst}
-use mathlib.Core.Bool.{Bool, true, false, not}
 use mathlib.Core.List.{List, [], _∷_, _++_}
-use Prim.Native.Nat.{ℕ, zero, suc, _+_, _-_, _*_, _/_, _≤_, _<_}
+use Prim.Native.Nat.{ℕ, zero, suc, _+_, _-_, _*_, _≤_, _<_}
 use native.Mathlib.Nat.{div-lt-iff-lt-mul, mul-le-mul-right}
 use native.Mathlib.Omega.{arith}
-use lib.Dec.{ltb, eqb}
+use lib.Dec.{eqb}
 use lib.ListN.{length, take, drop, take-append-drop, length-drop}
 use borrow.Author.Tests.{eqb-true, eqb-false, ltb-true, eq-eqb, ne-eqb, lt-ltb}
 use Rattle.geometry.specs.Choose.{choose}
 use Rattle.geometry.specs.ChooseLaws.{choose-true, choose-false, on-choose}
 use Rattle.packet.specs.Packet.{Packet, bad, good, View}
-use Rattle.rules.specs.Result.{Res, ok, err, andThen}
+use Rattle.rules.specs.Result.{Res, ok, andThen}
 use Rattle.rules.specs.ResultLaws.{ok-inj, clash, on-then, on-refuse, then-ok, refuse-true, then-cong, refuse-cong}
-use Rattle.rules.specs.PageSets.{count, mem, range, Within}
-use Rattle.rules.specs.PageSetLaws.{hit-same, Hit, same, other, hits, range-le, range-of, within-length, within-cons, free-test, free-true}
+use Rattle.rules.specs.PageSets.{count, range, Within}
+use Rattle.rules.specs.PageSetLaws.{hit-same, same, other, hits, range-le, range-of, within-length, within-cons, free-test, free-true}
 use Rattle.rules.specs.Chain.{Link, link, pages, first, content, linked, Body, packetAt, Test, anyPage, walk, spread, pagesFor}
 use Rattle.rules.specs.WellFormed.{Stand}
 
@@ -72,7 +71,8 @@ any-passes i (link p b ∷ ls) = (refl, any-passes (suc i) ls)
 -- ---- the walk
 module _ (N : ℕ) (v : View) (test : Test) where
   -- an accepted walk is a chain
-  pub walk-sound : (fuel i : ℕ) (claimed : List ℕ) (from p : ℕ) (ls : List Link) → Within N claimed → walk N v test fuel i claimed from p ≡ ok ls → IsChain N v test i claimed p ls
+  pub walk-sound : (fuel i : ℕ) (claimed : List ℕ) (from p : ℕ) (ls : List Link) → Within N claimed → walk N v test fuel i claimed from p ≡ ok ls
+      → IsChain N v test i claimed p ls
   unfolding walk
   walk-sound zero i claimed from p ls fit e = clash e
   walk-sound (suc fuel) i claimed from p ls fit e =
@@ -82,10 +82,12 @@ module _ (N : ℕ) (v : View) (test : Test) where
       (λ q z. subst (λ (l : List Link). IsChain N v test i claimed p (link p (x .bytes) ∷ l)) (ok-inj z) (last x fit′ k (packet-inv _ _ _ b) (eqb-true _ _ q)))
       (λ q z. step x ms k (packet-inv _ _ _ b) (walk-sound fuel (suc i) (p ∷ claimed) p (x .next) ms fit′ z) (eqb-false _ _ q)))
     where
-      last : (x : Body) → Within N (p ∷ claimed) → test i p (x .bytes) ≡ ok tt → v p ≡ good (x .bytes) (x .next) → x .next ≡ 0 → IsChain N v test i claimed p (link p (x .bytes) ∷ [])
+      last : (x : Body) → Within N (p ∷ claimed) → test i p (x .bytes) ≡ ok tt → v p ≡ good (x .bytes) (x .next) → x .next ≡ 0
+          → IsChain N v test i claimed p (link p (x .bytes) ∷ [])
       last x fit k b n = record { some = omega arith; start = refl; stand = (rw (← n) b, tt); passes = (k, tt); clear = λ z. omega (arith, fit z); onward = refl }
 
-      step : (x : Body) (ms : List Link) → test i p (x .bytes) ≡ ok tt → v p ≡ good (x .bytes) (x .next) → IsChain N v test (suc i) (p ∷ claimed) (x .next) ms → (x .next ≡ 0 → ⊥) → IsChain N v test i claimed p (link p (x .bytes) ∷ ms)
+      step : (x : Body) (ms : List Link) → test i p (x .bytes) ≡ ok tt → v p ≡ good (x .bytes) (x .next) → IsChain N v test (suc i) (p ∷ claimed) (x .next) ms
+          → (x .next ≡ 0 → ⊥) → IsChain N v test i claimed p (link p (x .bytes) ∷ ms)
       step x ms k b c n = record {
         some = omega arith;
         start = refl;
@@ -95,7 +97,8 @@ module _ (N : ℕ) (v : View) (test : Test) where
         onward = onward-cons ms (rw (c .start) n) (c .onward);
       }
 
-  walk-complete : (fuel i : ℕ) (claimed : List ℕ) (from p : ℕ) (b : List ℕ) (ls : List Link) → length ls < fuel → Stand v (linked (link p b ∷ ls)) → Passes test i (link p b ∷ ls)
+  walk-complete : (fuel i : ℕ) (claimed : List ℕ) (from p : ℕ) (b : List ℕ) (ls : List Link) → length ls < fuel → Stand v (linked (link p b ∷ ls))
+      → Passes test i (link p b ∷ ls)
       → ((x : ℕ) → count x (p ∷ pages ls) + count x claimed ≤ count x (range N)) → count 0 (pages ls) ≡ 0 → walk N v test fuel i claimed from p ≡ ok (link p b ∷ ls)
   unfolding walk
   walk-complete zero i claimed from p b ls h a u c o = absurd (omega arith)
@@ -118,7 +121,8 @@ module _ (N : ℕ) (v : View) (test : Test) where
       rw (← c .start) (walk-complete (suc N) i claimed from q b ls (omega (arith, length-pages ls)) (c .stand) (c .passes) (c .clear) (c .onward))
 
   -- fuel never decides: one more unit of it changes no answer, refusals too
-  pub walk-fuel : (fuel i : ℕ) (claimed : List ℕ) (from p : ℕ) → Within N claimed → N < length claimed + fuel → walk N v test fuel i claimed from p ≡ walk N v test (suc fuel) i claimed from p
+  pub walk-fuel : (fuel i : ℕ) (claimed : List ℕ) (from p : ℕ) → Within N claimed → N < length claimed + fuel
+      → walk N v test fuel i claimed from p ≡ walk N v test (suc fuel) i claimed from p
   unfolding walk
   walk-fuel zero i claimed from p fit h = absurd (omega (arith, within-length N claimed fit))
   walk-fuel (suc fuel) i claimed from p fit h =
@@ -135,7 +139,7 @@ pub length-spread : (capacity : ℕ) (ps bs : List ℕ) → length (spread capac
 length-spread capacity [] bs = refl
 length-spread capacity (p ∷ ps) bs = ap suc (length-spread capacity ps (drop capacity bs))
 
-no-bytes : (bs : List ℕ) → length bs ≤ 0 → [] ≡ bs
+pub no-bytes : (bs : List ℕ) → length bs ≤ 0 → [] ≡ bs
 no-bytes [] h = refl
 no-bytes (b ∷ bs) h = absurd (omega arith)
 

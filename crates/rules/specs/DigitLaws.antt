@@ -1,14 +1,11 @@
 -- The text of `list`: the decimal digits of a number tell it, with no zero in front.
-use mathlib.Core.Path.{_≡_, refl, ap, sym, _∙_}
-use mathlib.Core.Bool.{true, false}
+use mathlib.Core.Path.{_≡_, refl, ap, _∙_}
 use mathlib.Core.List.{List, [], _∷_, _++_}
 use Prim.Native.Nat.{ℕ, zero, suc, _+_, _-_, _*_, _/_, _%_, _^_, _≤_, _<_}
 use native.Mathlib.Omega.{arith}
 use native.Mathlib.Decide.{decLt}
-use lib.Dec.{ltb}
 use lib.ListN.{length, getD, length-append, List·getD-append}
 use borrow.Author.Tests.{lt-ltb, le-ltb}
-use Rattle.geometry.specs.Choose.{choose}
 use Rattle.geometry.specs.ChooseLaws.{choose-true, choose-false}
 use Rattle.rules.specs.ListText.{digits, decimal, threeDigits}
 

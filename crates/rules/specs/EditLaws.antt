@@ -1,18 +1,17 @@
 -- The edits of a directory: a new entry, a file's chain replaced, an entry removed; what each does to keys, pages and what stands under a key.
-use mathlib.Core.Path.{_≡_, refl, ap, ap₂, sym, _∙_, subst}
+use mathlib.Core.Path.{_≡_, refl, ap, sym, _∙_}
 use mathlib.Core.Bool.{Bool, true, false}
 use mathlib.Core.List.{List, [], _∷_, _++_}
-use Prim.Native.Nat.{ℕ, zero, suc, _+_, _-_, _≤_, _<_}
+use Prim.Native.Nat.{ℕ, zero, suc, _+_, _-_, _≤_}
 use native.Mathlib.Omega.{arith}
 use lib.Dec.{eqb}
-use lib.ListN.{length}
-use borrow.Author.Tests.{eqb-true, eqb-false, eq-eqb, ne-eqb}
+use borrow.Author.Tests.{eqb-true, eq-eqb, ne-eqb}
 use Rattle.geometry.specs.Choose.{choose}
 use Rattle.geometry.specs.ChooseLaws.{choose-true, choose-false, on-choose}
 use Rattle.rules.specs.PageSets.{bit, hit, count}
-use Rattle.rules.specs.PageSetLaws.{hit-same, Hit, same, other, hits, count-append}
-use Rattle.rules.specs.Chain.{Link, link, pages}
-use Rattle.rules.specs.Tree.{Label, keyOf, Items, end, page, file, dir, startOf, ownPages, innerPages, allPages, keys}
+use Rattle.rules.specs.PageSetLaws.{hit-same, same, other, hits, count-append}
+use Rattle.rules.specs.Chain.{Link, pages}
+use Rattle.rules.specs.Tree.{Label, keyOf, Items, end, page, file, dir, ownPages, innerPages, allPages, keys}
 use Rattle.rules.specs.Paths.{Found, nothing, aFile, aDirectory, find}
 use Rattle.rules.specs.Put.{insert, isFull, replace}
 use Rattle.rules.specs.Delete.{remove}
@@ -160,7 +159,8 @@ replace-own k new (file l ls t) = elim (hits k (keyOf l))
 replace-own k new (dir l d t) = replace-own k new t
 
 -- the new chain's pages come, the old chain's go
-pub replace-inner : (x k : ℕ) (new : List Link) (l : Label) (old : List Link) (t : Items) → find k t ≡ aFile l old → count x (innerPages (replace k new t)) + count x (pages old) ≡ count x (innerPages t) + count x (pages new)
+pub replace-inner : (x k : ℕ) (new : List Link) (l : Label) (old : List Link) (t : Items) → find k t ≡ aFile l old
+    → count x (innerPages (replace k new t)) + count x (pages old) ≡ count x (innerPages t) + count x (pages new)
 replace-inner x k new l old end e = absurd (nothing-no-file e)
 replace-inner x k new l old (page p t) e = replace-inner x k new l old t e
 replace-inner x k new l old (file m c t) e = on-choose _ _ _ _ e

@@ -4,11 +4,11 @@ use mathlib.Core.List.{List, [], _∷_, _++_}
 use Prim.Native.Nat.{ℕ, zero, suc, _+_, _≤_, _<_}
 use native.Mathlib.Omega.{arith}
 use native.Mathlib.Decide.{decLt}
-use lib.ListN.{length, getD, drop, set, length-set, length-append, length-drop, replicate, length-replicate, getD-replicate}
+use lib.ListN.{length, getD, set, length-set, length-append, length-drop, replicate, length-replicate}
 use lib.Seq.{getD-set-same, getD-set-other}
 use Rattle.rules.specs.Result.{Res, ok, err}
 use Rattle.rules.specs.PageSets.{count, range, Within}
-use Rattle.rules.specs.PageSetLaws.{hit-same, Hit, same, other, hits, count-append, pigeon, range-below, range-above, range-of, within-length}
+use Rattle.rules.specs.PageSetLaws.{hit-same, same, other, hits, count-append, pigeon, range-below, range-of, within-length}
 use Rattle.rules.specs.Chain.{pages}
 use Rattle.rules.specs.Tree.{Items, end, page, file, dir, ownPages, innerPages, mapPages, Image, used}
 use Rattle.rules.specs.Owners.{fileCount, directoryCount, own, ownEntries, owners, tableAfter}
@@ -84,7 +84,8 @@ length-entries k (dir l d t) table =
     ∙ length-entries (suc k) d (own (3 + k) (ownPages d) table) ∙ length-own (3 + k) (ownPages d) table
 
 -- pages that are clear of the claimed ones get an owner
-pub represents-own : (m : ℕ) (ps table claimed : List ℕ) → 0 < m → Represents table claimed → ((x : ℕ) → count x ps + count x claimed ≤ count x (range (length table))) → Represents (own m ps table) (ps ++ claimed)
+pub represents-own : (m : ℕ) (ps table claimed : List ℕ) → 0 < m → Represents table claimed
+    → ((x : ℕ) → count x ps + count x claimed ≤ count x (range (length table))) → Represents (own m ps table) (ps ++ claimed)
 represents-own m [] table claimed k h c = h
 represents-own m (p ∷ ps) table claimed k h c =
     let i = range-of p (length table) (omega (arith, c p, hit-same p)) in
@@ -93,7 +94,8 @@ represents-own m (p ∷ ps) table claimed k h c =
     let r = represents-own m ps (set table p m) (p ∷ claimed) k (represents-set table claimed p m h i z k) (λ x. rw n (omega (arith, c x))) in
     λ x. omega (arith, r x, count-append x ps (p ∷ claimed), count-append x ps claimed)
 
-pub represents-entries : (k : ℕ) (t : Items) (table claimed : List ℕ) → Represents table claimed → ((x : ℕ) → count x (innerPages t) + count x claimed ≤ count x (range (length table))) → Represents (ownEntries k t table) (innerPages t ++ claimed)
+pub represents-entries : (k : ℕ) (t : Items) (table claimed : List ℕ) → Represents table claimed
+    → ((x : ℕ) → count x (innerPages t) + count x claimed ≤ count x (range (length table))) → Represents (ownEntries k t table) (innerPages t ++ claimed)
 represents-entries k end table claimed h c = h
 represents-entries k (page p t) table claimed h c = represents-entries k t table claimed h c
 represents-entries k (file l ls t) table claimed h c =

@@ -1,10 +1,10 @@
 -- The numbers that a refusal can carry: the check's are 2 to 13, format's 4, a path's 14 to 16, room's 17, a short output's 18. So 1 is told only of a wrong geometry.
-use mathlib.Core.Path.{_≡_, refl, ap, sym, _∙_, subst}
-use mathlib.Core.Bool.{Bool, true, false, not, _&&_, _||_}
-use mathlib.Core.List.{List, [], _∷_, _++_}
-use Prim.Native.Nat.{ℕ, zero, suc, _+_, _≤_, _<_}
+use mathlib.Core.Path.{_≡_, refl, sym, subst}
+use mathlib.Core.Bool.{Bool, true, false, _&&_}
+use mathlib.Core.List.{List, [], _∷_}
+use Prim.Native.Nat.{ℕ, zero, suc, _≤_}
 use native.Mathlib.Omega.{arith}
-use lib.Dec.{T, leb, ltb, eqb}
+use lib.Dec.{T, leb}
 use borrow.Author.Tests.{leb-true}
 use Rattle.geometry.specs.declared.Geometry.{Geometry}
 use Rattle.geometry.specs.Choose.{choose}
@@ -13,12 +13,12 @@ use Rattle.rules.specs.declared.Entry.{Entry}
 use Rattle.rules.specs.declared.Line.{Line}
 use Rattle.rules.specs.Result.{Res, ok, err, andThen, andAfter, refuse-unless}
 use Rattle.rules.specs.ResultLaws.{clash}
-use Rattle.rules.specs.Chain.{Link, Body, packetAt, Test, anyPage, walk}
-use Rattle.rules.specs.Tree.{Items, Token, newPage, entry, startOf, Map, mapPages, Image}
+use Rattle.rules.specs.Chain.{packetAt, Test, anyPage, walk}
+use Rattle.rules.specs.Tree.{Items, Token, newPage, entry, startOf, mapPages, Image}
 use Rattle.rules.specs.Control.{Above, theRoot, Head, headOf, wholeEntries, rootPage, subPage}
-use Rattle.rules.specs.Check.{Part, Judge, judgeBits, judgeLabel, judgeFile, judgeEntry, judgeEntries, judgeDirectory, judgeSub, judgeMap, Scan, scan, check}
+use Rattle.rules.specs.Check.{Judge, judgeBits, judgeLabel, judgeFile, judgeEntry, judgeEntries, judgeDirectory, judgeSub, judgeMap, scan, check}
 use Rattle.rules.specs.Listing.{lineAt}
-use Rattle.rules.specs.Paths.{Path, pathOf, fileKey, directoryKey, Found, nothing, aFile, aDirectory, find, Site, atRoot, below, Place, directoryAt}
+use Rattle.rules.specs.Paths.{pathOf, directoryKey, Found, nothing, aFile, aDirectory, find, Site, atRoot, below, directoryAt}
 use Rattle.rules.specs.Format.{format}
 use Rattle.rules.specs.Put.{writable, putEdit, put}
 use Rattle.rules.specs.Delete.{present, delete}
@@ -56,7 +56,8 @@ between-refuse true n p h = between-ok
 between-refuse false n p h = between-err h
 
 -- a test, then the rest
-pub between-test : {A : Type 0} {low high : ℕ} {r : Res A} (t : Bool) (n p : ℕ) → T (leb low n && leb n high) → Between low high r → Between low high (andAfter (refuse-unless t n p) r)
+pub between-test : {A : Type 0} {low high : ℕ} {r : Res A} (t : Bool) (n p : ℕ) → T (leb low n && leb n high) → Between low high r
+    → Between low high (andAfter (refuse-unless t n p) r)
 between-test {low = low} {high = high} t n p h k = between-then (between-refuse t n p h) (λ u. k)
 
 pub between-choose : {A : Type 0} {low high : ℕ} (t : Bool) {r s : Res A} → Between low high r → Between low high s → Between low high (choose t r s)
@@ -120,20 +121,23 @@ module _ (g : Geometry) (v : View) where
   abbrev JudgeFaults : Judge → Type 0
   JudgeFaults sub = (here : Above) (claimed : List ℕ) (p : ℕ) (e : Entry) → Between 2 12 (sub here claimed p e)
 
-  entry-faults : (sub : Judge) → JudgeFaults sub → (here : Above) (claimed : List ℕ) (p : ℕ) (seen : List ℕ) (e : Entry) → Between 2 12 (judgeEntry g v sub here claimed p seen e)
+  entry-faults : (sub : Judge) → JudgeFaults sub → (here : Above) (claimed : List ℕ) (p : ℕ) (seen : List ℕ) (e : Entry)
+      → Between 2 12 (judgeEntry g v sub here claimed p seen e)
   unfolding judgeEntry
   entry-faults sub h here claimed p seen e =
       between-then (label-faults p e) λ _. between-test _ 11 _ tt
       (between-choose _ (between-then (h here claimed p e) λ d. between-ok) (file-faults claimed p e))
 
-  entries-faults : (sub : Judge) → JudgeFaults sub → (here : Above) (claimed : List ℕ) (p : ℕ) (seen : List ℕ) (ts : List Token) → Between 2 12 (judgeEntries g v sub here claimed p seen ts)
+  entries-faults : (sub : Judge) → JudgeFaults sub → (here : Above) (claimed : List ℕ) (p : ℕ) (seen : List ℕ) (ts : List Token)
+      → Between 2 12 (judgeEntries g v sub here claimed p seen ts)
   unfolding judgeEntries
   entries-faults sub h here claimed p seen [] = between-ok
   entries-faults sub h here claimed p seen (newPage q ∷ ts) = between-then (entries-faults sub h here claimed q seen ts) λ t. between-ok
   entries-faults sub h here claimed p seen (entry e ∷ ts) =
       between-then (entry-faults sub h here claimed p seen e) λ x. between-then (entries-faults sub h here _ p _ ts) λ t. between-ok
 
-  directory-faults : (sub : Judge) → JudgeFaults sub → (test : Test) → TestFaults test → (here : Above) (claimed : List ℕ) (p : ℕ) → Between 2 12 (judgeDirectory g v sub test here claimed p)
+  directory-faults : (sub : Judge) → JudgeFaults sub → (test : Test) → TestFaults test → (here : Above) (claimed : List ℕ) (p : ℕ)
+      → Between 2 12 (judgeDirectory g v sub test here claimed p)
   unfolding judgeDirectory
   directory-faults sub h test k here claimed p = between-then (walk-faults (g .pages) v test k _ _ _ _ _) λ ls. entries-faults sub h here _ _ _ _
 
@@ -171,7 +175,8 @@ place-faults : (xs : List ℕ) (site : Site) (here : Above) (t : Items) → Betw
 place-faults [] site here t = unfold directoryAt in between-ok
 place-faults (x ∷ xs) site here t = go (find (directoryKey x) t) refl (λ d. place-faults xs (below here) (record { name = x; start = startOf d }) d)
   where
-    go : (f : Found) → find (directoryKey x) t ≡ f → ((d : Items) → Between 15 15 (directoryAt xs (below here) (record { name = x; start = startOf d }) d)) → Between 15 15 (directoryAt (x ∷ xs) site here t)
+    go : (f : Found) → find (directoryKey x) t ≡ f → ((d : Items) → Between 15 15 (directoryAt xs (below here) (record { name = x; start = startOf d }) d))
+        → Between 15 15 (directoryAt (x ∷ xs) site here t)
     go nothing e k = unfold directoryAt in rw e (between-err tt)
     go (aFile l ls) e k = unfold directoryAt in rw e (between-err tt)
     go (aDirectory l d) e k = unfold directoryAt in rw e (k d)

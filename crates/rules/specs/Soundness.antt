@@ -1,23 +1,22 @@
 -- What an accepted walk has met: no page twice, each entry has a page, a directory's own pages are its chain's.
-use mathlib.Core.Path.{_≡_, refl, ap, sym, _∙_, subst}
-use mathlib.Core.Bool.{Bool, true, false, not}
+use mathlib.Core.Path.{_≡_, refl, ap, _∙_, subst}
 use mathlib.Core.List.{List, [], _∷_, _++_}
-use Prim.Native.Nat.{ℕ, zero, suc, _+_, _/_, _≤_, _<_}
+use Prim.Native.Nat.{ℕ, zero, suc, _+_, _/_, _≤_}
 use native.Mathlib.Omega.{arith}
 use lib.ListN.{length, drop, length-append}
 use Rattle.geometry.specs.declared.Geometry.{Geometry}
 use Rattle.geometry.specs.ChooseLaws.{on-choose}
-use Rattle.geometry.specs.Geometry.{entrySize, controlSize, bitmapSize}
+use Rattle.geometry.specs.Geometry.{entrySize, controlSize}
 use Rattle.packet.specs.Packet.{View}
 use Rattle.rules.specs.declared.Entry.{Entry}
-use Rattle.rules.specs.Result.{Res, ok, err}
+use Rattle.rules.specs.Result.{ok}
 use Rattle.rules.specs.ResultLaws.{ok-inj, clash, on-then, on-refuse}
 use Rattle.rules.specs.PageSets.{count, range, Within}
 use Rattle.rules.specs.PageSetLaws.{count-append}
-use Rattle.rules.specs.Chain.{Link, link, pages, first, content, Test, anyPage, walk}
+use Rattle.rules.specs.Chain.{Link, link, pages, Test, anyPage, walk}
 use Rattle.rules.specs.ChainLaws.{IsChain, length-pages, walk-sound}
 use Rattle.rules.specs.Names.{key}
-use Rattle.rules.specs.Tree.{Items, end, page, file, dir, startOf, Token, newPage, entry, entriesIn, linkTokens, ownPages, innerPages, allPages, Map, inRoot, inFile, mapPages, Image, used}
+use Rattle.rules.specs.Tree.{Items, Token, newPage, entry, entriesIn, linkTokens, ownPages, innerPages, Map, mapPages, Image, used}
 use Rattle.rules.specs.Control.{Above, theRoot, Head, rootPage, subPage}
 use Rattle.rules.specs.Owners.{fileCount, directoryCount}
 use Rattle.rules.specs.Check.{Part, chain, directory, partPages, add, Judge, Scan, judgeFile, judgeEntry, judgeEntries, judgeDirectory, judgeSub, judgeMap, scan, check}
