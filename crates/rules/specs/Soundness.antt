@@ -45,12 +45,19 @@ pub add-clear : (e : Entry) (x : Part) (t : Items) (z : ℕ) → count z (innerP
 add-clear e (chain ls) t z = count-append z (pages ls) (innerPages t)
 add-clear e (directory d) t z = simp count-append (omega arith)
 
-pub add-room : (e : Entry) (x : Part) (t : Items)
-    → (fileCount (add e x t) + directoryCount (add e x t) ≡ entriesOf x + (fileCount t + directoryCount t)) × (length (innerPages (add e x t)) ≡ length (partPages x) + length (innerPages t)) × (ownPages (add e x t) ≡ ownPages t)
-add-room e (chain ls) t = (omega arith, length-append (pages ls) (innerPages t), refl)
-add-room e (directory d) t = (omega arith, simp length-append (omega arith), refl)
+pub add-count : (e : Entry) (x : Part) (t : Items) → fileCount (add e x t) + directoryCount (add e x t) ≡ entriesOf x + (fileCount t + directoryCount t)
+add-count e (chain ls) t = omega arith
+add-count e (directory d) t = omega arith
 
-module _ (g : Geometry) (v : View) where
+pub add-length : (e : Entry) (x : Part) (t : Items) → length (innerPages (add e x t)) ≡ length (partPages x) + length (innerPages t)
+add-length e (chain ls) t = length-append (pages ls) (innerPages t)
+add-length e (directory d) t = simp length-append (omega arith)
+
+pub add-own : (e : Entry) (x : Part) (t : Items) → ownPages (add e x t) ≡ ownPages t
+add-own e (chain ls) t = refl
+add-own e (directory d) t = refl
+
+module _ (g : Geometry) where
   -- of what stands under an entry: its pages are clear of the claimed ones and of each other, and each of its entries has a page
   pub record PartClear (claimed : List ℕ) (x : Part) : Type 0 where
     pub clear : (z : ℕ) → count z (partPages x) + count z claimed ≤ count z (range (g .pages))
@@ -62,6 +69,15 @@ module _ (g : Geometry) (v : View) where
     pub room : fileCount t + directoryCount t ≤ length (innerPages t)
     pub own-pages : ownPages t ≡ tokenPages ts
 
+  -- of a whole image: no page is in two chains or twice in one, every page is below N, and each entry, the root and each page of the bitmap file has its own
+  pub record ImageClear (i : Image) : Type 0 where
+    pub clear : Within (g .pages) (used i)
+    pub room : fileCount (i .tree) + directoryCount (i .tree) + 1 + length (mapPages (i .map)) ≤ length (used i)
+
+  abbrev pub JudgeSound : Judge → Type 0
+  JudgeSound sub = (here : Above) (claimed : List ℕ) (p : ℕ) (e : Entry) (d : Items) → Within (g .pages) claimed → sub here claimed p e ≡ ok d → PartClear claimed (directory d)
+
+module _ (g : Geometry) (v : View) where
   -- of a directory: its chain, then its entries
   pub record DirectoryClear (test : Test) (claimed : List ℕ) (p start : ℕ) (t : Items) : Type 0 where
     pub links : List Link
@@ -72,42 +88,38 @@ module _ (g : Geometry) (v : View) where
     pub room : fileCount t + directoryCount t ≤ length (innerPages t)
     pub some : 1 ≤ length (ownPages t)
 
-  abbrev pub JudgeSound : Judge → Type 0
-  JudgeSound sub = (here : Above) (claimed : List ℕ) (p : ℕ) (e : Entry) (d : Items) → Within (g .pages) claimed → sub here claimed p e ≡ ok d → PartClear claimed (directory d)
-
-  pub file-sound : (claimed : List ℕ) (p : ℕ) (e : Entry) (x : Part) → Within (g .pages) claimed → judgeFile g v claimed p e ≡ ok x → PartClear claimed x
+  pub file-sound : (claimed : List ℕ) (p : ℕ) (e : Entry) (x : Part) → Within (g .pages) claimed → judgeFile g v claimed p e ≡ ok x → PartClear g claimed x
   unfolding judgeFile
   file-sound claimed p e x fit q = on-refuse _ _ _ _ _ q λ g₁ q. on-then _ _ _ q λ ls w q. on-refuse _ _ _ _ _ q λ g₂ q.
       let c = walk-sound (g .pages) v anyPage (suc (g .pages)) 0 claimed p (e .start) ls fit w in
-      subst (PartClear claimed) (ok-inj q) (record { clear = c .clear; room = omega (arith, c .some, length-pages ls) })
+      subst (PartClear g claimed) (ok-inj q) (record { clear = c .clear; room = omega (arith, c .some, length-pages ls) })
 
-  pub entry-sound : (sub : Judge) → JudgeSound sub → (here : Above) (claimed : List ℕ) (p : ℕ) (seen : List ℕ) (e : Entry) (x : Part)
-      → Within (g .pages) claimed → judgeEntry g v sub here claimed p seen e ≡ ok x → PartClear claimed x
+  pub entry-sound : (sub : Judge) → JudgeSound g sub → (here : Above) (claimed : List ℕ) (p : ℕ) (seen : List ℕ) (e : Entry) (x : Part)
+      → Within (g .pages) claimed → judgeEntry g v sub here claimed p seen e ≡ ok x → PartClear g claimed x
   unfolding judgeEntry
   entry-sound sub h here claimed p seen e x fit q =
       on-then _ _ _ q λ u g₁ q. on-refuse _ _ _ _ _ q λ g₂ q. on-choose _ _ _ _ q
-      (λ k q. on-then _ _ _ q λ d w q. subst (PartClear claimed) (ok-inj q) (h here claimed p e d fit w))
+      (λ k q. on-then _ _ _ q λ d w q. subst (PartClear g claimed) (ok-inj q) (h here claimed p e d fit w))
       (λ k q. file-sound claimed p e x fit q)
 
-  pub entries-sound : (sub : Judge) → JudgeSound sub → (here : Above) (ts : List Token) (claimed : List ℕ) (p : ℕ) (seen : List ℕ) (t : Items)
-      → Within (g .pages) claimed → judgeEntries g v sub here claimed p seen ts ≡ ok t → EntriesClear claimed ts t
+  pub entries-sound : (sub : Judge) → JudgeSound g sub → (here : Above) (ts : List Token) (claimed : List ℕ) (p : ℕ) (seen : List ℕ) (t : Items)
+      → Within (g .pages) claimed → judgeEntries g v sub here claimed p seen ts ≡ ok t → EntriesClear g claimed ts t
   unfolding judgeEntries
   entries-sound sub h here [] claimed p seen t fit q =
-      subst (EntriesClear claimed []) (ok-inj q) (record { clear = λ z. omega (arith, fit z); room = omega arith; own-pages = refl })
+      subst (EntriesClear g claimed []) (ok-inj q) (record { clear = λ z. omega (arith, fit z); room = omega arith; own-pages = refl })
   entries-sound sub h here (newPage p′ ∷ ts) claimed p seen t fit q = on-then _ _ _ q λ u d q.
       let i = entries-sound sub h here ts claimed p′ seen u fit d in
-      subst (EntriesClear claimed (newPage p′ ∷ ts)) (ok-inj q) (record { clear = i .clear; room = i .room; own-pages = ap (λ (l : List ℕ). p′ ∷ l) (i .own-pages) })
+      subst (EntriesClear g claimed (newPage p′ ∷ ts)) (ok-inj q) (record { clear = i .clear; room = i .room; own-pages = ap (λ (l : List ℕ). p′ ∷ l) (i .own-pages) })
   entries-sound sub h here (entry e ∷ ts) claimed p seen t fit q = on-then _ _ _ q λ x d q. on-then _ _ _ q λ u w q.
       let j = entry-sound sub h here claimed p seen e x fit d in
       let i = entries-sound sub h here ts (partPages x ++ claimed) p (key (e .name) (e .extension) ∷ seen) u (λ z. simp count-append (j .clear z)) w in
-      let a = add-room e x u in
-      subst (EntriesClear claimed (entry e ∷ ts)) (ok-inj q) (record {
+      subst (EntriesClear g claimed (entry e ∷ ts)) (ok-inj q) (record {
         clear = λ z. omega (arith, simp count-append at (i .clear z), add-clear e x u z);
-        room = omega (arith, j .room, i .room, a .0, a .1);
-        own-pages = a .2 ∙ i .own-pages;
+        room = omega (arith, j .room, i .room, add-count e x u, add-length e x u);
+        own-pages = add-own e x u ∙ i .own-pages;
       })
 
-  pub directory-sound : (sub : Judge) → JudgeSound sub → (test : Test) (here : Above) (claimed : List ℕ) (p : ℕ) (t : Items)
+  pub directory-sound : (sub : Judge) → JudgeSound g sub → (test : Test) (here : Above) (claimed : List ℕ) (p : ℕ) (t : Items)
       → Within (g .pages) claimed → judgeDirectory g v sub test here claimed p ≡ ok t → DirectoryClear test claimed p (here .start) t
   unfolding judgeDirectory
   directory-sound sub h test here claimed p t fit q = on-then _ _ _ q λ ls w q.
@@ -124,10 +136,10 @@ module _ (g : Geometry) (v : View) where
         some = omega (arith, c .some, length-pages ls, ap length o);
       }
 
-  pub directory-part : (test : Test) (claimed : List ℕ) (p start : ℕ) (t : Items) → DirectoryClear test claimed p start t → PartClear claimed (directory t)
+  pub directory-part : (test : Test) (claimed : List ℕ) (p start : ℕ) (t : Items) → DirectoryClear test claimed p start t → PartClear g claimed (directory t)
   directory-part test claimed p start t d = record { clear = λ z. simp count-append (d .clear z); room = simp length-append (omega (arith, d .room, d .some)) }
 
-  pub sub-sound : (levels : ℕ) → JudgeSound (judgeSub g v levels)
+  pub sub-sound : (levels : ℕ) → JudgeSound g (judgeSub g v levels)
   unfolding judgeSub
   sub-sound zero here claimed p e d fit q = clash q
   sub-sound (suc levels) here claimed p e d fit q = on-refuse _ _ _ _ _ q λ g₁ q. on-refuse _ _ _ _ _ q λ g₂ q.
@@ -143,22 +155,17 @@ module _ (g : Geometry) (v : View) where
       let c = walk-sound (g .pages) v anyPage (suc (g .pages)) 0 [] 0 _ ls (λ z. omega arith) w in
       subst (λ (m : Map). Within (g .pages) (mapPages m)) (ok-inj q) (λ z. omega (arith, c .clear z)))
 
-  -- of a whole image: no page is in two chains or twice in one, every page is below N, and each entry, the root and each page of the bitmap file has its own
-  pub record ImageClear (i : Image) : Type 0 where
-    pub clear : Within (g .pages) (used i)
-    pub room : fileCount (i .tree) + directoryCount (i .tree) + 1 + length (mapPages (i .map)) ≤ length (used i)
-
-  pub scan-sound : (s : Scan) → scan g v ≡ ok s → ImageClear (s .image)
+  pub scan-sound : (s : Scan) → scan g v ≡ ok s → ImageClear g (s .image)
   unfolding scan
   scan-sound s q = on-then _ _ _ q λ x a q. on-then _ _ _ q λ h b q. on-then _ _ _ q λ m c q. on-then _ _ _ q λ t d q.
       let f = map-sound h m c in
       let r = directory-sound (judgeSub g v 8) (sub-sound 8) (rootPage g) theRoot (mapPages m) 0 t f d in
-      subst (λ (s : Scan). ImageClear (s .image)) (ok-inj q) (record {
+      subst (λ (s : Scan). ImageClear g (s .image)) (ok-inj q) (record {
         clear = λ z. simp count-append (r .clear z);
         room = simp length-append (omega (arith, r .room, r .some));
       })
 
   -- of an accepted image
-  pub check-sound : (i : Image) → check g v ≡ ok i → ImageClear i
+  pub check-sound : (i : Image) → check g v ≡ ok i → ImageClear g i
   unfolding check
-  check-sound i q = on-then _ _ _ q λ s a q. on-then _ _ _ q λ u b q. subst ImageClear (ok-inj q) (scan-sound s a)
+  check-sound i q = on-then _ _ _ q λ s a q. on-then _ _ _ q λ u b q. subst (ImageClear g) (ok-inj q) (scan-sound s a)
