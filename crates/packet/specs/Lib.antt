@@ -1,3 +1,4 @@
 pub mod Packet
 pub mod Judged
 pub mod RoundTrip
+pub mod Reading

@@ -1,0 +1,167 @@
+-- A chain claimed page by page: whatever answers what is left of the walk answers the whole.
+use mathlib.Core.Path.{_≡_, refl, ap, ap₂, sym, _∙_, subst}
+use mathlib.Core.Bool.{Bool, true, false, not}
+use mathlib.Core.List.{List, [], _∷_, _++_}
+use Prim.Native.Nat.{ℕ, zero, suc, _+_, _-_, _≤_, _<_}
+use native.Mathlib.Decide.{decLt}
+use native.Mathlib.Omega.{arith}
+use lib.Dec.{ltb, eqb}
+use lib.ListN.{length, getD, set, length-set}
+use borrow.Author.Tests.{eqb-true, eqb-false, ltb-true, lt-ltb, eq-eqb, ne-eqb, not-true, not-false}
+use Rattle.geometry.specs.declared.Geometry.{Geometry}
+use Rattle.geometry.specs.Choose.{choose}
+use Rattle.geometry.specs.ChooseLaws.{choose-true, choose-false}
+use Rattle.packet.specs.Packet.{View}
+use Rattle.rules.specs.Result.{Res, ok, err, andThen, refuse-unless}
+use Rattle.rules.specs.ResultLaws.{then-ok, then-err, refuse-true, refuse-false, on-refuse}
+use Rattle.rules.specs.PageSets.{count, mem}
+use Rattle.rules.specs.PageSetLaws.{within-length, free-true, mem-true}
+use Rattle.rules.specs.Chain.{Link, link, pages, Body, packetAt, Test, walk}
+use Rattle.rules.specs.Owners.{own}
+use Rattle.rules.specs.OwnerLaws.{nonzero, nonzero-pos, Represents, getD-past, represents-within, represents-set, represents-length, free-represents, taken, represents-taken, inUse, inUse-room}
+use Rattle.chain.specs.declared.Cursor.{Cursor}
+use Rattle.chain.specs.declared.Entered.{Entered}
+use Rattle.chain.specs.declared.Entered.the-variants as enter
+use Rattle.chain.specs.declared.Claim.{Claim}
+use Rattle.chain.specs.declared.Claim.the-variants as claim
+use Rattle.chain.specs.Steps.{firstStep, after}
+use Rattle.chain.specs.Claims.{isOwned, enterOf, entered, Agrees}
+
+-- ---- a page's owner
+pub has-owner : (t : List ℕ) (p : ℕ) (r : Bool) → r ≡ isOwned t p → r ≡ true → getD t p 0 ≡ 0 → ⊥
+unfolding isOwned
+has-owner t p r e q z = mathlib.Core.Bool.true≢false (sym q ∙ e ∙ ap not (eq-eqb (getD t p 0) 0 z))
+
+pub no-owner : (t : List ℕ) (p : ℕ) (r : Bool) → r ≡ isOwned t p → r ≡ false → getD t p 0 ≡ 0
+unfolding isOwned
+no-owner t p r e q = eqb-true (getD t p 0) 0 (not-false _ (sym e ∙ q))
+
+owner-inside : (t : List ℕ) (p : ℕ) → (getD t p 0 ≡ 0 → ⊥) → p < length t
+owner-inside t p h = elim (decLt p (length t)) [ yes k ↦ k | no k ↦ absurd (h (getD-past t p (omega arith))) ]
+
+-- ---- a page entered
+refused-is : (c : Cursor) (r : Res Body) (n p : ℕ) → enter.Refused n p ≡ entered c r → r ≡ err n p
+refused-is c (ok x) n p e = absurd (let z : _≡_ {A = ℕ} 0 1 = cc in omega arith)
+refused-is c (err m q) n p e = let i : m ≡ n = cc in let j : q ≡ p = cc in ap₂ err i j
+
+on-is : (c d : Cursor) (r : Res Body) → enter.On d ≡ entered c r → (x : Body) × (r ≡ ok x) × (d ≡ after c (x .next))
+on-is c d (ok x) e = (x, refl, cc)
+on-is c d (err m q) e = absurd (let z : _≡_ {A = ℕ} 0 1 = cc in omega arith)
+
+-- the crossing test may come before the page's number
+reorder : {B : Type 0} (t s : Bool) (n p m q : ℕ) (r : Res Body) (f : Body → Res (Unit {0})) (k : Body → Res B) → s ≡ true
+    → andThen (refuse-unless t n p) (λ _. andThen (refuse-unless s m q) (λ _. andThen r (λ x. andThen (f x) (λ _. k x))))
+    ≡ andThen (andThen (refuse-unless t n p) (λ _. andThen r (λ x. andThen (f x) (λ _. ok x)))) k
+unfolding andThen refuse-unless
+reorder false s n p m q r f k e = refl
+reorder true false n p m q r f k e = absurd (mathlib.Core.Bool.false≢true e)
+reorder true true n p m q (err a b) f k e = refl
+reorder true true n p m q (ok x) f k e = go (f x)
+  where
+    go : (y : Res (Unit {0})) → andThen y (λ _. k x) ≡ andThen (andThen y (λ _. ok x)) k
+    go (ok u) = refl
+    go (err a b) = refl
+
+module _ (g : Geometry) (v : View) (test : Test) where
+  pub inside : (c d : Cursor) → enter.On d ≡ entered c (enterOf g v test c) → c .page < g .pages
+  unfolding enterOf
+  inside c d e = let k = on-is c d _ e in on-refuse _ _ _ _ _ (k .1) λ q _. ltb-true (c .page) (g .pages) q
+
+  pub counted-on : (c d : Cursor) → enter.On d ≡ entered c (enterOf g v test c) → d .count ≡ c .count + 1
+  counted-on c d e = ap (λ (y : Cursor). y .count) (on-is c d (enterOf g v test c) e .2)
+
+  walk-enter : (fuel : ℕ) (claimed : List ℕ) (c : Cursor) → not (mem (c .page) claimed) ≡ true
+      → walk (g .pages) v test (suc fuel) (c .count) claimed (c .from) (c .page)
+      ≡ andThen (enterOf g v test c) (λ x. andThen (choose (eqb (x .next) 0) (ok []) (walk (g .pages) v test fuel (suc (c .count)) (c .page ∷ claimed) (c .page) (x .next))) (λ ls. ok (link (c .page) (x .bytes) ∷ ls)))
+  unfolding walk enterOf
+  walk-enter fuel claimed c e = reorder _ _ _ _ _ _ _ _ _ e
+
+  walk-crossed : (fuel : ℕ) (claimed : List ℕ) (i from p : ℕ) → p < g .pages → mem p claimed ≡ true → walk (g .pages) v test (suc fuel) i claimed from p ≡ err 7 p
+  unfolding walk
+  walk-crossed fuel claimed i from p h e = simp (lt-ltb p (g .pages) h, refuse-true, then-ok, e, refuse-false, then-err)
+
+  module _ (owner from start : ℕ) where
+    -- what holds before a page: the table t represents the claimed pages, and what answers the rest answers the whole
+    pub record Held (t₀ claimed₀ t : List ℕ) (c : Cursor) : Type 0 where
+      pub claimed : List ℕ
+      pub fuel : ℕ
+      pub represents : Represents t claimed
+      pub left : fuel + c .count ≡ suc (g .pages)
+      pub counted : length claimed ≡ c .count + length claimed₀
+      pub same : (r : Claim) (u : List ℕ) → Agrees (c .count) owner t (walk (g .pages) v test fuel (c .count) claimed (c .from) (c .page)) r u
+          → Agrees 0 owner t₀ (walk (g .pages) v test (suc (g .pages)) 0 claimed₀ from start) r u
+
+    pub held-first : (t claimed : List ℕ) (c : Cursor) → c ≡ firstStep start from → Represents t claimed → Held t claimed t c
+    held-first t claimed c e h = rw e (record { claimed = claimed; fuel = suc (g .pages); represents = h; left = omega arith; counted = omega arith; same = λ r u a. a })
+
+    module _ (t₀ claimed₀ t : List ℕ) (c : Cursor) (H : Held t₀ claimed₀ t c) (l : length t ≡ g .pages) where
+      open Held H using (claimed, fuel, represents, left, counted, same)
+
+      -- a chain has at most N pages
+      pub counts : c .count ≤ g .pages
+      counts = omega (arith, within-length (length t) claimed (represents-within t claimed represents))
+
+      one-left : (R : Res (List Link)) → walk (g .pages) v test (suc (g .pages - c .count)) (c .count) claimed (c .from) (c .page) ≡ R
+          → walk (g .pages) v test fuel (c .count) claimed (c .from) (c .page) ≡ R
+      one-left R e = let q : fuel ≡ suc (g .pages - c .count) = omega (arith, counts) in rw q e
+
+      pub crossed : (getD t (c .page) 0 ≡ 0 → ⊥) → Agrees 0 owner t₀ (walk (g .pages) v test (suc (g .pages)) 0 claimed₀ from start) (claim.Refused 7 (c .page)) t
+      crossed z =
+          let k = owner-inside t (c .page) z in
+          let m = mem-true (c .page) claimed (omega (arith, represents (c .page), nonzero-pos (getD t (c .page) 0) (omega arith))) in
+          same (claim.Refused 7 (c .page)) t (one-left _ (walk-crossed (g .pages - c .count) claimed (c .count) (c .from) (c .page) (omega arith) m))
+
+      module _ (z : getD t (c .page) 0 ≡ 0) where
+        clear : not (mem (c .page) claimed) ≡ true
+        clear = free-true (c .page) claimed (free-represents t claimed (c .page) represents z)
+
+        pub refused : (n p : ℕ) → enter.Refused n p ≡ entered c (enterOf g v test c) → Agrees 0 owner t₀ (walk (g .pages) v test (suc (g .pages)) 0 claimed₀ from start) (claim.Refused n p) t
+        refused n p e =
+            let q : enterOf g v test c ≡ err n p = refused-is c (enterOf g v test c) n p e in
+            same (claim.Refused n p) t (one-left _ (walk-enter (g .pages - c .count) claimed c clear ∙ simp (q, then-err)))
+
+        module _ (d : Cursor) (e : enter.On d ≡ entered c (enterOf g v test c)) where
+          x : Body
+          x = on-is c d (enterOf g v test c) e .0
+
+          was : enterOf g v test c ≡ ok x
+          unfolding x
+          was = on-is c d (enterOf g v test c) e .1
+
+          is : d ≡ after c (x .next)
+          unfolding x
+          is = on-is c d (enterOf g v test c) e .2
+
+          next-page : d .page ≡ x .next
+          next-page = ap (λ (y : Cursor). y .page) is
+
+          pub last : d .page ≡ 0 → Agrees 0 owner t₀ (walk (g .pages) v test (suc (g .pages)) 0 claimed₀ from start) (claim.Pages (d .count)) (set t (c .page) owner)
+          last y =
+              let n : x .next ≡ 0 = sym next-page ∙ y in
+              let k : d .count ≡ c .count + 1 = ap (λ (y : Cursor). y .count) is in
+              same (claim.Pages (d .count)) (set t (c .page) owner) (link (c .page) (x .bytes) ∷ [], one-left _ (walk-enter (g .pages - c .count) claimed c clear ∙ simp (was, then-ok, eq-eqb (x .next) 0 n, choose-true)), k, refl)
+
+          onward : (d .page ≡ 0 → ⊥) → (r : Claim) (u : List ℕ)
+              → Agrees (suc (c .count)) owner (set t (c .page) owner) (walk (g .pages) v test (g .pages - c .count) (suc (c .count)) (c .page ∷ claimed) (c .page) (x .next)) r u
+              → Agrees (c .count) owner t (walk (g .pages) v test fuel (c .count) claimed (c .from) (c .page)) r u
+          onward y (claim.Pages n) u (ls, w, a, b) = (link (c .page) (x .bytes) ∷ ls, one-left _ (walk-enter (g .pages - c .count) claimed c clear ∙ simp (was, then-ok, ne-eqb (x .next) 0 (λ q. y (next-page ∙ q)), choose-false, w)), omega arith, b)
+          onward y (claim.Refused n p) u w =
+              one-left _ (walk-enter (g .pages - c .count) claimed c clear ∙ simp (was, then-ok, ne-eqb (x .next) 0 (λ q. y (next-page ∙ q)), choose-false, w, then-err))
+
+          pub again : (d .page ≡ 0 → ⊥) → 0 < owner → c .page < length t → Held t₀ claimed₀ (set t (c .page) owner) d
+          again y o h =
+              let k : d .count ≡ c .count + 1 = ap (λ (y : Cursor). y .count) is in
+              let k′ : d .count ≡ suc (c .count) = omega arith in
+              let f : d .from ≡ c .page = ap (λ (y : Cursor). y .from) is in
+              record {
+                claimed = c .page ∷ claimed;
+                fuel = g .pages - c .count;
+                represents = represents-set t claimed (c .page) owner represents h z o;
+                left = omega (arith, counts);
+                counted = omega arith;
+                same = λ r u a. same r u (onward y r u (rw (k′, f, next-page) at a));
+              }
+
+      -- while a page is free, the owner fits
+      pub leaves-room : claimed₀ ≡ taken t₀ → c .page < length t → getD t (c .page) 0 ≡ 0 → inUse t₀ < g .pages
+      leaves-room e h z = omega (arith, inUse-room t (c .page) h z, represents-length t claimed represents, ap length e)

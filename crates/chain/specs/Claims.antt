@@ -1,0 +1,45 @@
+-- For contracts: a page entered, and a chain claimed in the owner table, against the rule's walk.
+use mathlib.Core.Path.{_≡_}
+use mathlib.Core.Bool.{Bool, not}
+use mathlib.Core.List.{List, []}
+use Prim.Native.Nat.{ℕ, suc, _+_}
+use lib.Dec.{ltb, eqb}
+use lib.ListN.{length, getD}
+use Rattle.geometry.specs.declared.Geometry.{Geometry}
+use Rattle.packet.specs.Packet.{View}
+use Rattle.rules.specs.Result.{Res, ok, err, andThen as _>>=_, andAfter as _>>_, refuse-unless}
+use Rattle.rules.specs.Chain.{Link, pages, Body, packetAt, Test, walk}
+use Rattle.rules.specs.Owners.{own}
+use Rattle.rules.specs.OwnerLaws.{Represents}
+use Rattle.chain.specs.declared.Cursor.{Cursor}
+use Rattle.chain.specs.declared.Entered.{Entered}
+use Rattle.chain.specs.declared.Entered.the-variants as enter
+use Rattle.chain.specs.declared.Claim.{Claim}
+use Rattle.chain.specs.declared.Claim.the-variants as claim
+use Rattle.chain.specs.Steps.{after}
+
+-- a page has an owner in the table
+unfoldable pub isOwned : List ℕ → ℕ → Bool
+isOwned table p = not (eqb (getD table p 0) 0)
+
+-- the walk's tests of a page but for crossing
+unfoldable pub enterOf : Geometry → View → Test → Cursor → Res Body
+enterOf g v test c = do
+  refuse-unless (ltb (c .page) (g .pages)) 6 (c .from)
+  x ← packetAt v (c .page)
+  test (c .count) (c .page) (x .bytes)
+  ok x
+
+abbrev pub entered : Cursor → Res Body → Entered
+entered c (ok x) = enter.On (after c (x .next))
+entered c (err n p) = enter.Refused n p
+
+-- the answer r with the table u agrees with the walk's answer, where k pages were passed before and the table then was t
+abbrev pub Agrees : ℕ → ℕ → List ℕ → Res (List Link) → Claim → List ℕ → Type 0
+Agrees k owner t walked (claim.Pages n) u = (ls : List Link) × (walked ≡ ok ls) × (n ≡ k + length ls) × (u ≡ own owner (pages ls) t)
+Agrees k owner t walked (claim.Refused n p) u = walked ≡ err n p
+
+-- for every list of claimed pages that the table represents, the answer is the walk's
+abbrev pub Claims : Geometry → View → Test → ℕ → ℕ → ℕ → List ℕ → Claim → List ℕ → Type 0
+Claims g v test owner from start t r u =
+    (claimed : List ℕ) → Represents t claimed → Agrees 0 owner t (walk (g .pages) v test (suc (g .pages)) 0 claimed from start) r u
