@@ -51,8 +51,8 @@ pub fn whole_fault(size: usize, g: Geometry) -> u8
     requires { ⌜ Valid g ⌝ }
     ensures { λ r. ⌜ WholeFault g size r ⌝ }
 {
-    if size % g.entry_size() == 0 {
-        return 0;
+    if size % g.entry_size() != 0 {
+        return 8;
     }
-    8
+    0
 }

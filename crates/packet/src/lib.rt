@@ -28,9 +28,9 @@ pub fn judge(page: &[u8], p: usize, n: usize) -> Judged
         return Judged::Bad;
     }
     let end = size + 1;
-    let sum = crc16::crc_of(p as u16, &page[..end]);
+    let register = crc16::crc_of(p as u16, &page[..end]);
     let stored = geometry::number_at(page, end, 2);
-    if stored != 65535 - (sum as usize) {
+    if stored != 65535 - (register as usize) {
         return Judged::Bad;
     }
     Judged::Whole {

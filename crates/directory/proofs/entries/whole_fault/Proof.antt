@@ -4,10 +4,10 @@ use Rattle.directory.proofs.entries.whole_fault.Statement.{statement}
 use Rattle.directory.proofs.entries.whole_fault.Tie as tie
 
 returns : tie.Need-returns
-returns c = are-whole _ _ _ (c .before .entry-size .ensures .0) (c .if1 .taken)
+returns c = not-whole _ _ _ (c .before .entry-size .ensures .0) (c .if1 .taken)
 
 returns-2 : tie.Need-returns-2
-returns-2 c = not-whole _ _ _ (c .before .entry-size .ensures .0) (c .if1 .left)
+returns-2 c = are-whole _ _ _ (c .before .entry-size .ensures .0) (c .if1 .left)
 
 pub whole-fault-spec : {M : Type 1} → statement M
 whole-fault-spec =

@@ -1,0 +1,33 @@
+use mathlib.Core.Path.{_≡_, refl, sym, _∙_}
+use Prim.Native.Nat.{_-_, _*_, _≤_}
+use lib.ListN.{drop}
+use Rattle.rules.specs.Paths.{namesIn, validNames}
+use Rattle.path.proofs.Cases.{name-bad, name-good, names-begin, names-end}
+use borrow.Author.Needs.{needs}
+use Rattle.path.proofs.valid_names.Statement.{statement}
+use Rattle.path.proofs.valid_names.Tie as tie
+
+abbrev Inv-loop : tie.InvT-loop
+Inv-loop bytes k i₀ i = (i ≤ k) × (validNames (namesIn k bytes) ≡ validNames (namesIn (k - i) (drop (4 * i) bytes)))
+
+abbrev μ-loop : tie.MeasureT-loop
+μ-loop bytes k i₀ i = k - i
+
+loop-holds : tie.Need-loop-holds Inv-loop μ-loop
+loop-holds c = (search needs, names-begin (c .before .args .bytes .now) (c .before .args .k))
+
+returns : tie.Need-returns Inv-loop μ-loop
+returns c =
+    sym (c .before .before .before .before .loop .inv .1 ∙ name-bad _ _ _ _ _ (c .before .before .before .loop-test .taken) (c .before .before .number-at .ensures .0) (c .before .valid-name .ensures) (c .if1 .taken))
+
+loop-again : tie.Need-loop-again Inv-loop μ-loop
+loop-again c =
+    (search needs, c .before .before .before .before .loop .inv .1 ∙ name-good _ _ _ _ _ (c .before .before .before .loop-test .taken) (c .before .before .number-at .ensures .0) (c .before .valid-name .ensures) (c .if1 .left))
+
+returns-2 : tie.Need-returns-2 Inv-loop μ-loop
+returns-2 c = names-end _ _ _ (c .loop-test .left) ∙ sym (c .before .loop .inv .1)
+
+pub valid-names-spec : {M : Type 1} → statement M
+valid-names-spec =
+    tie.close
+    (tie.spec Inv-loop μ-loop loop-holds (λ c. search needs) (λ c κs. search needs) (λ c. search needs) (λ c κs. search needs) returns (λ c. search needs) (λ c. search needs) loop-again returns-2)
