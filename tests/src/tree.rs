@@ -1,0 +1,125 @@
+//! What an accepted image holds: its bitmap's place, its directories, entries and chains.
+
+use crate::answer::Totals;
+use crate::entry::{Fields, SUBDIRECTORY};
+use crate::names::Name;
+
+/// The owner of the root's pages in the owner table.
+pub(crate) const ROOT_OWNER: u32 = 1;
+
+/// The owner of the bitmap file's pages in the owner table.
+pub(crate) const BITMAP_OWNER: u32 = 2;
+
+/// The owner of the pages of the entry at walk position 0.
+pub(crate) const FIRST_ENTRY_OWNER: u32 = 3;
+
+/// Where the bitmap stands: in the root's control field, or in a file with the pages of its chain.
+#[derive(Debug)]
+pub(crate) enum Bitmap {
+    Local,
+    File(Vec<usize>),
+}
+
+/// A directory: the pages of its chain and its entries in chain order.
+#[derive(Debug)]
+pub(crate) struct Directory {
+    pub(crate) pages: Vec<usize>,
+    pub(crate) entries: Vec<Entry>,
+}
+
+/// What an entry leads to: a file's chain with its length in bytes, or a directory.
+#[derive(Debug)]
+pub(crate) enum Content {
+    File { pages: Vec<usize>, length: usize },
+    Directory(Directory),
+}
+
+/// An entry with the directory page that holds it and its offset in that packet's body.
+#[derive(Debug)]
+pub(crate) struct Entry {
+    pub(crate) fields: Fields,
+    pub(crate) page: usize,
+    pub(crate) offset: usize,
+    pub(crate) content: Content,
+}
+
+/// An accepted image: bitmap, root, and the owner of each page.
+#[derive(Debug)]
+pub(crate) struct Tree {
+    pub(crate) bitmap: Bitmap,
+    pub(crate) root: Directory,
+    pub(crate) owners: Vec<u32>,
+}
+
+impl Entry {
+    /// The bytes of a file; 0 for a directory.
+    pub(crate) fn length(&self) -> usize {
+        match &self.content {
+            Content::File { length, .. } => *length,
+            Content::Directory(_) => 0,
+        }
+    }
+
+    /// Whether the entry leads to a directory.
+    fn is_directory(&self) -> bool {
+        matches!(self.content, Content::Directory(_))
+    }
+}
+
+impl Directory {
+    /// The entry with this name and extension number, the attribute bit left out.
+    pub(crate) fn find(&self, name: &Name, extension_number: u8) -> Option<&Entry> {
+        self.entries.iter().find(|entry| {
+            entry.fields.name == *name && entry.fields.extension_number() == extension_number
+        })
+    }
+
+    /// The directory that `names` lead to from this one, name by name.
+    pub(crate) fn resolve(&self, names: &[Name]) -> Option<&Directory> {
+        let Some((first, rest)) = names.split_first() else {
+            return Some(self);
+        };
+        match &self.find(first, SUBDIRECTORY)?.content {
+            Content::Directory(directory) => directory.resolve(rest),
+            Content::File { .. } => None,
+        }
+    }
+
+    /// Adds the entries in walk order: after a subdirectory's entry all entries below it.
+    fn add_walk<'a>(&'a self, level: u32, walk: &mut Vec<(u32, &'a Entry)>) {
+        for entry in &self.entries {
+            walk.push((level, entry));
+            if let Content::Directory(directory) = &entry.content {
+                directory.add_walk(level + 1, walk);
+            }
+        }
+    }
+}
+
+impl Tree {
+    /// All entries in walk order, each with its level (0 in the root).
+    pub(crate) fn walk(&self) -> Vec<(u32, &Entry)> {
+        let mut walk = Vec::new();
+        self.root.add_walk(0, &mut walk);
+        walk
+    }
+
+    /// For each page whether it is in use, that is in any chain.
+    pub(crate) fn used_pages(&self) -> Vec<bool> {
+        self.owners.iter().map(|&owner| owner != 0).collect()
+    }
+    /// Pages in use, files and directories; root and bitmap file are not counted as directory or file.
+    pub(crate) fn totals(&self) -> Totals {
+        let walk = self.walk();
+        let subdirectories = walk.iter().filter(|(_, entry)| entry.is_directory());
+        let directories = subdirectories.count();
+        let used = self.owners.iter().filter(|&&owner| owner != 0).count();
+        Totals {
+            number: 0,
+            page: 0,
+            used: used as u32,
+            files: (walk.len() - directories) as u32,
+            directories: directories as u32,
+        }
+    }
+}

@@ -1,0 +1,274 @@
+//! Calls with the promises that hold for every call, and help for the tests.
+#![allow(dead_code)]
+
+use referee::builder::pages::Pages;
+use referee::builder::plan::Built;
+use referee::{Answer, Length, Listing, Totals};
+
+/// What an owner table holds before a call, so that untouched bytes are seen.
+const BEFORE: u8 = 0xC7;
+
+/// Bytes of the owner table past the first N numbers.
+const EXTRA: usize = 5;
+
+/// An image with its page length and page count.
+#[derive(Clone, Debug, PartialEq, Eq)]
+pub struct Button {
+    pub page_length: u32,
+    pub page_count: u32,
+    pub image: Vec<u8>,
+}
+
+impl From<&Pages> for Button {
+    fn from(pages: &Pages) -> Button {
+        Button {
+            page_length: pages.geometry.page_length() as u32,
+            page_count: pages.geometry.page_count() as u32,
+            image: pages.image.clone(),
+        }
+    }
+}
+
+impl From<&Built> for Button {
+    fn from(built: &Built) -> Button {
+        Button {
+            page_length: built.page_length,
+            page_count: built.page_count,
+            image: built.image.clone(),
+        }
+    }
+}
+
+impl From<&mut Pages> for Button {
+    fn from(pages: &mut Pages) -> Button {
+        Button::from(&*pages)
+    }
+}
+
+/// Runs a call with an owner table that is longer than needed, and tells its first N numbers afterwards.
+/// They are zeros after a fault of the image; the rest never changes.
+fn with_table<T>(
+    page_count: u32,
+    number: impl Fn(&T) -> u32,
+    call: impl FnOnce(&mut [u8]) -> T,
+) -> (T, Vec<u16>) {
+    let used = 2 * page_count as usize;
+    let mut table = vec![BEFORE; used + EXTRA];
+    let answer = call(&mut table);
+    assert!(table[used..].iter().all(|&byte| byte == BEFORE));
+    if number(&answer) == 1 {
+        assert!(table.iter().all(|&byte| byte == BEFORE), "table after 1");
+    }
+    let owners: Vec<u16> = numbers(&table[..used]);
+    if (2..=13).contains(&number(&answer)) && number(&answer) != 4 {
+        assert!(owners.iter().all(|&owner| owner == 0), "table after fault");
+    }
+    (answer, owners)
+}
+
+/// Numbers of 16 bits, low byte first.
+pub fn numbers(bytes: &[u8]) -> Vec<u16> {
+    bytes
+        .chunks_exact(2)
+        .map(|two| u16::from_le_bytes([two[0], two[1]]))
+        .collect()
+}
+
+/// An answer of number and page.
+pub fn answer(number: u32, page: u32) -> Answer {
+    Answer { number, page }
+}
+
+impl Button {
+    /// An image of zeros.
+    pub fn zeros(page_length: u32, page_count: u32) -> Button {
+        let length = page_length as usize * page_count as usize;
+        Button {
+            page_length,
+            page_count,
+            image: vec![0; length],
+        }
+    }
+
+    /// A formatted image, all other bytes zero.
+    pub fn formatted(page_length: u32, page_count: u32, local: bool) -> Button {
+        let mut button = Button::zeros(page_length, page_count);
+        let (done, _) = button.format(local);
+        assert_eq!(done, answer(0, 0));
+        button
+    }
+
+    /// The bytes of a page.
+    pub fn page(&self, page: usize) -> &[u8] {
+        let length = self.page_length as usize;
+        &self.image[page * length..(page + 1) * length]
+    }
+
+    /// A copy of the image whose pages can be changed.
+    pub fn pages(&self) -> Pages {
+        Pages::of(self.page_length, self.page_count, &self.image)
+    }
+
+    /// Check, with the owner table.
+    pub fn check(&self) -> (Totals, Vec<u16>) {
+        with_table(
+            self.page_count,
+            |totals: &Totals| totals.number,
+            |table| referee::check(self.page_length, self.page_count, &self.image, table),
+        )
+    }
+
+    /// The number and page of a check, and nothing else in a refusal.
+    pub fn verdict(&self) -> Answer {
+        let (totals, owners) = self.check();
+        if totals.number != 0 {
+            let refusal = Totals {
+                number: totals.number,
+                page: totals.page,
+                ..Totals::default()
+            };
+            assert_eq!(totals, refusal);
+            assert!(owners.iter().all(|&owner| owner == 0));
+        }
+        answer(totals.number, totals.page)
+    }
+
+    /// List by number, with the owner table.
+    pub fn list(&self, position: u32) -> (Listing, Vec<u16>) {
+        with_table(
+            self.page_count,
+            |listing: &Listing| listing.number,
+            |table| {
+                referee::list(
+                    self.page_length,
+                    self.page_count,
+                    &self.image,
+                    table,
+                    position,
+                )
+            },
+        )
+    }
+
+    /// All entries in walk order, by position until 15.
+    pub fn list_all(&self) -> Vec<Listing> {
+        let mut all = Vec::new();
+        loop {
+            let (listing, _) = self.list(all.len() as u32);
+            if listing.number == 15 {
+                return all;
+            }
+            assert_eq!(listing.number, 0);
+            all.push(listing);
+        }
+    }
+
+    /// Read into `out`; a refusal leaves it alone, a success its rest.
+    pub fn read_into(&self, path: &[u8], out: &mut [u8]) -> (Length, Vec<u16>) {
+        let before = out.to_vec();
+        let (length, owners) = with_table(
+            self.page_count,
+            |length: &Length| length.number,
+            |table| {
+                referee::read(
+                    self.page_length,
+                    self.page_count,
+                    &self.image,
+                    path,
+                    out,
+                    table,
+                )
+            },
+        );
+        if length.number != 0 {
+            assert_eq!(length.length, 0);
+        }
+        let filled = length.length as usize;
+        assert_eq!(out[filled..], before[filled..]);
+        (length, owners)
+    }
+
+    /// The number of a read into an output as long as the image, and the bytes read.
+    pub fn read(&self, path: &[u8]) -> (u32, Vec<u8>) {
+        let mut out = vec![0xEE; self.image.len()];
+        let (length, _) = self.read_into(path, &mut out);
+        out.truncate(length.length as usize);
+        (length.number, out)
+    }
+
+    /// Format, with the owner table; a refusal changes nothing.
+    pub fn format(&mut self, local: bool) -> (Answer, Vec<u16>) {
+        self.change(|page_length, page_count, image, table| {
+            referee::format(page_length, page_count, image, table, u32::from(local))
+        })
+    }
+
+    /// Put, with the owner table; a refusal changes nothing.
+    pub fn put(&mut self, path: &[u8], bytes: &[u8]) -> (Answer, Vec<u16>) {
+        self.change(|page_length, page_count, image, table| {
+            referee::put(page_length, page_count, image, path, bytes, table)
+        })
+    }
+
+    /// Delete, with the owner table; a refusal changes nothing.
+    pub fn delete(&mut self, path: &[u8]) -> (Answer, Vec<u16>) {
+        self.change(|page_length, page_count, image, table| {
+            referee::delete(page_length, page_count, image, path, table)
+        })
+    }
+
+    /// Runs an edit: a refusal changes no byte, and the table tells of the image as it then stands.
+    fn change(
+        &mut self,
+        call: impl FnOnce(u32, u32, &mut [u8], &mut [u8]) -> Answer,
+    ) -> (Answer, Vec<u16>) {
+        let (page_length, page_count) = (self.page_length, self.page_count);
+        let before = self.image.clone();
+        let image = &mut self.image;
+        let (done, owners) = with_table(
+            page_count,
+            |done: &Answer| done.number,
+            |table| call(page_length, page_count, image, table),
+        );
+        if done.number != 0 {
+            assert_eq!(self.image, before, "a refusal changes no byte");
+        }
+        if done.number != 1 {
+            assert_eq!(owners, self.check().1, "owners of the image as it stands");
+        }
+        (done, owners)
+    }
+
+    /// Demands one refusal of the image from every call that checks it.
+    pub fn refused_by_all(&self, number: u32, page: u32) {
+        let refusal = answer(number, page);
+        assert_eq!(self.verdict(), refusal);
+        let listing = Listing {
+            number,
+            page,
+            ..Listing::default()
+        };
+        assert_eq!(self.list(0).0, listing);
+        let length = Length {
+            number,
+            page,
+            length: 0,
+        };
+        assert_eq!(self.read_into(b"A   \x01", &mut [9; 40]).0, length);
+        assert_eq!(self.clone().put(b"A   \x01", b"x").0, refusal);
+        assert_eq!(self.clone().delete(b"A   \x01").0, refusal);
+        // A malformed path is met after the image's fault.
+        assert_eq!(self.clone().put(b"bad", b"x").0, refusal);
+    }
+}
+
+/// Prints the seed if the test fails while it is alive.
+pub struct Seed(pub u64);
+
+impl Drop for Seed {
+    fn drop(&mut self) {
+        if std::thread::panicking() {
+            eprintln!("failed with seed {}", self.0);
+        }
+    }
+}

@@ -1,0 +1,78 @@
+//! The check: known vectors, and the pages that document 001 prints.
+
+use referee::{check_bytes, crc16};
+
+#[test]
+fn worked_step_of_application_note_27() {
+    assert_eq!(crc16(0x90F1, &[0x75]), 0x6390);
+}
+
+#[test]
+fn crc_16_arc() {
+    assert_eq!(crc16(0, b"123456789"), 0xBB3D);
+    assert_eq!(crc16(0, b""), 0);
+    assert_eq!(crc16(0x1234, b""), 0x1234);
+}
+
+#[test]
+fn inverted_low_byte_first() {
+    let packet = b"123456789";
+    assert_eq!(
+        check_bytes(0, packet),
+        [!0xBB3D_u16 as u8, (!0xBB3D_u16 >> 8) as u8]
+    );
+}
+
+/// DS1985 example: its pages 0 and 1 use the page number; page 1 has 73 for the misprinted 7E.
+#[test]
+fn printed_pages_of_the_ds1985() {
+    let page_0 = [
+        0x0F, 0xAA, 0x00, 0x00, 0x00, 0x00, 0x08, 0x01, 0x44, 0x45, 0x4D, 0x4F, 0x0C, 0x01, 0x01,
+        0x00,
+    ];
+    assert_eq!(check_bytes(0, &page_0), [0x04, 0x1A]);
+    let page_1 = [0x05, 0x54, 0x65, 0x73, 0x74, 0x00];
+    assert_eq!(check_bytes(1, &page_1), [0x07, 0xA0]);
+    let misprinted = [0x05, 0x54, 0x65, 0x7E, 0x74, 0x00];
+    assert_ne!(check_bytes(1, &misprinted), [0x07, 0xA0]);
+}
+
+/// The three packets of the bitmap-file example.
+fn bitmap_file_example() -> [Vec<u8>; 3] {
+    let mut page_1 = vec![0; 30];
+    page_1[0] = 0x1D;
+    page_1[1] = 0x0F;
+    page_1[29] = 0x02;
+    let page_2 = vec![0x05, 0, 0, 0, 0, 0];
+    let page_3 = vec![0x05, 0x54, 0x45, 0x53, 0x54, 0];
+    [page_1, page_2, page_3]
+}
+
+#[test]
+fn bitmap_file_example_with_page_numbers() {
+    let [page_1, page_2, page_3] = bitmap_file_example();
+    assert_eq!(check_bytes(1, &page_1), [0x2B, 0x35]);
+    assert_eq!(check_bytes(2, &page_2), [0xFE, 0x48]);
+    assert_eq!(check_bytes(3, &page_3), [0x15, 0x88]);
+}
+
+/// The checks that document 001 prints there are those with start 0 on all three pages.
+#[test]
+fn bitmap_file_example_as_printed() {
+    let [page_1, page_2, page_3] = bitmap_file_example();
+    assert_eq!(check_bytes(0, &page_1), [0x2A, 0x65]);
+    assert_eq!(check_bytes(0, &page_2), [0xFF, 0xAA]);
+    assert_eq!(check_bytes(0, &page_3), [0x15, 0xBB]);
+}
+
+/// Starting with a number is the same as changing the first two bytes by it and starting with 0.
+#[test]
+fn start_enters_the_first_two_bytes() {
+    for page in [0_u16, 1, 2, 255, 256, 4_660, 65_534] {
+        let packet = *b"\x06packet";
+        let mut changed = packet;
+        changed[0] ^= page.to_le_bytes()[0];
+        changed[1] ^= page.to_le_bytes()[1];
+        assert_eq!(crc16(page, &packet), crc16(0, &changed));
+    }
+}

@@ -1,0 +1,192 @@
+//! What the program `list` prints.
+
+mod common;
+
+use common::{answer, Button};
+use referee::builder::pages::Pages;
+use referee::builder::random::random_image;
+use referee::list_text;
+use referee::rng::Rng;
+
+/// A dump: header, bytes up to the offset, image.
+fn dump(page_length: u16, page_count: u16, offset: u32, image: &[u8]) -> Vec<u8> {
+    let mut dump = page_length.to_le_bytes().to_vec();
+    dump.extend(page_count.to_le_bytes());
+    dump.extend(offset.to_le_bytes());
+    dump.resize((offset as usize).clamp(8, 40_000), 0xB7);
+    dump.extend_from_slice(image);
+    dump
+}
+
+/// The text that `list` prints for a dump.
+fn text(dump: &[u8]) -> String {
+    String::from_utf8(list_text(dump)).expect("ASCII")
+}
+
+/// Case 3 of document 01.
+fn case_3() -> Button {
+    let mut button = Button::formatted(32, 16, true);
+    assert_eq!(button.put(b"DEMO\x0C", b"TEST").0, answer(0, 0));
+    button
+}
+
+const CASE_3_TEXT: &str = "page 32 pages 16 used 2 files 1 directories 0\n0 DEMO 012 - 1 1 4\n";
+
+#[test]
+fn case_3_with_offset_8() {
+    assert_eq!(text(&dump(32, 16, 8, &case_3().image)), CASE_3_TEXT);
+}
+
+#[test]
+fn other_offsets() {
+    for offset in [9, 10, 100, 32_767, 32_768] {
+        assert_eq!(text(&dump(32, 16, offset, &case_3().image)), CASE_3_TEXT);
+    }
+}
+
+#[test]
+fn empty_root() {
+    let button = Button::formatted(64, 100, false);
+    assert_eq!(
+        text(&dump(64, 100, 8, &button.image)),
+        "page 64 pages 100 used 2 files 0 directories 0\n"
+    );
+}
+
+#[test]
+fn attributes_levels_and_marks() {
+    let mut pages = Pages::new(32, 16);
+    let mut root = pages.local_control(&[0, 1, 2, 3, 4]);
+    root.extend(pages.entry("A~", 0x80 | 99, 1, 1));
+    root.extend(pages.entry("D", 0xFF, 2, 0));
+    let mut sub = pages.sub_control("ROOT", 0);
+    sub.extend(pages.entry("`{}", 0, 3, 1));
+    sub.extend(pages.entry("E", 0x7F, 4, 0));
+    let deeper = pages.sub_control("D", 2);
+    pages.packet(0, &root, 0).packet(1, b"abc", 0);
+    pages.packet(2, &sub, 0).packet(3, b"", 0);
+    pages.packet(4, &deeper, 0);
+    assert_eq!(
+        text(&dump(32, 16, 8, &pages.image)),
+        "page 32 pages 16 used 5 files 2 directories 2\n\
+         0 A~ 099 r 1 1 3\n\
+         0 D 127 h 2 0 0\n\
+         1 `{} 000 - 3 1 0\n\
+         1 E 127 - 4 0 0\n"
+    );
+}
+
+#[test]
+fn refusals_of_the_image() {
+    let mut image = case_3().image;
+    image[32] = 0xFF;
+    assert_eq!(text(&dump(32, 16, 8, &image)), "refused 2 page 1\n");
+    let image = case_3().image;
+    assert_eq!(text(&dump(32, 17, 8, &image)), "refused 1 page 0\n");
+    assert_eq!(text(&dump(31, 16, 8, &image)), "refused 1 page 0\n");
+    assert_eq!(text(&dump(0, 0, 8, b"")), "refused 1 page 0\n");
+    assert_eq!(text(&dump(65_535, 65_535, 8, b"")), "refused 1 page 0\n");
+    let mut pages = Pages::new(32, 16);
+    pages.packet(0, &[0xAA, 0, 0x80, 1, 0, 0, 0x80], 0);
+    assert_eq!(text(&dump(32, 16, 8, &pages.image)), "refused 13 page 31\n");
+}
+
+#[test]
+fn short_headers() {
+    let whole = dump(32, 16, 8, &case_3().image);
+    for length in 0..8 {
+        assert_eq!(text(&whole[..length]), "refused 19 page 0\n");
+    }
+}
+
+/// An offset equal to the dump's length leaves an empty image, which is the check's 1.
+#[test]
+fn offset_at_the_end() {
+    let header = [0x20, 0x00, 0x10, 0x00, 0x08, 0x00, 0x00, 0x00];
+    assert_eq!(text(&header), "refused 1 page 0\n");
+    let header = [0x20, 0x00, 0x10, 0x00, 0x09, 0x00, 0x00, 0x00];
+    assert_eq!(text(&header), "refused 19 page 0\n");
+}
+
+#[test]
+fn other_offsets_are_refused() {
+    let image = case_3().image;
+    for offset in [0, 1, 7, 32_769, 65_544, 1 << 24, u32::MAX] {
+        assert_eq!(text(&dump(32, 16, offset, &image)), "refused 19 page 0\n");
+    }
+    let mut short = dump(32, 16, 600, &[]);
+    short.truncate(599);
+    assert_eq!(text(&short), "refused 19 page 0\n");
+}
+
+#[test]
+fn most_bytes_after_the_offset() {
+    let button = Button::formatted(256, 128, false);
+    assert_eq!(button.image.len(), 32_768);
+    let expected = "page 256 pages 128 used 2 files 0 directories 0\n";
+    assert_eq!(text(&dump(256, 128, 8, &button.image)), expected);
+    assert_eq!(text(&dump(256, 128, 32_768, &button.image)), expected);
+    let mut longer = button.image.clone();
+    longer.push(0);
+    for offset in [8, 32_768] {
+        let refused = text(&dump(256, 128, offset, &longer));
+        assert_eq!(refused, "refused 19 page 0\n");
+    }
+    let one_more = vec![0; 32_769];
+    assert_eq!(text(&dump(32, 16, 8, &one_more)), "refused 19 page 0\n");
+    let just = vec![0; 32_768];
+    assert_eq!(text(&dump(32, 16, 8, &just)), "refused 1 page 0\n");
+}
+
+/// The lines agree with the plan that the image was built from.
+#[test]
+fn generated_images() {
+    let mut rng = Rng::new(0x11);
+    for round in 0..300 {
+        let page_length = rng.between(32, 256) as u32;
+        let page_count = rng.between(2, 32_768 / page_length as usize) as u32;
+        let built = random_image(page_length, page_count, &mut rng);
+        let totals = built.totals;
+        let mut expected = format!(
+            "page {page_length} pages {page_count} used {} files {} directories {}\n",
+            totals.used, totals.files, totals.directories
+        );
+        for entry in &built.entries {
+            let listing = entry.listing;
+            let name = String::from_utf8(listing.name.to_le_bytes().to_vec()).expect("ASCII");
+            let attribute = ["-", if listing.extension == 127 { "h" } else { "r" }];
+            expected += &format!(
+                "{} {} {:03} {} {} {} {}\n",
+                listing.level,
+                name.replace(' ', ""),
+                listing.extension,
+                attribute[listing.attribute as usize],
+                listing.start,
+                listing.pages,
+                listing.length
+            );
+        }
+        let dump = dump(page_length as u16, page_count as u16, 8, &built.image);
+        assert_eq!(text(&dump), expected, "round {round}");
+    }
+}
+
+/// Any bytes give one line of refusal or the lines of an accepted image.
+#[test]
+fn any_bytes() {
+    let mut rng = Rng::new(0x12);
+    for _ in 0..2_000 {
+        let length = rng.below(600);
+        let mut bytes = rng.bytes(length);
+        if rng.chance(70) {
+            for (place, byte) in [32, 0, 16, 0, 8, 0, 0, 0].into_iter().enumerate() {
+                if let Some(slot) = bytes.get_mut(place) {
+                    *slot = byte;
+                }
+            }
+        }
+        let text = text(&bytes);
+        assert!(text.ends_with('\n'));
+        assert!(text.starts_with("refused ") || text.starts_with("page "));
+    }
+}

@@ -1,0 +1,587 @@
+//! Long seeded runs of format, put, delete and read, with what must hold after each call.
+
+mod common;
+
+use std::collections::{BTreeMap, BTreeSet};
+
+use common::{answer, Button, Seed};
+use referee::builder::pages::Pages;
+use referee::builder::plan::{Built, ChainOf};
+use referee::builder::random::random_image;
+use referee::rng::Rng;
+
+/// What the model knows of a file.
+#[derive(Clone, Debug, PartialEq, Eq)]
+struct File {
+    bytes: Vec<u8>,
+    read_only: bool,
+}
+
+/// The pages of a directory in chain order, each with the bytes of its entries.
+type Layout = Vec<(usize, Vec<Vec<u8>>)>;
+
+/// A button and the model of what it holds.
+struct World {
+    button: Button,
+    owners: Vec<u16>,
+    files: BTreeMap<Vec<u8>, File>,
+    /// The names that lead to each directory; the root's are empty.
+    directories: BTreeSet<Vec<u8>>,
+}
+
+/// A put that is expected to be done: where the entry and the file go.
+struct Expected {
+    layout: Layout,
+    file_pages: Vec<usize>,
+}
+
+impl World {
+    /// A freshly formatted button on an image of random bytes.
+    fn formatted(page_length: u32, page_count: u32, local: bool, rng: &mut Rng) -> World {
+        let mut button = Button::zeros(page_length, page_count);
+        button.image = rng.bytes(button.image.len());
+        let (done, owners) = button.format(local);
+        assert_eq!(done, answer(0, 0));
+        World {
+            button,
+            owners,
+            files: BTreeMap::new(),
+            directories: BTreeSet::from([Vec::new()]),
+        }
+    }
+
+    /// A generated image.
+    fn generated(built: &Built) -> World {
+        let button = Button::from(built);
+        let mut files = BTreeMap::new();
+        let mut directories = BTreeSet::from([Vec::new()]);
+        for entry in &built.entries {
+            if built.chains[entry.chain].of == ChainOf::Directory {
+                directories.insert(entry.path.clone());
+                continue;
+            }
+            let file = File {
+                bytes: entry.bytes.clone(),
+                read_only: entry.listing.attribute == 1,
+            };
+            files.insert(entry.path.clone(), file);
+        }
+        World {
+            owners: button.check().1,
+            button,
+            files,
+            directories,
+        }
+    }
+
+    /// The chain of pages from a start page, by the pointers in the image.
+    fn chain(&self, start: usize) -> Vec<usize> {
+        let pages = self.button.pages();
+        let mut chain = vec![start];
+        let mut next = pages.pointer(start);
+        while next != 0 {
+            chain.push(next);
+            assert!(chain.len() <= pages.geometry.page_count());
+            next = pages.pointer(next);
+        }
+        chain
+    }
+
+    /// The layout of the directory that starts at a page.
+    fn layout(&self, start: usize) -> Layout {
+        let pages = self.button.pages();
+        let entry_length = pages.geometry.entry_length();
+        let mut layout = Vec::new();
+        for (place, page) in self.chain(start).into_iter().enumerate() {
+            let mut body = pages.body(page);
+            if place == 0 {
+                body.drain(..pages.geometry.control_length());
+            }
+            let entries = body.chunks(entry_length).map(<[u8]>::to_vec).collect();
+            layout.push((page, entries));
+        }
+        layout
+    }
+
+    /// The start page of a directory, by the entries in the image; its names are known to be there.
+    fn directory_start(&self, names: &[u8]) -> usize {
+        let geometry = self.button.pages().geometry;
+        let mut start = 0;
+        for name in names.chunks(4) {
+            let layout = self.layout(start);
+            let entry = layout
+                .iter()
+                .flat_map(|(_, entries)| entries)
+                .find(|entry| entry[..4] == *name && entry[4] & 127 == 127)
+                .expect("the directory is there");
+            start = geometry.number_at(&entry[5..]);
+        }
+        start
+    }
+
+    /// The pages of a file, by the entries and pointers in the image.
+    fn file_pages(&self, path: &[u8]) -> Option<Vec<usize>> {
+        let (names, name) = path.split_at(path.len() - 5);
+        let layout = self.layout(self.directory_start(names));
+        let entry = layout
+            .iter()
+            .flat_map(|(_, entries)| entries)
+            .find(|entry| is_file(entry, name))?;
+        let geometry = self.button.pages().geometry;
+        Some(self.chain(geometry.number_at(&entry[5..])))
+    }
+
+    /// Whether the path's directories are there.
+    fn has_directory(&self, path: &[u8]) -> bool {
+        self.directories.contains(&path[..path.len() - 5])
+    }
+
+    /// Where a put of `length` bytes must go, counted from the owner table; none if there is no room.
+    fn expect_put(&self, path: &[u8], length: usize) -> Option<Expected> {
+        let geometry = self.button.pages().geometry;
+        let (names, name) = path.split_at(path.len() - 5);
+        let mut layout = self.layout(self.directory_start(names));
+        let old = self.file_pages(path).unwrap_or_default();
+        let is_free = |page: &usize| self.owners[*page] == 0 || old.contains(page);
+        let mut free = (0..self.owners.len()).filter(is_free);
+        let slot = if old.is_empty() {
+            let first = geometry.first_page_entries();
+            let later = geometry.continuation_entries();
+            let capacity = |place| if place == 0 { first } else { later };
+            let space = (0..layout.len()).find(|&place| layout[place].1.len() < capacity(place));
+            if space.is_none() {
+                layout.push((free.next()?, Vec::new()));
+            }
+            let place = space.unwrap_or(layout.len() - 1);
+            layout[place].1.push(Vec::new());
+            (place, layout[place].1.len() - 1)
+        } else {
+            find_entry(&layout, name)?
+        };
+        let needed = length.div_ceil(geometry.max_data()).max(1);
+        let file_pages: Vec<usize> = free.take(needed).collect();
+        if file_pages.len() < needed {
+            return None;
+        }
+        let mut entry = name.to_vec();
+        entry.extend(geometry.number_bytes(file_pages[0]));
+        entry.extend(geometry.number_bytes(needed));
+        layout[slot.0].1[slot.1] = entry;
+        Some(Expected { layout, file_pages })
+    }
+
+    /// The pages that hold the bitmap: page 0 or the bitmap file's.
+    fn bitmap_pages(&self) -> BTreeSet<usize> {
+        let file: BTreeSet<usize> = (0..self.owners.len())
+            .filter(|&page| self.owners[page] == 2)
+            .collect();
+        if file.is_empty() {
+            BTreeSet::from([0])
+        } else {
+            file
+        }
+    }
+
+    /// A bitmap file keeps its packets' lengths and pointers.
+    fn bitmap_file_keeps_lengths(&self, before: &Button) {
+        let (old, new) = (before.pages(), self.button.pages());
+        for page in (0..self.owners.len()).filter(|&page| self.owners[page] == 2) {
+            assert_eq!(old.body(page).len(), new.body(page).len());
+            assert_eq!(old.pointer(page), new.pointer(page));
+        }
+    }
+
+    /// Puts a file and demands what must hold afterwards.
+    fn put(&mut self, path: &[u8], bytes: &[u8]) -> u32 {
+        let number = match self.files.get(path) {
+            _ if !self.has_directory(path) => 15,
+            Some(file) if file.read_only => 16,
+            _ => 17,
+        };
+        let expected = if number == 17 {
+            self.expect_put(path, bytes.len())
+        } else {
+            None
+        };
+        let before = self.button.clone();
+        let (done, owners) = self.button.put(path, bytes);
+        self.owners = owners;
+        let Some(expected) = expected else {
+            assert_eq!(done, answer(number, 0));
+            return done.number;
+        };
+        assert_eq!(done, answer(0, 0));
+        self.files.insert(
+            path.to_vec(),
+            File {
+                bytes: bytes.to_vec(),
+                read_only: false,
+            },
+        );
+        self.placed(&before, path, bytes, &expected);
+        0
+    }
+
+    /// After a put: entry and file stand where they must, and nothing else has changed.
+    fn placed(&self, before: &Button, path: &[u8], bytes: &[u8], expected: &Expected) {
+        let names = &path[..path.len() - 5];
+        let start = self.directory_start(names);
+        assert_eq!(self.layout(start), expected.layout);
+        let chain = self.file_pages(path).unwrap_or_default();
+        assert_eq!(chain, expected.file_pages);
+        let pages = self.button.pages();
+        let most = pages.geometry.max_data();
+        for (place, &page) in chain.iter().enumerate() {
+            let part = bytes.chunks(most).nth(place).unwrap_or(&[]);
+            assert_eq!(pages.body(page), part);
+        }
+        let mut written = self.bitmap_pages();
+        written.extend(&chain);
+        written.extend(expected.layout.iter().map(|(page, _)| *page));
+        only_packets_changed(before, &self.button, &written);
+        self.bitmap_file_keeps_lengths(before);
+    }
+
+    /// Deletes a file and demands what must hold afterwards.
+    fn delete(&mut self, path: &[u8]) -> u32 {
+        let number = match self.files.get(path) {
+            _ if !self.has_directory(path) => 15,
+            None => 15,
+            Some(file) if file.read_only => 16,
+            Some(_) => 0,
+        };
+        let before = self.button.clone();
+        if number != 0 {
+            assert_eq!(self.button.delete(path).0, answer(number, 0));
+            return number;
+        }
+        let (names, name) = path.split_at(path.len() - 5);
+        let start = self.directory_start(names);
+        let mut layout = self.layout(start);
+        let (place, slot) = find_entry(&layout, name).expect("the entry is there");
+        layout[place].1.remove(slot);
+        let freed = self.file_pages(path).unwrap_or_default();
+        let (done, owners) = self.button.delete(path);
+        assert_eq!(done, answer(0, 0));
+        self.owners = owners;
+        self.files.remove(path);
+        assert_eq!(self.layout(start), layout);
+        assert!(freed.iter().all(|&page| self.owners[page] == 0));
+        let mut written = self.bitmap_pages();
+        written.insert(layout[place].0);
+        only_packets_changed(&before, &self.button, &written);
+        self.bitmap_file_keeps_lengths(&before);
+        0
+    }
+
+    /// Reads a file, or finds it absent, with an output that may be too short.
+    fn read(&self, path: &[u8], out_length: usize) {
+        let (length, owners) = {
+            let mut out = vec![0x6B; out_length];
+            let answer = self.button.read_into(path, &mut out);
+            if answer.0.number == 0 {
+                out.truncate(answer.0.length as usize);
+                assert_eq!(Some(&out), self.files.get(path).map(|file| &file.bytes));
+            }
+            answer
+        };
+        let expected = match self.files.get(path) {
+            None => 15,
+            Some(file) if file.bytes.len() > out_length => 18,
+            Some(_) => 0,
+        };
+        assert_eq!((length.number, length.page), (expected, 0));
+        assert_eq!(owners, self.owners);
+    }
+
+    /// Calls with malformed paths are 14 and change nothing.
+    fn malformed(&mut self, path: &[u8]) {
+        assert_eq!(self.button.put(path, b"new").0, answer(14, 0));
+        assert_eq!(self.button.delete(path).0, answer(14, 0));
+        assert_eq!(self.button.read(path).0, 14);
+    }
+
+    /// The model agrees with check, list and read, and the table with the counts.
+    fn verify(&self) {
+        let (totals, owners) = self.button.check();
+        assert_eq!(totals.number, 0);
+        assert_eq!(owners, self.owners);
+        assert_eq!(totals.files as usize, self.files.len());
+        assert_eq!(totals.directories as usize, self.directories.len() - 1);
+        let used = owners.iter().filter(|&&owner| owner != 0).count();
+        assert_eq!(totals.used as usize, used);
+        let mut names: Vec<u8> = Vec::new();
+        let mut seen = BTreeSet::new();
+        for (position, listing) in self.button.list_all().into_iter().enumerate() {
+            names.truncate(4 * listing.level as usize);
+            let mut path = names.clone();
+            path.extend(listing.name.to_le_bytes());
+            let owner = 3 + position as u16;
+            let owned = owners.iter().filter(|&&other| other == owner).count();
+            assert_eq!(owners[listing.start as usize], owner);
+            if listing.extension == 127 {
+                assert!(self.directories.contains(&path));
+                assert_eq!((listing.pages, listing.length), (0, 0));
+                names = path;
+                continue;
+            }
+            path.push(listing.extension as u8);
+            let file = self.files.get(&path).expect("the model has the file");
+            assert_eq!(listing.attribute == 1, file.read_only);
+            assert_eq!(listing.length as usize, file.bytes.len());
+            assert_eq!(listing.pages as usize, owned);
+            assert_eq!(self.button.read(&path), (0, file.bytes.clone()));
+            assert!(seen.insert(path));
+        }
+        assert_eq!(seen.len(), self.files.len());
+    }
+}
+
+/// Whether an entry is the file of this name and extension number (five bytes).
+fn is_file(entry: &[u8], name: &[u8]) -> bool {
+    entry[..4] == name[..4] && entry[4] & 127 == name[4]
+}
+
+/// The place of a file's entry in a directory: page and entry in it, both counted from 0.
+fn find_entry(layout: &Layout, name: &[u8]) -> Option<(usize, usize)> {
+    for (place, (_, entries)) in layout.iter().enumerate() {
+        if let Some(slot) = entries.iter().position(|entry| is_file(entry, name)) {
+            return Some((place, slot));
+        }
+    }
+    None
+}
+
+/// Only the packets of these pages may differ; every other byte of the image stays.
+fn only_packets_changed(before: &Button, after: &Button, written: &BTreeSet<usize>) {
+    for page in 0..before.page_count as usize {
+        let (old, new) = (before.page(page), after.page(page));
+        let packet = if written.contains(&page) {
+            3 + usize::from(new[0])
+        } else {
+            0
+        };
+        assert_eq!(old[packet..], new[packet..], "page {page}");
+    }
+}
+
+/// A length in bytes that is often near the limits of packets and sometimes too long for the button.
+fn random_length(pages: &Pages, rng: &mut Rng) -> usize {
+    let most = pages.geometry.max_data();
+    let count = pages.geometry.page_count();
+    match rng.below(10) {
+        0 => 0,
+        1 => most,
+        2 => most + 1,
+        3 => 2 * most,
+        4 => rng.below(most * count + 2),
+        5 => rng.below(most * count / 4 + 2),
+        _ => rng.below(3 * most),
+    }
+}
+
+/// A path of a file that is there, or of a new one in a directory that is there or missing.
+fn random_path(world: &World, rng: &mut Rng) -> Vec<u8> {
+    let existing: Vec<&Vec<u8>> = world.files.keys().collect();
+    if rng.chance(40) {
+        if let Some(path) = rng.pick(&existing) {
+            return path.to_vec();
+        }
+    }
+    let directories: Vec<&Vec<u8>> = world.directories.iter().collect();
+    let mut path = rng
+        .pick(&directories)
+        .map(|names| names.to_vec())
+        .unwrap_or_default();
+    if rng.chance(5) && path.len() < 32 {
+        path.extend(*b"NONE");
+    }
+    path.extend([
+        b'A' + rng.below(6) as u8,
+        b'0' + rng.below(8) as u8,
+        b' ',
+        b' ',
+    ]);
+    path.push([0, 1, 99][rng.below(3)]);
+    path
+}
+
+/// A malformed path made from a well-formed one.
+fn malformed_path(world: &World, rng: &mut Rng) -> Vec<u8> {
+    let mut path = random_path(world, rng);
+    match rng.below(4) {
+        0 => {
+            path.pop();
+        }
+        1 => path.insert(0, b'A'),
+        2 => {
+            let last = path.len() - 1;
+            path[last] = rng.between(100, 255) as u8;
+        }
+        _ => {
+            let place = rng.below((path.len() - 1) / 4) * 4;
+            path[place] = b' ';
+        }
+    }
+    path
+}
+
+/// One random call.
+fn step(world: &mut World, rng: &mut Rng) -> u32 {
+    let path = random_path(world, rng);
+    match rng.below(100) {
+        0..=54 => {
+            let length = random_length(&world.button.pages(), rng);
+            let bytes = rng.bytes(length);
+            world.put(&path, &bytes)
+        }
+        55..=79 => world.delete(&path),
+        80..=93 => {
+            let length = world.files.get(&path).map_or(0, |file| file.bytes.len());
+            let out_length = (length + rng.below(6)).saturating_sub(rng.below(4));
+            world.read(&path, out_length);
+            0
+        }
+        _ => {
+            let malformed = malformed_path(world, rng);
+            world.malformed(&malformed);
+            14
+        }
+    }
+}
+
+/// A run of random calls; the numbers of their answers are counted.
+fn run(world: &mut World, steps: usize, rng: &mut Rng, counts: &mut [u32; 20]) {
+    world.verify();
+    for _ in 0..steps {
+        let number = step(world, rng);
+        counts[number as usize] += 1;
+        if world.files.len() <= 10 || rng.chance(6) {
+            world.verify();
+        }
+    }
+    world.verify();
+}
+
+/// Puts one-page files until there is no room: then no page is free, or one and the directory has no space.
+fn fill_up(world: &mut World, rng: &mut Rng) {
+    let mut number = 0;
+    for count in 0.. {
+        let name = format!("{count:04}");
+        let mut path = name.into_bytes();
+        path.push(7);
+        let length = rng.below(world.button.page_length as usize - 5);
+        let bytes = rng.bytes(length);
+        number = world.put(&path, &bytes);
+        if number != 0 {
+            break;
+        }
+    }
+    assert_eq!(number, 17);
+    let free = world.owners.iter().filter(|&&owner| owner == 0).count();
+    assert!(free <= 1);
+    world.verify();
+}
+
+#[test]
+fn formatted_buttons() {
+    let mut counts = [0; 20];
+    let lengths = [32, 33, 37, 39, 48, 64, 127, 128, 255, 256];
+    let sizes = [
+        2, 3, 4, 5, 8, 16, 30, 31, 32, 33, 64, 100, 255, 256, 257, 300,
+    ];
+    let mut seed = 10_000;
+    for page_length in lengths {
+        for page_count in sizes {
+            for local in [true, false] {
+                if local && page_count >= 32 {
+                    continue;
+                }
+                seed += 1;
+                let _seed = Seed(seed);
+                let mut rng = Rng::new(seed);
+                let mut world = World::formatted(page_length, page_count, local, &mut rng);
+                run(&mut world, 120, &mut rng, &mut counts);
+                if page_length <= 48 || page_count <= 64 {
+                    fill_up(&mut world, &mut rng);
+                }
+            }
+        }
+    }
+    for number in [0, 14, 15, 17] {
+        assert!(counts[number] > 100, "number {number}: {}", counts[number]);
+    }
+}
+
+#[test]
+fn generated_buttons() {
+    let mut counts = [0; 20];
+    for seed in 20_000..20_400 {
+        let _seed = Seed(seed);
+        let mut rng = Rng::new(seed);
+        let page_length = if rng.chance(60) {
+            rng.between(32, 64)
+        } else {
+            rng.between(65, 256)
+        };
+        let most = [12, 31, 80, 256, 400][rng.below(5)];
+        let page_count = rng.between(2, most);
+        let built = random_image(page_length as u32, page_count as u32, &mut rng);
+        let mut world = World::generated(&built);
+        run(&mut world, 40, &mut rng, &mut counts);
+    }
+    for number in [0, 14, 15, 16, 17] {
+        assert!(counts[number] > 100, "number {number}: {}", counts[number]);
+    }
+}
+
+/// One long run on each of some buttons.
+#[test]
+fn long_runs() {
+    let buttons = [
+        (32, 16, true),
+        (32, 31, true),
+        (32, 16, false),
+        (40, 60, false),
+        (32, 270, false),
+        (128, 24, true),
+    ];
+    for (place, (page_length, page_count, local)) in buttons.into_iter().enumerate() {
+        let seed = 30_000 + place as u64;
+        let _seed = Seed(seed);
+        let mut rng = Rng::new(seed);
+        let mut counts = [0; 20];
+        let mut world = World::formatted(page_length, page_count, local, &mut rng);
+        run(&mut world, 2_500, &mut rng, &mut counts);
+        assert!(counts[0] > 300, "done {}", counts[0]);
+    }
+}
+
+/// Format over a used button gives an empty one, and the files are gone.
+#[test]
+fn format_again() {
+    for seed in 40_000..40_060 {
+        let _seed = Seed(seed);
+        let mut rng = Rng::new(seed);
+        let page_count = rng.between(2, 300) as u32;
+        let page_length = rng.between(32, 256) as u32;
+        let built = random_image(page_length, page_count, &mut rng);
+        let mut world = World::generated(&built);
+        let before = world.button.clone();
+        let local = rng.chance(50);
+        let (done, owners) = world.button.format(local);
+        if local && page_count >= 32 {
+            assert_eq!(done, answer(4, 0));
+            assert_eq!(owners, world.owners);
+            continue;
+        }
+        assert_eq!(done, answer(0, 0));
+        let written: BTreeSet<usize> = (0..owners.len()).filter(|&p| owners[p] != 0).collect();
+        only_packets_changed(&before, &world.button, &written);
+        world.owners = owners;
+        world.files.clear();
+        world.directories = BTreeSet::from([Vec::new()]);
+        world.verify();
+        run(&mut world, 20, &mut rng, &mut [0; 20]);
+    }
+}
