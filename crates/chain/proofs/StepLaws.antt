@@ -9,12 +9,14 @@ use lib.ListN.{length, getD, take, drop}
 use borrow.Author.Tests.{lt-ltb, le-ltb, ltb-true, eq-eqb, ne-eqb}
 use Rattle.geometry.specs.declared.Geometry.{Geometry}
 use Rattle.geometry.specs.ChooseLaws.{choose-true, choose-false, on-choose}
+use Rattle.geometry.specs.Geometry.{Fit}
 use Rattle.geometry.specs.Page.{pageOf}
+use Rattle.geometry.specs.PageLaws.{page-length}
 use Rattle.packet.specs.declared.Judged.{Judged}
 use Rattle.packet.specs.declared.Judged.the-variants.{Whole, Bad}
-use Rattle.packet.specs.Judged.{judged}
+use Rattle.packet.specs.Judged.{frameOf, judged}
 use Rattle.packet.specs.Packet.{Packet, bad, good, View, packetOf, viewOf}
-use Rattle.packet.specs.Reading.{Right, right-packet}
+use Rattle.packet.specs.Reading.{Right, right-packet, frame-right}
 use Rattle.rules.specs.Result.{Res, ok, err, andThen, refuse-unless}
 use Rattle.rules.specs.ResultLaws.{then-ok, then-err, refuse-true, refuse-false}
 use Rattle.rules.specs.Chain.{Body, packetAt, Test}
@@ -27,7 +29,7 @@ use Rattle.chain.specs.declared.Step.the-variants as step
 use Rattle.chain.specs.declared.Entered.{Entered}
 use Rattle.chain.specs.declared.Entered.the-variants as enter
 use Rattle.chain.specs.Steps.{after, passed, stepOf}
-use Rattle.chain.specs.Claims.{isOwned, enterOf, entered}
+use Rattle.chain.specs.Claims.{IsGood, isOwned, enterOf, entered}
 
 -- ---- a step
 judged-bad : (k : Packet) → judged k ≡ Bad → k ≡ bad
@@ -48,24 +50,40 @@ module _ (g : Geometry) (v : View) (c : Cursor) where
     unfolding stepOf
     step-bad′ e = simp (stepOf, lt-ltb (c .page) (g .pages) h, choose-true, e)
 
-    step-page′ : (b : List ℕ) (n : ℕ) → v (c .page) ≡ good b n → step.Page (length b) (after c n) ≡ stepOf g v c
+    step-page′ : (b : List ℕ) (n : ℕ) → v (c .page) ≡ good b n → step.Page (length b) (after c (length b) n) ≡ stepOf g v c
     unfolding stepOf
     step-page′ b n e = simp (stepOf, lt-ltb (c .page) (g .pages) h, choose-true, e)
 
 -- the page as the code cuts and judges it
-module _ (g : Geometry) (image : List ℕ) (c : Cursor) (page : List ℕ) (e : page ≡ pageOf g (c .page) image) (h : c .page < g .pages) (r : Judged)
-    (q : r ≡ judged (packetOf (g .width) (c .page) page)) where
-  view-is : viewOf g image (c .page) ≡ packetOf (g .width) (c .page) page
+module _ (g : Geometry) (image : List ℕ) (p : ℕ) (page : List ℕ) (e : page ≡ pageOf g p image) where
+  pub judged-there : (r : Judged) → r ≡ judged (packetOf (g .width) p page) → r ≡ judged (viewOf g image p)
   unfolding viewOf
-  view-is = ap (packetOf (g .width) (c .page)) (sym e)
+  judged-there r q = q ∙ ap (λ (l : List ℕ). judged (packetOf (g .width) p l)) e
 
-  pub step-bad : r ≡ Bad → step.Refused 2 (c .page) ≡ stepOf g (viewOf g image) c
-  step-bad z = step-bad′ g (viewOf g image) c h (view-is ∙ judged-bad _ (sym q ∙ z))
+  framed-case : (k : Packet) → viewOf g image p ≡ k → IsGood k → frameOf (g .width) page ≡ viewOf g image p
+  unfolding viewOf
+  framed-case bad q h = absurd h
+  framed-case (good b n) q h = frame-right (g .width) p page b n (ap (packetOf (g .width) p) e ∙ q) ∙ sym q
 
-  pub step-page : (len next : ℕ) → r ≡ Whole len next → step.Page len (after c next) ≡ stepOf g (viewOf g image) c
+  pub framed-there : (r : Judged) → r ≡ judged (frameOf (g .width) page) → IsGood (viewOf g image p) → r ≡ judged (viewOf g image p)
+  framed-there r q h = q ∙ ap judged (framed-case (viewOf g image p) refl h)
+
+module _ (g : Geometry) (v : View) (c : Cursor) (h : c .page < g .pages) (r : Judged) (q : r ≡ judged (v (c .page))) where
+  pub step-bad : r ≡ Bad → step.Refused 2 (c .page) ≡ stepOf g v c
+  step-bad z = step-bad′ g v c h (judged-bad _ (sym q ∙ z))
+
+  pub step-page : (len next : ℕ) → r ≡ Whole len next → step.Page len (after c len next) ≡ stepOf g v c
   step-page len next z =
-      let k = judged-whole (packetOf (g .width) (c .page) page) len next (sym q ∙ z) in
-      subst (λ (l : ℕ). step.Page l (after c next) ≡ stepOf g (viewOf g image) c) (k .2) (step-page′ g (viewOf g image) c h (k .0) next (view-is ∙ k .1))
+      let k = judged-whole (v (c .page)) len next (sym q ∙ z) in
+      subst (λ (l : ℕ). step.Page l (after c l next) ≡ stepOf g v c) (k .2) (step-page′ g v c h (k .0) next (k .1))
+
+-- a packet's data are fewer than 256 bytes
+pub data-small : (g : Geometry) (image : List ℕ) (p : ℕ) → Fit g image → p < g .pages → (r : Judged) → r ≡ judged (viewOf g image p) → (len next : ℕ) → r ≡ Whole len next → len < 256
+unfolding viewOf
+data-small g image p f h r q len next z =
+    let k = judged-whole (viewOf g image p) len next (sym q ∙ z) in
+    let x = right-packet (g .width) p (pageOf g p image) (k .0) next (k .1) in
+    omega (arith, x .room, k .2, page-length g image p f h, f .valid .most)
 
 -- ---- what a step that was taken says
 pub record Taken (g : Geometry) (v : View) (c : Cursor) (size : ℕ) (d : Cursor) : Type 0 where
@@ -73,7 +91,7 @@ pub record Taken (g : Geometry) (v : View) (c : Cursor) (size : ℕ) (d : Cursor
   pub bytes : List ℕ
   pub shows : v (c .page) ≡ good bytes (d .page)
   pub long : length bytes ≡ size
-  pub is : d ≡ after c (d .page)
+  pub is : d ≡ after c size (d .page)
 
 module _ (g : Geometry) (v : View) (c : Cursor) where
   pub taken : (size : ℕ) (d : Cursor) → step.Page size d ≡ stepOf g v c → Taken g v c size d
@@ -85,9 +103,10 @@ module _ (g : Geometry) (v : View) (c : Cursor) where
       go : c .page < g .pages → (k : Packet) → v (c .page) ≡ k → passed c k ≡ step.Page size d → Taken g v c size d
       go h bad s e = absurd (let z : _≡_ {A = ℕ} 0 1 = cc in omega arith)
       go h (good b n) s e =
-          let i : after c n ≡ d = cc in
+          let i : after c (length b) n ≡ d = cc in
           let j : n ≡ d .page = ap (λ (x : Cursor). x .page) i in
-          record { inside = h; bytes = b; shows = s ∙ ap (good b) j; long = cc; is = sym i ∙ ap (after c) j }
+          let l : length b ≡ size = cc in
+          record { inside = h; bytes = b; shows = s ∙ ap (good b) j; long = l; is = sym i ∙ ap₂ (after c) l j }
 
   packet-bad : (p : ℕ) → v p ≡ bad → packetAt v p ≡ err 2 p
   unfolding packetAt
@@ -116,7 +135,7 @@ module _ (g : Geometry) (v : View) (c : Cursor) where
     unfolding enterOf faultAt
     enter-on r z e =
         let e′ : test (c .count) (c .page) (k .bytes) ≡ ok tt = e ∙ ap (λ (x : ℕ). faultAt x (c .page)) z in
-        simp (enterOf, lt-ltb (c .page) (g .pages) (k .inside), refuse-true, then-ok, packet-good v (c .page) (k .bytes) (d .page) (k .shows), e′) (ap enter.On (k .is))
+        simp (enterOf, lt-ltb (c .page) (g .pages) (k .inside), refuse-true, then-ok, packet-good v (c .page) (k .bytes) (d .page) (k .shows), e′) (ap enter.On (k .is ∙ ap (λ (l : ℕ). after c l (d .page)) (sym (k .long))))
 
 -- a page entered, from what the code cuts and asks
 module _ (g : Geometry) (image : List ℕ) (c : Cursor) (size : ℕ) (d : Cursor) (s : step.Page size d ≡ stepOf g (viewOf g image) c) (page : List ℕ) (e : page ≡ pageOf g (c .page) image) where

@@ -2,13 +2,13 @@
 use mathlib.Core.Path.{_≡_}
 use mathlib.Core.Bool.{Bool, not}
 use mathlib.Core.List.{List, []}
-use Prim.Native.Nat.{ℕ, suc, _+_}
+use Prim.Native.Nat.{ℕ, suc, _+_, _*_, _≤_, _<_}
 use lib.Dec.{ltb, eqb}
 use lib.ListN.{length, getD}
 use Rattle.geometry.specs.declared.Geometry.{Geometry}
-use Rattle.packet.specs.Packet.{View}
+use Rattle.packet.specs.Packet.{Packet, bad, good, View}
 use Rattle.rules.specs.Result.{Res, ok, err, andThen as _>>=_, andAfter as _>>_, refuse-unless}
-use Rattle.rules.specs.Chain.{Link, pages, Body, packetAt, Test, walk}
+use Rattle.rules.specs.Chain.{Link, pages, content, Body, packetAt, Test, walk}
 use Rattle.rules.specs.Owners.{own}
 use Rattle.rules.specs.OwnerLaws.{Represents}
 use Rattle.chain.specs.declared.Cursor.{Cursor}
@@ -17,6 +17,16 @@ use Rattle.chain.specs.declared.Entered.the-variants as enter
 use Rattle.chain.specs.declared.Claim.{Claim}
 use Rattle.chain.specs.declared.Claim.the-variants as claim
 use Rattle.chain.specs.Steps.{after}
+
+-- a page that holds a right packet
+abbrev pub IsGood : Packet → Type 0
+IsGood bad = ⊥
+IsGood (good b n) = Unit {0}
+
+-- the counts of a position fit their types
+pub record Counted (c : Cursor) : Type 0 where
+  pub few : c .count < 65536
+  pub small : c .bytes ≤ 256 * c .count
 
 -- a page has an owner in the table
 unfoldable pub isOwned : List ℕ → ℕ → Bool
@@ -31,15 +41,16 @@ enterOf g v test c = do
   ok x
 
 abbrev pub entered : Cursor → Res Body → Entered
-entered c (ok x) = enter.On (after c (x .next))
+entered c (ok x) = enter.On (after c (length (x .bytes)) (x .next))
 entered c (err n p) = enter.Refused n p
 
--- the answer r with the table u agrees with the walk's answer, where k pages were passed before and the table then was t
-abbrev pub Agrees : ℕ → ℕ → List ℕ → Res (List Link) → Claim → List ℕ → Type 0
-Agrees k owner t walked (claim.Pages n) u = (ls : List Link) × (walked ≡ ok ls) × (n ≡ k + length ls) × (u ≡ own owner (pages ls) t)
-Agrees k owner t walked (claim.Refused n p) u = walked ≡ err n p
+-- the answer r with the table u agrees with the walk's answer, where k pages and m bytes were passed before and the table then was t
+abbrev pub Agrees : ℕ → ℕ → ℕ → List ℕ → Res (List Link) → Claim → List ℕ → Type 0
+Agrees k m owner t walked (claim.Chain n b) u =
+    (ls : List Link) × (walked ≡ ok ls) × (n ≡ k + length ls) × (b ≡ m + length (content ls)) × (u ≡ own owner (pages ls) t)
+Agrees k m owner t walked (claim.Refused n p) u = walked ≡ err n p
 
 -- for every list of claimed pages that the table represents, the answer is the walk's
 abbrev pub Claims : Geometry → View → Test → ℕ → ℕ → ℕ → List ℕ → Claim → List ℕ → Type 0
 Claims g v test owner from start t r u =
-    (claimed : List ℕ) → Represents t claimed → Agrees 0 owner t (walk (g .pages) v test (suc (g .pages)) 0 claimed from start) r u
+    (claimed : List ℕ) → Represents t claimed → Agrees 0 0 owner t (walk (g .pages) v test (suc (g .pages)) 0 claimed from start) r u

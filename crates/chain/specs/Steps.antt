@@ -10,15 +10,15 @@ use Rattle.chain.specs.declared.Step.{Step}
 use Rattle.chain.specs.declared.Step.the-variants.{Page, Refused}
 
 abbrev pub firstStep : ℕ → ℕ → Cursor
-firstStep p from = record { page = p; from = from; count = 0 }
+firstStep p from = record { page = p; from = from; count = 0; bytes = 0 }
 
--- the position after the page of c, whose pointer is n
-abbrev pub after : Cursor → ℕ → Cursor
-after c n = record { page = n; from = c .page; count = c .count + 1 }
+-- the position after the page of c, which has so many data bytes and the pointer n
+abbrev pub after : Cursor → ℕ → ℕ → Cursor
+after c size n = record { page = n; from = c .page; count = c .count + 1; bytes = c .bytes + size }
 
 abbrev pub passed : Cursor → Packet → Step
 passed c bad = Refused 2 (c .page)
-passed c (good b n) = Page (length b) (after c n)
+passed c (good b n) = Page (length b) (after c (length b) n)
 
 -- a step: the page's number (6, told with the page that holds it), then its packet (2)
 unfoldable pub stepOf : Geometry → View → Cursor → Step

@@ -3,20 +3,23 @@ use directory::control::Kind;
 use geometry::Geometry;
 use packet::Judged;
 ghost use mathlib.Core.Path.{_≡_};
+ghost use mathlib.Core.Bool.{true};
 ghost use Prim.Native.Nat.{_+_, _<_};
 ghost use lib.ListN.{length};
 ghost use Rattle.geometry.specs.Geometry.{Fit};
 ghost use Rattle.packet.specs.Packet.{viewOf};
+ghost use Rattle.packet.specs.Judged.{judged};
 ghost use Rattle.rules.specs.OwnerLaws.{inUse};
 ghost use Rattle.directory.specs.Faults.{testOf};
 ghost use Rattle.chain.specs.Steps.{firstStep, stepOf};
-ghost use Rattle.chain.specs.Claims.{isOwned, entered, enterOf, Claims};
+ghost use Rattle.chain.specs.Claims.{IsGood, Counted, isOwned, entered, enterOf, Claims};
 
-// A position in a chain: the page to come, the page that holds its number, and how many pages were passed.
+// A position in a chain: the page to come, the page that holds its number, and how many pages and data bytes were passed.
 pub struct Cursor {
     pub page: usize,
     pub from: usize,
     pub count: usize,
+    pub bytes: usize,
 }
 
 // One step: the page that was passed has so many data bytes, and the next position. The chain ends where the next page is 0.
@@ -32,10 +35,23 @@ pub enum Entered {
     Refused(u8, usize),
 }
 
-// A chain claimed: its number of pages.
+// A chain claimed: its pages and its data bytes.
 pub enum Claim {
-    Pages(usize),
+    Chain(usize, usize),
     Refused(u8, usize),
+}
+
+// The packet of a page. Of a page that is known to hold a right one the check is not computed again.
+fn packet_at(image: &[u8], g: Geometry, page: usize, known: bool) -> Judged
+    requires { ⌜ Fit g (now image) ⌝ }
+    requires { ⌜ (page < g .pages) × (known ≡ true → IsGood (viewOf g (now image) page)) ⌝ }
+    ensures { λ r. ⌜ r ≡ judged (viewOf g (now (image .entry)) page) ⌝ }
+{
+    let b = geometry::page_of(image, g, page);
+    if known {
+        return packet::frame(b, g.width);
+    }
+    packet::judge(b, page, g.width)
 }
 
 impl Cursor {
@@ -47,20 +63,21 @@ impl Cursor {
             page,
             from,
             count: 0,
+            bytes: 0,
         }
     }
 
     // Passes the page to come: its number (6), then its packet (2).
-    pub fn step(self, image: &[u8], g: Geometry) -> Step
+    pub fn step(self, image: &[u8], g: Geometry, known: bool) -> Step
         requires { ⌜ Fit g (now image) ⌝ }
-        requires { ⌜ self .count < 65536 ⌝ }
+        requires { ⌜ Counted self × (known ≡ true → IsGood (viewOf g (now image) (self .page))) ⌝ }
         ensures { λ r. ⌜ r ≡ stepOf g (viewOf g (now (image .entry))) self ⌝ }
     {
         let page = self.page;
         if g.pages <= page {
             return Step::Refused(6, self.from);
         }
-        match packet::judge(geometry::page_of(image, g, page), page, g.width) {
+        match packet_at(image, g, page, known) {
             Judged::Bad => Step::Refused(2, page),
             Judged::Whole { length, next } => Step::Page(
                 length,
@@ -68,6 +85,7 @@ impl Cursor {
                     page: next,
                     from: page,
                     count: self.count + 1,
+                    bytes: self.bytes + length,
                 },
             ),
         }
@@ -76,11 +94,11 @@ impl Cursor {
     // Passes the page to come and judges it by the kind of its chain.
     pub fn enter(self, image: &[u8], g: Geometry, kind: Kind) -> Entered
         requires { ⌜ Fit g (now image) ⌝ }
-        requires { ⌜ self .count < 65536 ⌝ }
+        requires { ⌜ Counted self ⌝ }
         ensures { λ r. ⌜ r ≡ entered self (enterOf g (viewOf g (now (image .entry))) (testOf g kind) self) ⌝ }
     {
         let page = self.page;
-        match self.step(image, g) {
+        match self.step(image, g, false) {
             Step::Refused(number, told) => Entered::Refused(number, told),
             Step::Page(size, next) => {
                 let bytes = packet::data_of(geometry::page_of(image, g, page), size);
@@ -132,7 +150,7 @@ pub fn claim_chain(
             Entered::On(next) => {
                 owners[page] = owner as u16;
                 if next.page == 0 {
-                    return Claim::Pages(next.count);
+                    return Claim::Chain(next.count, next.bytes);
                 }
                 c = next;
             }

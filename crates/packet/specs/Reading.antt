@@ -7,10 +7,11 @@ use native.Mathlib.Omega.{arith}
 use lib.Dec.{leb, eqb}
 use lib.ListN.{length, getD, take, drop, length-drop}
 use lib.Seq.{length-take-le}
-use borrow.Author.Tests.{leb-true}
-use Rattle.geometry.specs.ChooseLaws.{on-choose}
+use borrow.Author.Tests.{leb-true, le-leb}
+use Rattle.geometry.specs.ChooseLaws.{choose-true, on-choose}
 use Rattle.geometry.specs.Number.{number}
 use Rattle.packet.specs.Packet.{Packet, bad, good, checkOf, pointerOf, isPacket, packetOf}
+use Rattle.packet.specs.Judged.{frameOf}
 
 pub record Right (n : ℕ) (page bytes : List ℕ) (next : ℕ) : Type 0 where
   pub room : length bytes + n + 3 ≤ length page
@@ -44,4 +45,12 @@ right-packet n p page bytes next e =
     let a : take (getD page 0 0 - n) (drop 1 page) ≡ bytes = cc in
     let b : pointerOf n (getD page 0 0) page ≡ next = cc in
     subst (λ (x : ℕ). Right n page bytes x) b (subst (λ (l : List ℕ). Right n page l (pointerOf n (getD page 0 0) page)) a (right-of n (getD page 0 0) page (l .0) (l .1))))
+    (λ q e. absurd (let z : _≡_ {A = ℕ} 0 1 = cc in omega arith))
+
+-- a right packet is right by its length alone
+pub frame-right : (n p : ℕ) (page bytes : List ℕ) (next : ℕ) → packetOf n p page ≡ good bytes next → frameOf n page ≡ good bytes next
+unfolding packetOf frameOf
+frame-right n p page bytes next e =
+    on-choose (isPacket n p page) (good (take (getD page 0 0 - n) (drop 1 page)) (pointerOf n (getD page 0 0) page)) bad (good bytes next) e
+    (λ q e. let l = lengths n p page q in simp (le-leb n (getD page 0 0) (l .0), le-leb (getD page 0 0 + 3) (length page) (l .1), choose-true) e)
     (λ q e. absurd (let z : _≡_ {A = ℕ} 0 1 = cc in omega arith))

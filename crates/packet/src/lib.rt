@@ -5,7 +5,7 @@ ghost use Prim.Native.Nat.{ℕ, _+_, _*_, _≤_, _<_};
 ghost use lib.ListN.{length, take, drop};
 ghost use Rattle.geometry.specs.Geometry.{Fit};
 ghost use Rattle.packet.specs.Packet.{packetOf, written, writePage, write};
-ghost use Rattle.packet.specs.Judged.{judged};
+ghost use Rattle.packet.specs.Judged.{frameOf, judged};
 
 // What a page holds.
 pub enum Judged {
@@ -15,10 +15,10 @@ pub enum Judged {
     Bad,
 }
 
-// Judges the packet in the page with number p.
-pub fn judge(page: &[u8], p: usize, n: usize) -> Judged
-    requires { ⌜ (1 ≤ n) × (n ≤ 2) × (p < 65536) × (0 < length (now page)) ⌝ }
-    ensures { λ r. ⌜ r ≡ judged (packetOf n p (now (page .entry))) ⌝ }
+// Length and pointer of the packet in a page; its check is not computed.
+pub fn frame(page: &[u8], n: usize) -> Judged
+    requires { ⌜ (1 ≤ n) × (n ≤ 2) × (0 < length (now page)) ⌝ }
+    ensures { λ r. ⌜ r ≡ judged (frameOf n (now (page .entry))) ⌝ }
 {
     let size = geometry::wide(page[0]);
     if size < n {
@@ -27,15 +27,27 @@ pub fn judge(page: &[u8], p: usize, n: usize) -> Judged
     if page.len() < size + 3 {
         return Judged::Bad;
     }
-    let end = size + 1;
-    let register = crc16::crc_of(p as u16, &page[..end]);
-    let stored = geometry::number_at(page, end, 2);
-    if stored != 65535 - (register as usize) {
-        return Judged::Bad;
-    }
     Judged::Whole {
         length: size - n,
-        next: geometry::number_at(page, end - n, n),
+        next: geometry::number_at(page, size + 1 - n, n),
+    }
+}
+
+// Judges the packet in the page with number p: its length, then its check.
+pub fn judge(page: &[u8], p: usize, n: usize) -> Judged
+    requires { ⌜ (1 ≤ n) × (n ≤ 2) × (p < 65536) × (0 < length (now page)) ⌝ }
+    ensures { λ r. ⌜ r ≡ judged (packetOf n p (now (page .entry))) ⌝ }
+{
+    match frame(page, n) {
+        Judged::Bad => Judged::Bad,
+        Judged::Whole { length, next } => {
+            let end = length + n + 1;
+            let register = crc16::crc_of(p as u16, &page[..end]);
+            if geometry::number_at(page, end, 2) != 65535 - (register as usize) {
+                return Judged::Bad;
+            }
+            Judged::Whole { length, next }
+        }
     }
 }
 

@@ -7,7 +7,7 @@ use lib.ListN.{length, length-set}
 use Rattle.packet.specs.Packet.{viewOf}
 use Rattle.rules.specs.OwnerLaws.{Represents, taken, represents-taken, inUse}
 use Rattle.directory.specs.Faults.{testOf}
-use Rattle.chain.proofs.Claiming.{has-owner, no-owner, inside, counted-on, Held, held-first, counts, crossed, refused, last, again, leaves-room}
+use Rattle.chain.proofs.Claiming.{has-owner, no-owner, inside, counted-on, Held, held-first, counts, crossed, refused, last, again, leaves-room, stays-small}
 use borrow.Author.Needs.{needs}
 use Rattle.chain.proofs.claim_chain.Statement.{statement}
 use Rattle.chain.proofs.claim_chain.Tie as tie
@@ -29,7 +29,8 @@ enter-requires c κs =
     let s = c .before .before .before .before .before .before .before in
     let l = c .before .before .before .loop in
     let n = counts _ _ _ _ _ _ _ _ _ _ (l .inv .1 (taken (s .args .owners .now)) (represents-taken (s .args .owners .now))) (l .inv .0) in
-    (s .pre .0, omega arith)
+    let h = l .inv .1 (taken (s .args .owners .now)) (represents-taken (s .args .owners .now)) in
+    (s .pre .0, record { few = omega arith; small = h .small })
 
 returns-2 : tie.Need-returns-2 Inv-loop μ-loop
 returns-2 c = λ claimed h.
@@ -76,7 +77,7 @@ loop-again c =
     let l = c .before .before .before .before .before .before .before .before .before .loop in (
       length-set (l .owners) _ _ ∙ l .inv .0,
       λ claimed h. again _ _ _ _ _ _ _ _ _ _ (l .inv .1 claimed h) (l .inv .0) (no-owner _ _ _ (c .before .before .before .before .before .before .before .is-owned .ensures) (c .before .before .before .before .before .before .if1 .left)) _
-          (sym (c .before .before .before .next .given .1) ∙ c .before .before .before .before .before .enter .ensures) (c .if2 .left) (c .before .before .before .before .before .before .before .before .before .before .before .before .before .pre .1 .1) (omega arith),
+          (sym (c .before .before .before .next .given .1) ∙ c .before .before .before .before .before .enter .ensures) (c .if2 .left) (c .before .before .before .before .before .before .before .before .before .before .before .before .before .pre .1 .1) (omega arith) (stays-small _ _ _ _ _ (c .before .before .before .before .before .before .before .before .before .before .before .before .before .pre .0) (sym (c .before .before .before .next .given .1) ∙ c .before .before .before .before .before .enter .ensures) (l .inv .1 claimed h .small)),
     )
 
 pub claim-chain-spec : {M : Type 1} → statement M

@@ -4,6 +4,9 @@ use borrow.Author.Needs.{needs}
 use Rattle.chain.proofs.Cursor.enter.Statement.{statement}
 use Rattle.chain.proofs.Cursor.enter.Tie as tie
 
+step-requires : tie.Need-step-requires
+step-requires c κs = (c .before .pre .0, (c .before .pre .1, λ z. absurd (mathlib.Core.Bool.false≢true z)))
+
 page-of-requires : tie.Need-page-of-requires
 page-of-requires c κs =
     let k = taken _ _ _ _ _ (sym (c .before .size .given .1) ∙ c .before .before .before .step .ensures) in
@@ -28,4 +31,4 @@ returns-3 c =
 pub enter-spec : {M : Type 1} → statement M
 enter-spec =
     tie.close
-    (tie.spec (λ c κs. search needs) (λ c. search needs) (λ c. search needs) page-of-requires data-of-requires (λ c κs. search needs) returns returns-2 returns-3)
+    (tie.spec step-requires (λ c. search needs) (λ c. search needs) page-of-requires data-of-requires (λ c κs. search needs) returns returns-2 returns-3)

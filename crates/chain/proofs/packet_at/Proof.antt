@@ -1,0 +1,29 @@
+use mathlib.Core.Path.{ap}
+use native.Mathlib.Omega.{arith}
+use lib.ListN.{length}
+use Rattle.geometry.specs.PageLaws.{page-length}
+use Rattle.chain.proofs.StepLaws.{judged-there, framed-there}
+use borrow.Author.Needs.{needs}
+use Rattle.chain.proofs.packet_at.Statement.{statement}
+use Rattle.chain.proofs.packet_at.Tie as tie
+
+frame-requires : tie.Need-frame-requires
+frame-requires c κs =
+    let s = c .before .before .before in
+    omega (arith, ap length (c .before .page-of .ensures), page-length (s .args .g) (s .args .image .now) (s .args .page) (s .pre .0) (s .pre .1 .0))
+
+returns : tie.Need-returns
+returns c = framed-there _ _ _ _ (c .before .before .page-of .ensures) _ (c .frame .ensures) (c .before .before .before .before .pre .1 .1 (c .before .if1 .taken))
+
+judge-requires : tie.Need-judge-requires
+judge-requires c κs =
+    let s = c .before .before .before in
+    omega (arith, ap length (c .before .page-of .ensures), page-length (s .args .g) (s .args .image .now) (s .args .page) (s .pre .0) (s .pre .1 .0))
+
+returns-2 : tie.Need-returns-2
+returns-2 c = judged-there _ _ _ _ (c .before .before .page-of .ensures) _ (c .judge .ensures)
+
+pub packet-at-spec : {M : Type 1} → statement M
+packet-at-spec =
+    tie.close
+    (tie.spec (λ c κs. search needs) frame-requires returns judge-requires returns-2)
