@@ -6,12 +6,13 @@ use Prim.Native.Nat.{ℕ, zero, suc, _+_, _-_, _*_, _%_, _≤_, _<_}
 use native.Mathlib.Omega.{arith}
 use lib.Dec.{leb, eqb}
 use lib.ListN.{length, getD, take, drop, length-drop, drop-of-length-le}
-use lib.Seq.{take-nil, take-take, drop-drop}
+use lib.Seq.{take-take, drop-drop}
 use borrow.Author.Tests.{le-leb, lt-leb, lt-ltb, le-ltb, eq-eqb, ne-eqb}
 use Rattle.geometry.specs.declared.Geometry.{Geometry}
 use Rattle.geometry.specs.Choose.{choose}
 use Rattle.geometry.specs.ChooseLaws.{choose-true, choose-false}
 use Rattle.geometry.specs.Geometry.{controlSize}
+use Rattle.geometry.specs.ListLaws.{drop-take}
 use Rattle.geometry.specs.Number.{number}
 use Rattle.rules.specs.Result.{Res, ok, err, andThen, refuse-unless}
 use Rattle.rules.specs.Chain.{anyPage}
@@ -21,11 +22,6 @@ use Rattle.directory.specs.declared.control.Root.the-variants.{Local, Re
 use Rattle.directory.specs.declared.control.Kind.{Kind}
 use Rattle.directory.specs.declared.control.Kind.the-variants as kind
 use Rattle.directory.specs.Faults.{faultAt, place, control, testOf, WholeFault, PageFault, SubFault}
-
-drop-take : (k m : ℕ) (l : List ℕ) → drop k (take (k + m) l) ≡ take m (drop k l)
-drop-take zero m l = let e : 0 + m ≡ m = omega arith in rw e
-drop-take (suc k) m [] = ap (drop (suc k)) (take-nil (suc k + m)) ∙ sym (take-nil m)
-drop-take (suc k) m (x ∷ l) = let e : suc k + m ≡ suc (k + m) = omega arith in rw e (drop-take k m l)
 
 -- a part of the four bitmap bytes, read from the page
 pub in-field : (n k j : ℕ) (b : List ℕ) → k + j ≤ 4 → take j (drop k (fieldAt n b)) ≡ take j (drop (n + 2 + k) b)

@@ -6,3 +6,4 @@ pub mod ChooseLaws
 pub mod NumberLaws
 pub mod PageLaws
 pub mod Capacities
+pub mod ListLaws

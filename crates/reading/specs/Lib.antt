@@ -1,0 +1,14 @@
+pub mod BoolLaws
+pub mod ByteLaws
+pub mod EntryLaws
+pub mod TokenLaws
+pub mod LabelLaws
+pub mod PacketLaws
+pub mod ControlLaws
+pub mod SubControlLaws
+pub mod Directory
+pub mod DirectorySound
+pub mod DirectoryComplete
+pub mod CheckSound
+pub mod CheckComplete
+pub mod Accepted
