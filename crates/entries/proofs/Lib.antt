@@ -1,0 +1,3 @@
+pub mod SeatLaws
+pub mod KeyLaws
+pub mod Looking

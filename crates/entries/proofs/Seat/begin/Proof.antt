@@ -1,0 +1,25 @@
+use mathlib.Core.Path.{refl, sym, _∙_}
+use Rattle.entries.proofs.SeatLaws.{never-refused, open-is, none-left}
+use borrow.Author.Needs.{needs}
+use Rattle.entries.proofs.Seat.begin.Statement.{statement}
+use Rattle.entries.proofs.Seat.begin.Tie as tie
+
+returns : tie.Need-returns
+returns c =
+    let s = c .before .before .before .before .pre .1 in
+    absurd (never-refused _ _ _ (s .1) (s .2) _ _ (sym (c .enum-told .given .1) ∙ c .before .before .step .ensures))
+
+returns-2 : tie.Need-returns-2
+returns-2 c =
+    let s = c .before .before .before .before .before .before .before .pre .1 in
+    open-is _ _ _ (s .1) _ _ _ _ _ (sym (c .before .before .before .size .given .1) ∙ c .before .before .before .before .before .step .ensures) (c .entry-size .ensures .0) refl
+
+returns-3 : tie.Need-returns-3
+returns-3 c =
+    let s = c .before .before .before .before .before .before .pre .1 in
+    open-is _ _ _ (s .1) _ _ _ _ _ (sym (c .before .before .size .given .1) ∙ c .before .before .before .before .step .ensures) refl (none-left _ _ _ (c .if1 .left))
+
+pub begin-spec : {M : Type 1} → statement M
+begin-spec =
+    tie.close
+    (tie.spec (λ c κs. search needs) (λ c. search needs) (λ c. search needs) (λ c κs. search needs) (λ c. search needs) returns returns-2 returns-3)

@@ -1,0 +1,64 @@
+-- For contracts: a place in a directory, and the keys of the entries before it.
+use mathlib.Core.Path.{_≡_}
+use mathlib.Core.Bool.{Bool}
+use mathlib.Core.List.{List, [], _∷_, _++_}
+use Prim.Native.Nat.{ℕ, zero, suc, _+_, _-_, _*_, _/_, _≤_, _<_}
+use lib.ListN.{length, getD, take, drop}
+use Rattle.geometry.specs.declared.Geometry.{Geometry}
+use Rattle.geometry.specs.Geometry.{entrySize, controlSize}
+use Rattle.geometry.specs.Number.{number}
+use Rattle.packet.specs.Packet.{Packet, bad, good, View}
+use Rattle.rules.specs.declared.Entry.{Entry}
+use Rattle.rules.specs.PageSets.{count, mem}
+use Rattle.rules.specs.Chain.{Link, link, pages, first, linked}
+use Rattle.rules.specs.ChainLaws.{rest}
+use Rattle.rules.specs.Names.{key, entryOf}
+use Rattle.rules.specs.WellFormed.{Stand}
+use Rattle.chain.specs.declared.Cursor.{Cursor}
+use Rattle.chain.specs.Steps.{after}
+use Rattle.entries.specs.declared.Seat.{Seat}
+
+-- the keys of the first m entries in bytes
+abbrev pub keysFrom : Geometry → ℕ → List ℕ → List ℕ
+keysFrom g zero b = []
+keysFrom g (suc m) b = key (number (take 4 b)) (getD b 4 0) ∷ keysFrom g m (drop (entrySize g) b)
+
+-- the keys of a directory's entries in chain order, the control field skipped
+abbrev pub chainKeys : Geometry → ℕ → List Link → List ℕ
+chainKeys g skip [] = []
+chainKeys g skip (link p b ∷ ls) = keysFrom g (length (drop skip b) / entrySize g) (drop skip b) ++ chainKeys g 0 ls
+
+-- the entries of a place lie in its page
+pub record Fits (g : Geometry) (s : Seat) : Type 0 where
+  pub inside : s .page < g .pages
+  pub room : 1 + s .skip + entrySize g * s .count ≤ g .size
+
+-- a place at the first entry of a page
+abbrev pub opened : Geometry → ℕ → Cursor → Packet → Seat
+opened g skip c bad = record { page = c .page; skip = skip; count = 0; at = 0; next = c }
+opened g skip c (good b n) = record { page = c .page; skip = skip; count = length (drop skip b) / entrySize g; at = 0; next = after c (length b) n }
+
+unfoldable pub openOf : Geometry → View → ℕ → Cursor → Seat
+openOf g v skip c = opened g skip c (v (c .page))
+
+abbrev pub advanced : Seat → Seat
+advanced s = record { page = s .page; skip = s .skip; count = s .count; at = s .at + 1; next = s .next }
+
+-- a directory's chain from its start page on
+pub record IsDirectoryChain (g : Geometry) (v : View) (start : ℕ) (ls : List Link) : Type 0 where
+  pub some : 0 < length ls
+  pub begins : first ls ≡ start
+  pub stand : Stand v (linked ls)
+  pub within : (x : ℕ) → 1 ≤ count x (pages ls) → x < g .pages
+  pub few : length ls ≤ g .pages
+  pub onward : count 0 (pages (rest ls)) ≡ 0
+
+-- there is such a chain, and it has so many entries
+pub record Known (g : Geometry) (v : View) (start m : ℕ) : Type 0 where
+  pub links : List Link
+  pub chain : IsDirectoryChain g v start links
+  pub enough : m ≤ length (chainKeys g (controlSize g) links)
+
+-- whether one of the first m entries of the directory from `start` on has this key
+abbrev pub Repeats : Geometry → View → ℕ → ℕ → ℕ → Bool → Type 0
+Repeats g v start m k r = (ls : List Link) → IsDirectoryChain g v start ls → m ≤ length (chainKeys g (controlSize g) ls) → r ≡ mem k (take m (chainKeys g (controlSize g) ls))

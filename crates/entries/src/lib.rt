@@ -1,0 +1,142 @@
+// The entries of a directory, page by page, and the search for a second entry of one name.
+use chain::Cursor;
+use chain::Step;
+use geometry::Geometry;
+use rules::Entry;
+ghost use mathlib.Core.Path.{_≡_};
+ghost use Prim.Native.Nat.{_+_, _*_, _≤_, _<_, min};
+ghost use mathlib.Core.List.{List};
+ghost use lib.ListN.{length, drop};
+ghost use Rattle.geometry.specs.Geometry.{entrySize, controlSize, Fit, Valid};
+ghost use Rattle.geometry.specs.Page.{pageOf};
+ghost use Rattle.packet.specs.Packet.{viewOf};
+ghost use Rattle.rules.specs.PageSets.{mem};
+ghost use Rattle.rules.specs.Names.{key, entryOf};
+ghost use Rattle.chain.specs.Claims.{Counted, IsGood};
+ghost use Rattle.entries.specs.Seats.{keysFrom, Fits, openOf, advanced, Known, Repeats};
+
+// A place in a directory: a page, the bytes before its entries, how many it has and the next of them; the position of the page after it.
+pub struct Seat {
+    pub page: usize,
+    pub skip: usize,
+    pub count: usize,
+    pub at: usize,
+    pub next: Cursor,
+}
+
+// Name and extension number as one number.
+pub fn key_of(name: u32, extension: u8) -> u64
+    ensures { λ r. ⌜ r ≡ key name extension ⌝ }
+{
+    (name as u64) * 128 + ((extension % 128) as u64)
+}
+
+impl Seat {
+    // At the first entry of a page that is known to hold a right packet.
+    pub fn begin(c: Cursor, skip: usize, image: &[u8], g: Geometry) -> Seat
+        requires { ⌜ Fit g (now image) ⌝ }
+        requires { ⌜ Counted c × (c .page < g .pages) × IsGood (viewOf g (now image) (c .page)) × (skip ≤ 31) ⌝ }
+        ensures { λ r. ⌜ r ≡ openOf g (viewOf g (now (image .entry))) skip c ⌝ }
+    {
+        let page = c.page;
+        match c.step(image, g, true) {
+            Step::Refused(_, _) => Seat {
+                page,
+                skip,
+                count: 0,
+                at: 0,
+                next: c,
+            },
+            Step::Page(size, next) => {
+                let mut count = 0;
+                if skip <= size {
+                    count = (size - skip) / g.entry_size();
+                }
+                Seat {
+                    page,
+                    skip,
+                    count,
+                    at: 0,
+                    next,
+                }
+            }
+        }
+    }
+
+    // Past one entry.
+    pub fn past(self) -> Seat
+        requires { ⌜ self .at < self .count ⌝ }
+        ensures { λ r. ⌜ r ≡ advanced self ⌝ }
+    {
+        let next = self.next;
+        Seat {
+            page: self.page,
+            skip: self.skip,
+            count: self.count,
+            at: self.at + 1,
+            next,
+        }
+    }
+
+    // The next entry.
+    pub fn entry(self, image: &[u8], g: Geometry) -> Entry
+        requires { ⌜ Fit g (now image) ⌝ }
+        requires { ⌜ Fits g self × (self .at < self .count) ⌝ }
+        ensures { λ r. ⌜ (r ≡ entryOf (g .width) (drop (1 + self .skip + entrySize g * self .at) (pageOf g (self .page) (now (image .entry))))) × (r .start < 65536) × (r .pages < 65536) ⌝ }
+    {
+        let at = 1 + self.skip + g.entry_size() * self.at;
+        directory::entries::entry_at(geometry::page_of(image, g, self.page), at, g.width)
+    }
+}
+
+// Whether one of the first m entries that stand from a place of a page on has this key.
+fn page_has(page: &[u8], from: usize, m: usize, key: u64, g: Geometry) -> bool
+    requires { ⌜ Valid g ⌝ }
+    requires { ⌜ (from + entrySize g * m ≤ length (now page)) × (length (now page) ≤ 256) ⌝ }
+    ensures { λ r. ⌜ r ≡ mem key (keysFrom g m (drop from (now (page .entry)))) ⌝ }
+{
+    let mut at = from;
+    let mut i = 0;
+    while i < m {
+        let name = geometry::number_at(page, at, 4);
+        if key_of(name as u32, page[at + 4]) == key {
+            return true;
+        }
+        at += g.entry_size();
+        i += 1;
+    }
+    false
+}
+
+// The lesser of two numbers.
+fn least(a: usize, b: usize) -> usize
+    ensures { λ r. ⌜ r ≡ min a b ⌝ }
+{
+    if a < b {
+        return a;
+    }
+    b
+}
+
+// Whether one of the first m entries of a directory has this key.
+pub fn is_repeated(image: &[u8], g: Geometry, start: usize, m: usize, key: u64) -> bool
+    requires { ⌜ Fit g (now image) ⌝ }
+    requires { ⌜ Known g (viewOf g (now image)) start m ⌝ }
+    ensures { λ r. ⌜ Repeats g (viewOf g (now (image .entry))) start m key r ⌝ }
+{
+    let mut seat = Seat::begin(Cursor::new(start, start), g.control_size(), image, g);
+    let mut left = m;
+    loop {
+        let count = seat.count;
+        let page = geometry::page_of(image, g, seat.page);
+        if page_has(page, 1 + seat.skip, least(left, count), key, g) {
+            return true;
+        }
+        if left <= count {
+            return false;
+        }
+        left -= count;
+        let next = seat.next;
+        seat = Seat::begin(next, 0, image, g);
+    }
+}
