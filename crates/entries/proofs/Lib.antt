@@ -1,3 +1,4 @@
 pub mod SeatLaws
 pub mod KeyLaws
+pub mod Seated
 pub mod Looking

@@ -10,7 +10,8 @@ use Rattle.rules.specs.PageSets.{mem}
 use Rattle.rules.specs.Chain.{Link}
 use Rattle.entries.specs.Seats.{chainKeys, IsDirectoryChain, Known}
 use Rattle.entries.proofs.KeyLaws.{entry-least}
-use Rattle.entries.proofs.Looking.{Looking, begins, started, counts-on, searched, found, not-found, next-good, look-on}
+use Rattle.entries.proofs.Seated.{begins, counts-on}
+use Rattle.entries.proofs.Looking.{Looking, started, searched, found, not-found, next-good, look-on}
 use borrow.Author.Needs.{needs}
 use Rattle.entries.proofs.is_repeated.Statement.{statement}
 use Rattle.entries.proofs.is_repeated.Tie as tie
@@ -33,13 +34,13 @@ page-of-requires : tie.Need-page-of-requires Inv-loop μ-loop
 page-of-requires c κs =
     let s = c .before .before .before .before .before .pre in
     let l = c .loop .inv (s .1 .links) (s .1 .chain) (s .1 .enough) in
-    (s .0, l .fits .inside)
+    (s .0, l .seated .fits .inside)
 
 add-page-has : tie.Need-add-page-has Inv-loop μ-loop
 add-page-has c =
     let s = c .before .before .before .before .before .before .before .pre in
     let l = c .before .before .loop .inv (s .1 .links) (s .1 .chain) (s .1 .enough) in
-    let r = l .fits .room in
+    let r = l .seated .fits .room in
     let k = s .0 .valid .most in
     search needs
 
@@ -47,7 +48,7 @@ page-has-requires : tie.Need-page-has-requires Inv-loop μ-loop
 page-has-requires c κs =
     let s = c .before .before .before .before .before .before .before .before .pre in
     let l = c .before .before .before .loop .inv (s .1 .links) (s .1 .chain) (s .1 .enough) in
-    (s .0 .valid, searched _ _ (s .0) (c .before .before .before .loop .seat) _ _ _ (l .fits) (c .before .before .page-of .ensures) (c .least .ensures))
+    (s .0 .valid, searched _ _ (s .0) (c .before .before .before .loop .seat) _ _ _ (l .seated .fits) (c .before .before .page-of .ensures) (c .least .ensures))
 
 returns : tie.Need-returns Inv-loop μ-loop
 returns c = λ ls d n.
@@ -64,7 +65,7 @@ begin-requires-2 c κs =
     let s = c .before .before .before .before .before .before .before .before .before .before .before .before .pre in
     let l = c .before .before .before .before .before .before .before .loop .inv (s .1 .links) (s .1 .chain) (s .1 .enough) in
     let k = next-good _ _ (s .0) _ _ _ _ _ l (entry-least _ (s .0 .valid)) _ (c .before .before .before .before .before .before .page-of .ensures) _ (c .before .before .before .before .least .ensures) _ (c .before .before .before .page-has .ensures) (c .before .before .if1 .left) (c .before .if2 .left) in
-    (s .0, (l .counted, k .0, k .1, omega arith))
+    (s .0, (l .seated .counted, k .0, k .1, omega arith))
 
 loop-less : tie.Need-loop-less Inv-loop μ-loop
 loop-less c =
@@ -79,7 +80,7 @@ loop-again : tie.Need-loop-again Inv-loop μ-loop
 loop-again c = λ ls d n.
     let s = c .before .before .before .before .before .before .before .before .before .before .before .before .before .pre in
     let q = c .before .before .before .before .before .before .before .before .loop in
-    look-on _ _ (s .0) _ _ _ _ _ (q .inv ls d n) (entry-least _ (s .0 .valid)) _ (c .before .before .before .before .before .before .before .page-of .ensures) _ (c .before .before .before .before .before .least .ensures) _ (c .before .before .before .before .page-has .ensures) (c .before .before .before .if1 .left) _ (c .begin2 .ensures) (c .before .before .if2 .left) (d .few) (s .0 .valid .few)
+    look-on _ _ (s .0) _ _ _ _ _ (q .inv ls d n) (entry-least _ (s .0 .valid)) _ (c .before .before .before .before .before .before .before .page-of .ensures) _ (c .before .before .before .before .before .least .ensures) _ (c .before .before .before .before .page-has .ensures) (c .before .before .before .if1 .left) _ (c .begin2 .ensures) (c .before .before .if2 .left) (d .few)
 
 pub is-repeated-spec : {M : Type 1} → statement M
 is-repeated-spec =

@@ -1,0 +1,122 @@
+-- A place in a directory whose chain stands: the page it is at, the pages to come.
+use mathlib.Core.Path.{_≡_, refl, ap, sym, _∙_, subst}
+use mathlib.Core.List.{List, [], _∷_, _++_}
+use Prim.Native.Nat.{ℕ, zero, suc, _+_, _-_, _*_, _/_, _≤_, _<_}
+use native.Mathlib.Omega.{arith}
+use lib.ListN.{length, take, drop, length-take}
+use Rattle.geometry.specs.declared.Geometry.{Geometry}
+use Rattle.geometry.specs.Geometry.{entrySize, controlSize, Fit}
+use Rattle.geometry.specs.Page.{pageOf}
+use Rattle.packet.specs.Packet.{Packet, bad, good, View, viewOf}
+use Rattle.packet.specs.Reading.{Right, right-packet}
+use Rattle.rules.specs.PageSets.{count}
+use Rattle.rules.specs.PageSetLaws.{hit-same}
+use Rattle.rules.specs.Chain.{Link, link, pages, first, linked}
+use Rattle.rules.specs.WellFormed.{Stand}
+use Rattle.chain.specs.declared.Cursor.{Cursor}
+use Rattle.chain.specs.Claims.{IsGood, Counted}
+use Rattle.chain.specs.Steps.{firstStep, after}
+use Rattle.entries.specs.declared.Seat.{Seat}
+use Rattle.entries.specs.Seats.{Fits, opened, openOf, advanced, IsDirectoryChain}
+use Rattle.entries.proofs.SeatLaws.{seat-fits}
+
+-- a place in the page with these bytes, these pages to come, in a chain of so many
+pub record Seated (g : Geometry) (v : View) (total : ℕ) (s : Seat) (bytes : List ℕ) (more : List Link) : Type 0 where
+  pub here : v (s .page) ≡ good bytes (first more)
+  pub count-is : s .count ≡ length (drop (s .skip) bytes) / entrySize g
+  pub next-is : s .next .page ≡ first more
+  pub stand : Stand v (linked more)
+  pub within : (x : ℕ) → 1 ≤ count x (pages more) → x < g .pages
+  pub onward : count 0 (pages more) ≡ 0
+  pub passed : s .next .count + length more ≡ total
+  pub counted : Counted (s .next)
+  pub fits : Fits g s
+
+-- a packet's data are fewer than 256 bytes
+pub small-view : (g : Geometry) (image : List ℕ) → Fit g image → (p : ℕ) (b : List ℕ) (n : ℕ) → viewOf g image p ≡ good b n → length b < 256
+unfolding viewOf pageOf
+small-view g image f p b n e =
+    let r = right-packet (g .width) p (take (g .size) (drop (p * g .size) image)) b n e in
+    omega (arith, r .room, length-take (g .size) (drop (p * g .size) image), f .valid .most)
+
+pub open-good : (g : Geometry) (v : View) (skip : ℕ) (c : Cursor) (b : List ℕ) (n : ℕ) → v (c .page) ≡ good b n → openOf g v skip c ≡ opened g skip c (good b n)
+unfolding openOf
+open-good g v skip c b n e = ap (opened g skip c) e
+
+-- past an entry
+pub seated-past : (g : Geometry) (v : View) (total : ℕ) (s : Seat) (b : List ℕ) (ls : List Link) → Seated g v total s b ls → Seated g v total (advanced s) b ls
+seated-past g v total s b ls h = record {
+  here = h .here;
+  count-is = h .count-is;
+  next-is = h .next-is;
+  stand = h .stand;
+  within = h .within;
+  onward = h .onward;
+  passed = h .passed;
+  counted = h .counted;
+  fits = record { inside = h .fits .inside; room = h .fits .room };
+}
+
+module _ (g : Geometry) (image : List ℕ) (fit : Fit g image) where
+  abbrev v : View
+  v = viewOf g image
+
+  -- at the first entry of a page that stands
+  seat-at : (total skip : ℕ) (c : Cursor) (b : List ℕ) (ls : List Link) → v (c .page) ≡ good b (first ls) → c .page < g .pages → skip ≤ 31 → Counted c → suc (c .count) < 65536
+      → Stand v (linked ls) → ((x : ℕ) → 1 ≤ count x (pages ls) → x < g .pages) → count 0 (pages ls) ≡ 0 → c .count + suc (length ls) ≡ total
+      → Seated g v total (opened g skip c (good b (first ls))) b ls
+  seat-at total skip c b ls e h i o y s w z p = record {
+    here = e;
+    count-is = refl;
+    next-is = refl;
+    stand = s;
+    within = w;
+    onward = z;
+    passed = omega arith;
+    counted = record { few = omega arith; small = omega (arith, o .small, small-view g image fit (c .page) b (first ls) e) };
+    fits = subst (Fits g) (open-good g v skip c b (first ls) e) (seat-fits g image skip c fit h i);
+  }
+
+  -- of a directory's first page
+  pub seated-first : (start skip p : ℕ) (b : List ℕ) (ls : List Link) → skip ≤ 31 → IsDirectoryChain g v start (link p b ∷ ls)
+      → (v start ≡ good b (first ls)) × Seated g v (suc (length ls)) (opened g skip (firstStep start start) (good b (first ls))) b ls
+  seated-first start skip p b ls i d =
+      let e : v start ≡ good b (first ls) = ap v (sym (d .begins)) ∙ d .stand .0 in (
+        e,
+        seat-at (suc (length ls)) skip (firstStep start start) b ls e (d .within start (omega (arith, ap (λ (x : ℕ). count x (p ∷ pages ls)) (sym (d .begins)), hit-same p))) i
+            (record { few = omega arith; small = omega arith }) (omega arith) (d .stand .1) (λ x e. d .within x (omega arith)) (d .onward) (omega arith),
+      )
+
+  -- the search or the walk begins
+  pub begins : (start skip : ℕ) (c : Cursor) (ls : List Link) → c ≡ firstStep start start → skip ≤ 8 → IsDirectoryChain g v start ls → Counted c × (c .page < g .pages) × IsGood (v (c .page)) × (skip ≤ 31)
+  begins start skip c [] q h d = absurd (omega (arith, d .some))
+  begins start skip c (link p b ∷ ls) q h d =
+      let i : c .page ≡ p = ap (λ (x : Cursor). x .page) q ∙ sym (d .begins) in
+      let n : c .count ≡ 0 = ap (λ (x : Cursor). x .count) q in
+      let m : c .bytes ≡ 0 = ap (λ (x : Cursor). x .bytes) q in
+      (record { few = omega arith; small = omega arith }, rw i (d .within p (omega (arith, hit-same p))), rw (i, d .stand .0) tt, omega arith)
+
+  module _ (total : ℕ) (s : Seat) (bytes : List ℕ) where
+    -- there is a next page
+    pub next-page : (more : List Link) → Seated g v total s bytes more → 0 < length more → (s .next .page < g .pages) × IsGood (v (s .next .page)) × (s .next .count < total)
+    next-page [] h l = absurd (omega arith)
+    next-page (link p b ∷ ls) h l =
+        let i = h .next-is in
+        (rw i (h .within p (omega (arith, hit-same p))), rw (i, h .stand .0) tt, omega (arith, h .passed))
+
+    -- and the place at its first entry
+    pub seated-next : (p : ℕ) (b : List ℕ) (ls : List Link) → Seated g v total s bytes (link p b ∷ ls) → total ≤ g .pages
+        → (v (s .next .page) ≡ good b (first ls)) × Seated g v total (opened g 0 (s .next) (good b (first ls))) b ls
+    seated-next p b ls h t =
+        let e : v (s .next .page) ≡ good b (first ls) = ap v (h .next-is) ∙ h .stand .0 in
+        let w = next-page (link p b ∷ ls) h (omega arith) in
+        (e, seat-at total 0 (s .next) b ls e (w .0) (omega arith) (h .counted) (omega (arith, fit .valid .few)) (h .stand .1) (λ x j. h .within x (omega arith)) (omega (arith, h .onward)) (omega (arith, h .passed)))
+
+  -- the page after has a count one higher
+  pub counts-on : (skip : ℕ) (c : Cursor) (s : Seat) → s ≡ openOf g v skip c → IsGood (v (c .page)) → s .next .count ≡ c .count + 1
+  unfolding openOf
+  counts-on skip c s e = go (v (c .page)) refl
+    where
+      go : (x : Packet) → v (c .page) ≡ x → IsGood x → s .next .count ≡ c .count + 1
+      go bad q k = absurd k
+      go (good b n) q k = ap (λ (x : Seat). x .next .count) (e ∙ ap (opened g skip c) q)

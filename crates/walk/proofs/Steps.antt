@@ -1,0 +1,146 @@
+-- A directory's entries, one by one: totals, owner table and what is left of them.
+use mathlib.Core.Path.{_≡_, refl, ap, ap₂, sym, _∙_, subst}
+use mathlib.Core.Bool.{Bool, true, false, not}
+use mathlib.Core.List.{List, [], _∷_, _++_}
+use Prim.Native.Nat.{ℕ, zero, suc, _+_, _-_, _≤_, _<_}
+use native.Mathlib.Omega.{arith}
+use lib.ListN.{length, length-append}
+use Rattle.geometry.specs.declared.Geometry.{Geometry}
+use Rattle.geometry.specs.Geometry.{controlSize}
+use Rattle.packet.specs.Packet.{View}
+use Rattle.rules.specs.declared.Entry.{Entry}
+use Rattle.rules.specs.declared.Totals.{Totals}
+use Rattle.rules.specs.Result.{Res, ok, err, andThen}
+use Rattle.rules.specs.ResultLaws.{then-ok, then-err}
+use Rattle.rules.specs.PageSets.{count, range, Within}
+use Rattle.rules.specs.PageSetLaws.{count-append}
+use Rattle.rules.specs.Chain.{Link, pages, Test, walk}
+use Rattle.rules.specs.ChainLaws.{length-pages}
+use Rattle.rules.specs.Names.{key}
+use Rattle.rules.specs.Tree.{Items, end, page, file, dir, Token, newPage, entry, linkTokens, ownPages, innerPages, allPages}
+use Rattle.rules.specs.Control.{Above}
+use Rattle.rules.specs.Owners.{fileCount, directoryCount, own, ownEntries}
+use Rattle.rules.specs.OwnerLaws.{Represents, inUse, represents-own, represents-entries, represents-length, represents-within, length-own, length-entries}
+use Rattle.rules.specs.Check.{Part, chain, directory, partPages, add, Judge, judgeEntry, judgeEntries, judgeDirectory, judgeSub}
+use Rattle.rules.specs.Soundness.{PartClear, entriesOf, entry-sound, entries-sound, sub-sound, pages-tokens}
+use Rattle.walk.specs.declared.Walk.{Walk}
+use Rattle.walk.specs.declared.Walk.the-variants as w
+use Rattle.walk.specs.Walks.{Good, Ready, Answers, plusEntries, plusDirectory, plusPart, ownDirectory, ownPart}
+
+-- ---- the table and the totals after one entry
+pub represents-directory : (owner k : ℕ) (d : Items) (t claimed : List ℕ) → 0 < owner → Represents t claimed
+    → ((z : ℕ) → count z (allPages d) + count z claimed ≤ count z (range (length t))) → Represents (ownDirectory owner k t d) (allPages d ++ claimed)
+represents-directory owner k d t claimed p h c =
+    let c′ : (z : ℕ) → count z (ownPages d) + count z (innerPages d) + count z claimed ≤ count z (range (length t)) = λ z. simp count-append at (c z) in
+    let a = represents-own owner (ownPages d) t claimed p h (λ z. omega (arith, c′ z)) in
+    let n = length-own owner (ownPages d) t in
+    let r = represents-entries k d (own owner (ownPages d) t) (ownPages d ++ claimed) a (λ z. rw n (simp count-append (omega (arith, c′ z)))) in
+    λ z. simp count-append (omega (arith, simp count-append at (r z)))
+
+pub represents-part : (k : ℕ) (x : Part) (t claimed : List ℕ) → Represents t claimed → ((z : ℕ) → count z (partPages x) + count z claimed ≤ count z (range (length t)))
+    → Represents (ownPart k t x) (partPages x ++ claimed)
+represents-part k (chain ls) t claimed h c = represents-own (3 + k) (pages ls) t claimed (omega arith) h c
+represents-part k (directory d) t claimed h c = represents-directory (3 + k) (suc k) d t claimed (omega arith) h c
+
+pub length-part : (k : ℕ) (x : Part) (t : List ℕ) → length (ownPart k t x) ≡ length t
+length-part k (chain ls) t = length-own (3 + k) (pages ls) t
+length-part k (directory d) t = length-entries (suc k) d (own (3 + k) (ownPages d) t) ∙ length-own (3 + k) (ownPages d) t
+
+used-part : (c : Totals) (x : Part) → plusPart c x .used ≡ length (partPages x) + c .used
+used-part c (chain ls) = omega (arith, length-pages ls)
+used-part c (directory d) = omega (arith, length-append (ownPages d) (innerPages d))
+
+count-part : (c : Totals) (x : Part) → plusPart c x .files + plusPart c x .directories ≡ entriesOf x + (c .files + c .directories)
+count-part c (chain ls) = omega arith
+count-part c (directory d) = omega arith
+
+pub good-part : (g : Geometry) (c : Totals) (x : Part) (t claimed : List ℕ) → Good g c t → Represents t claimed → length t ≡ g .pages → PartClear g claimed x
+    → Good g (plusPart c x) (ownPart (c .files + c .directories) t x)
+good-part g c x t claimed h r l k =
+    let p = represents-part (c .files + c .directories) x t claimed r (λ z. rw l (k .clear z)) in
+    let n = represents-length (ownPart (c .files + c .directories) t x) (partPages x ++ claimed) p in
+    let m = represents-length t claimed r in
+    let u = used-part c x in
+    let e = count-part c x in
+    record {
+      used-is = omega (arith, n, m, u, h .used-is, length-append (partPages x) claimed);
+      below = omega (arith, u, e, h .below, k .room);
+      spare = λ i. omega (arith, u, e, h .spare i, k .room);
+    }
+
+-- and after a directory's chain
+pub good-chain : (g : Geometry) (c : Totals) (owner n : ℕ) (t claimed : List ℕ) (ls : List Link) → Ready g c owner t → Represents t claimed → 0 < length ls → n ≡ length ls
+    → Represents (own owner (pages ls) t) (pages ls ++ claimed) → Good g (record { used = c .used + n; files = c .files; directories = c .directories }) (own owner (pages ls) t)
+good-chain g c owner n t claimed ls h r s e p =
+    let i = represents-length (own owner (pages ls) t) (pages ls ++ claimed) p in
+    let m = represents-length t claimed r in
+    record {
+      used-is = omega (arith, i, m, h .used-is, length-append (pages ls) claimed, length-pages ls);
+      below = omega (arith, h .below);
+      spare = λ j. omega (arith, h .spare j);
+    }
+
+-- ---- totals of what is left, and of all
+same-totals : (a b c d e f : ℕ) → a ≡ d → b ≡ e → c ≡ f → _≡_ {A = Totals} (record { used = a; files = b; directories = c }) (record { used = d; files = e; directories = f })
+same-totals a b c d e f p q r = λ i. record { used = p i; files = q i; directories = r i }
+
+totals-add : (c : Totals) (e : Entry) (x : Part) (t : Items) → plusEntries (plusPart c x) t ≡ plusEntries c (add e x t)
+totals-add c e (chain ls) t = same-totals _ _ _ _ _ _ (omega (arith, length-append (pages ls) (innerPages t), length-pages ls)) (omega arith) (omega arith)
+totals-add c e (directory d) t = same-totals _ _ _ _ _ _ (omega (arith, length-append (ownPages d) (innerPages d ++ innerPages t), length-append (innerPages d) (innerPages t))) (omega arith) (omega arith)
+
+table-add : (c : Totals) (e : Entry) (x : Part) (t : Items) (table : List ℕ)
+    → ownEntries (plusPart c x .files + plusPart c x .directories) t (ownPart (c .files + c .directories) table x) ≡ ownEntries (c .files + c .directories) (add e x t) table
+table-add c e (chain ls) t table = let q : c .files + 1 + c .directories ≡ suc (c .files + c .directories) = omega arith in rw q refl
+table-add c e (directory d) t table =
+    let q : c .files + fileCount d + (c .directories + 1 + directoryCount d) ≡ suc (c .files + c .directories) + (fileCount d + directoryCount d) = omega arith in
+    rw q refl
+
+module _ (g : Geometry) (v : View) (sub : Judge) (here : Above) where
+  -- the answer for the entries from here on, with the totals and the table so far
+  abbrev pub Rest : List ℕ → ℕ → List ℕ → List Token → Totals → List ℕ → Walk → List ℕ → Type 0
+  Rest claimed p seen ts c t r u = Answers (plusEntries c) (λ i. ownEntries (c .files + c .directories) i t) (judgeEntries g v sub here claimed p seen ts) r u
+
+  module _ (claimed : List ℕ) (p : ℕ) (seen : List ℕ) where
+    -- no entry is left
+    pub rest-end : (c : Totals) (t : List ℕ) → Rest claimed p seen [] c t (w.Done c) t
+    unfolding judgeEntries
+    rest-end c t = (end, refl, same-totals _ _ _ _ _ _ (omega arith) (omega arith) (omega arith), refl)
+
+    -- a page begins
+    pub rest-page : (q : ℕ) (ts : List Token) (c : Totals) (t : List ℕ) (r : Walk) (u : List ℕ) → Rest claimed q seen ts c t r u → Rest claimed p seen (newPage q ∷ ts) c t r u
+    unfolding judgeEntries
+    rest-page q ts c t (w.Done d) u (i, a, b, k) = (page q i, simp (a, then-ok), b, k)
+    rest-page q ts c t (w.Refused n f) u a = simp (a, then-err)
+
+    module _ (e : Entry) (ts : List Token) (c : Totals) (t : List ℕ) where
+      pub rest-refused : (n f : ℕ) (u : List ℕ) → judgeEntry g v sub here claimed p seen e ≡ err n f → Rest claimed p seen (entry e ∷ ts) c t (w.Refused n f) u
+      unfolding judgeEntries
+      rest-refused n f u a = simp (a, then-err)
+
+      -- an entry done
+      pub rest-entry : (x : Part) → judgeEntry g v sub here claimed p seen e ≡ ok x → (r : Walk) (u : List ℕ)
+          → Rest (partPages x ++ claimed) p (key (e .name) (e .extension) ∷ seen) ts (plusPart c x) (ownPart (c .files + c .directories) t x) r u → Rest claimed p seen (entry e ∷ ts) c t r u
+      unfolding judgeEntries
+      rest-entry x q (w.Done d) u (i, a, b, k) = (add e x i, simp (q, then-ok, a), b ∙ totals-add c e x i, k ∙ table-add c e x i t)
+      rest-entry x q (w.Refused n f) u a = simp (q, then-ok, a, then-err)
+
+-- ---- a directory: its chain, then its entries
+module _ (g : Geometry) (v : View) (levels : ℕ) (test : Test) (here : Above) (claimed : List ℕ) (from : ℕ) where
+  pub directory-refused : (n p : ℕ) → walk (g .pages) v test (suc (g .pages)) 0 claimed from (here .start) ≡ err n p → judgeDirectory g v (judgeSub g v levels) test here claimed from ≡ err n p
+  unfolding judgeDirectory
+  directory-refused n p e = simp (e, then-err)
+
+  pub directory-rest : (ls : List Link) (owner n : ℕ) (c : Totals) (t : List ℕ) → walk (g .pages) v test (suc (g .pages)) 0 claimed from (here .start) ≡ ok ls → n ≡ length ls → Within (g .pages) (pages ls ++ claimed)
+      → (r : Walk) (u : List ℕ)
+      → Rest g v (judgeSub g v levels) here (pages ls ++ claimed) (here .start) [] (linkTokens g (controlSize g) ls) (record { used = c .used + n; files = c .files; directories = c .directories }) (own owner (pages ls) t) r u
+      → Answers (plusDirectory c) (ownDirectory owner (c .files + c .directories) t) (judgeDirectory g v (judgeSub g v levels) test here claimed from) r u
+  unfolding judgeDirectory
+  directory-rest ls owner n c t e l f (w.Done d) u (i, a, b, k) =
+      let s = entries-sound g v (judgeSub g v levels) (sub-sound g v levels) here (linkTokens g (controlSize g) ls) (pages ls ++ claimed) (here .start) [] i f a in
+      let o : ownPages i ≡ pages ls = s .own-pages ∙ pages-tokens g (controlSize g) ls in (
+        i,
+        simp (e, then-ok, a),
+        b ∙ same-totals _ _ _ _ _ _ (omega (arith, l, ap length o, length-pages ls)) refl refl,
+        k ∙ ap (λ (x : List ℕ). ownEntries (c .files + c .directories) i (own owner x t)) (sym o),
+      )
+  directory-rest ls owner n c t e l f (w.Refused m p) u a = simp (e, then-ok, a)

@@ -1,0 +1,184 @@
+// The walk over a directory and all below it: every chain is claimed in the owner table, every entry judged, in the order of the check.
+use chain::Claim;
+use chain::Cursor;
+use directory::control::Kind;
+use entries::Seat;
+use geometry::Geometry;
+use rules::Entry;
+use rules::Totals;
+ghost use mathlib.Core.Path.{_≡_};
+ghost use mathlib.Core.List.{List};
+ghost use Prim.Native.Nat.{_+_, _≤_, _<_};
+ghost use lib.ListN.{length};
+ghost use Rattle.geometry.specs.Geometry.{Fit};
+ghost use Rattle.packet.specs.Packet.{viewOf};
+ghost use Rattle.directory.specs.Faults.{testOf};
+ghost use Rattle.entries.specs.Seats.{Known};
+ghost use Rattle.walk.specs.Walks.{Good, Ready, EntryFault, BelowFault, FileWalked, EntryWalked, DirectoryWalked};
+
+// What a walk answers: the totals so far, or a number of document 01 and the page told.
+pub enum Walk {
+    Done(Totals),
+    Refused(u8, usize),
+}
+
+// The fault of an entry's name or extension (9, 10), or that one of the m entries before it has them (11); 0 if there is none.
+fn entry_fault(image: &[u8], g: Geometry, start: usize, m: usize, e: Entry) -> u8
+    requires { ⌜ Fit g (now image) ⌝ }
+    requires { ⌜ Known g (viewOf g (now image)) start m ⌝ }
+    ensures { λ r. ⌜ EntryFault g (viewOf g (now (image .entry))) start m e r ⌝ }
+{
+    let fault = directory::entries::label_fault(e);
+    if fault != 0 {
+        return fault;
+    }
+    if entries::is_repeated(image, g, start, m, entries::key_of(e.name, e.extension)) {
+        return 11;
+    }
+    0
+}
+
+// The fault of a subdirectory's entry: too deep (12), its count (8), its start page (6); 0 if there is none.
+fn below_fault(levels: usize, e: Entry) -> u8
+    ensures { λ r. ⌜ BelowFault levels e r ⌝ }
+{
+    if levels == 0 {
+        return 12;
+    }
+    if e.pages != 0 {
+        return 8;
+    }
+    if e.start == 0 {
+        return 6;
+    }
+    0
+}
+
+// A file: its start page (6), its chain, its count (8).
+fn walk_file(
+    image: &[u8],
+    g: Geometry,
+    page: usize,
+    e: Entry,
+    totals: Totals,
+    owners: &mut [u16],
+) -> Walk
+    requires { ⌜ Fit g (now image) ⌝ }
+    requires { ⌜ (length (now owners) ≡ g .pages) × Good g totals (now owners) ⌝ }
+    ensures { λ r. ⌜ FileWalked g (viewOf g (now (image .entry))) page e totals (now (owners .entry)) r (now (owners .exit)) ⌝ }
+{
+    if e.start == 0 {
+        return Walk::Refused(6, page);
+    }
+    let owner = 3 + (totals.files + totals.directories);
+    match chain::claim_chain(image, g, Kind::File, owner, page, e.start, owners) {
+        Claim::Refused(number, told) => Walk::Refused(number, told),
+        Claim::Chain(pages, _) => {
+            if e.pages != pages {
+                return Walk::Refused(8, page);
+            }
+            Walk::Done(Totals {
+                used: totals.used + pages,
+                files: totals.files + 1,
+                directories: totals.directories,
+            })
+        }
+    }
+}
+
+// One entry, which m entries of its directory come before: a file, or a subdirectory with all below it.
+fn walk_entry(
+    image: &[u8],
+    g: Geometry,
+    levels: usize,
+    name: u32,
+    start: usize,
+    page: usize,
+    m: usize,
+    e: Entry,
+    totals: Totals,
+    owners: &mut [u16],
+) -> Walk
+    requires { ⌜ Fit g (now image) ⌝ }
+    requires { ⌜ (length (now owners) ≡ g .pages) × Known g (viewOf g (now image)) start m × Good g totals (now owners) ⌝ }
+    ensures { λ r. ⌜ EntryWalked g (viewOf g (now (image .entry))) levels name start page m e totals (now (owners .entry)) r (now (owners .exit)) ⌝ }
+{
+    let fault = entry_fault(image, g, start, m, e);
+    if fault != 0 {
+        return Walk::Refused(fault, page);
+    }
+    if e.extension % 128 != 127 {
+        return walk_file(image, g, page, e, totals, owners);
+    }
+    let refused = below_fault(levels, e);
+    if refused != 0 {
+        return Walk::Refused(refused, page);
+    }
+    let owner = 3 + (totals.files + totals.directories);
+    let below = Totals {
+        used: totals.used,
+        files: totals.files,
+        directories: totals.directories + 1,
+    };
+    walk_directory(
+        image,
+        g,
+        levels - 1,
+        Kind::Sub(name, start),
+        e.name,
+        page,
+        e.start,
+        owner,
+        below,
+        owners,
+    )
+}
+
+// A directory: its whole chain, then its entries in chain order.
+pub fn walk_directory(
+    image: &[u8],
+    g: Geometry,
+    levels: usize,
+    kind: Kind,
+    name: u32,
+    from: usize,
+    start: usize,
+    owner: usize,
+    totals: Totals,
+    owners: &mut [u16],
+) -> Walk
+    requires { ⌜ Fit g (now image) ⌝ }
+    requires { ⌜ (length (now owners) ≡ g .pages) × Ready g totals owner (now owners) ⌝ }
+    ensures { λ r. ⌜ DirectoryWalked g (viewOf g (now (image .entry))) levels (testOf g kind) name start from owner totals (now (owners .entry)) r (now (owners .exit)) ⌝ }
+{
+    match chain::claim_chain(image, g, kind, owner, from, start, owners) {
+        Claim::Refused(number, told) => Walk::Refused(number, told),
+        Claim::Chain(pages, _) => {
+            let mut so_far = Totals {
+                used: totals.used + pages,
+                files: totals.files,
+                directories: totals.directories,
+            };
+            let mut seat = Seat::begin(Cursor::new(start, start), g.control_size(), image, g);
+            let mut m = 0;
+            loop {
+                if seat.at < seat.count {
+                    let page = seat.page;
+                    let e = seat.entry(image, g);
+                    match walk_entry(image, g, levels, name, start, page, m, e, so_far, owners) {
+                        Walk::Refused(number, told) => return Walk::Refused(number, told),
+                        Walk::Done(d) => so_far = d,
+                    }
+                    seat = seat.past();
+                    m += 1;
+                } else {
+                    let next = seat.next;
+                    if next.page == 0 {
+                        return Walk::Done(so_far);
+                    }
+                    seat = Seat::begin(next, 0, image, g);
+                }
+            }
+        }
+    }
+}
