@@ -50,7 +50,7 @@ module _ (g : Geometry) (v : View) (test : Test) (owner from start n b : ℕ) (t
     begun = record { used = c .used + n; files = c .files; directories = c .directories }
 
     module _ (claimed : List ℕ) (h : Represents t claimed) where
-      is-claimed : IsClaimed (walk (g .pages) v test (suc (g .pages)) 0 claimed from start) owner n t u
+      is-claimed : IsClaimed (walk (g .pages) v test (suc (g .pages)) 0 claimed from start) owner n b t u
       is-claimed = claimed-chain (walk (g .pages) v test (suc (g .pages)) 0 claimed from start) owner n b t u r (k claimed h) i
 
       fits : Within (g .pages) claimed

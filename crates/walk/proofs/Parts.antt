@@ -19,7 +19,7 @@ use Rattle.rules.specs.Result.{Res, ok, err, andThen, andAfter, refuse-unless}
 use Rattle.rules.specs.ResultLaws.{clash, then-ok, then-err, refuse-true, refuse-false}
 use Rattle.rules.specs.PageSets.{mem, Within}
 use Rattle.rules.specs.PageSetLaws.{count-append, within-length}
-use Rattle.rules.specs.Chain.{Link, pages, Test, anyPage, walk}
+use Rattle.rules.specs.Chain.{Link, pages, content, Test, anyPage, walk}
 use Rattle.rules.specs.ChainLaws.{length-pages, walk-sound}
 use Rattle.rules.specs.Names.{key, directoryNumber}
 use Rattle.rules.specs.Owners.{own}
@@ -114,16 +114,17 @@ module _ (g : Geometry) (c : Totals) (t : List ℕ) (h : Good g c t) (l : length
   below-ready = record { used-is = h .used-is; below = omega (arith, h .below); spare = λ i. omega (arith, h .spare i); some = omega arith; few = owner-fits }
 
 -- a chain that was claimed
-pub record IsClaimed (walked : Res (List Link)) (owner n : ℕ) (t u : List ℕ) : Type 0 where
+pub record IsClaimed (walked : Res (List Link)) (owner n b : ℕ) (t u : List ℕ) : Type 0 where
   pub links : List Link
   pub chain-is : walked ≡ ok links
   pub pages-are : n ≡ length links
+  pub bytes-are : b ≡ length (content links)
   pub table-is : u ≡ own owner (pages links) t
 
-pub claimed-chain : (walked : Res (List Link)) (owner n b : ℕ) (t u : List ℕ) (r : Claim) → Agrees 0 0 owner t walked r u → r ≡ claim.Chain n b → IsClaimed walked owner n t u
+pub claimed-chain : (walked : Res (List Link)) (owner n b : ℕ) (t u : List ℕ) (r : Claim) → Agrees 0 0 owner t walked r u → r ≡ claim.Chain n b → IsClaimed walked owner n b t u
 claimed-chain walked owner n b t u r k i =
     let a : Agrees 0 0 owner t walked (claim.Chain n b) u = subst (λ (x : Claim). Agrees 0 0 owner t walked x u) i k in
-    record { links = a .0; chain-is = a .1; pages-are = omega (arith, a .2); table-is = a .4 }
+    record { links = a .0; chain-is = a .1; pages-are = omega (arith, a .2); bytes-are = omega (arith, a .3); table-is = a .4 }
 
 pub claim-refused : (walked : Res (List Link)) (owner n p : ℕ) (t u : List ℕ) (r : Claim) → Agrees 0 0 owner t walked r u → r ≡ claim.Refused n p → walked ≡ err n p
 claim-refused walked owner n p t u r k i = subst (λ (x : Claim). Agrees 0 0 owner t walked x u) i k

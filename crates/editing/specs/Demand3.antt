@@ -1,0 +1,128 @@
+-- Demand 3: where nothing but room could refuse a put, it is done exactly when there is a candidate, else 17; and no candidate has fewer pages in use than its result.
+use mathlib.Core.Path.{_≡_, refl, ap, sym, _∙_, subst}
+use mathlib.Core.Logic.{_↔_}
+use mathlib.Core.List.{List, _++_}
+use Prim.Native.Nat.{ℕ, _+_, _≤_}
+use native.Mathlib.Omega.{arith}
+use native.Mathlib.Decide.{decLt}
+use lib.ListN.{length, length-append}
+use Rattle.geometry.specs.declared.Geometry.{Geometry}
+use Rattle.geometry.specs.Number.{Bytes}
+use Rattle.rules.specs.Result.{Res, ok, err}
+use Rattle.rules.specs.ResultLaws.{ok-inj, clash}
+use Rattle.packet.specs.Packet.{viewOf}
+use Rattle.rules.specs.PageSetLaws.{count-append}
+use Rattle.rules.specs.Tree.{Image, used}
+use Rattle.rules.specs.Put.{put}
+use Rattle.rules.specs.Check.{check}
+use Rattle.rules.specs.Paths.{Path, fileKey, find}
+use Rattle.rules.specs.Candidate.{Accepted, OnlyRoom, Exists, atPath, filePath, Candidate, chainPages, pagesInUse}
+use Rattle.rules.specs.Calls.{done, putCall}
+use Rattle.reading.specs.Accepted.{accepted-iff, accepted}
+use Rattle.editing.specs.CallEdits.{fit-of, done-ok}
+use Rattle.editing.specs.PutLaws.{same-length, Asked, kept, free, free-clear, extra, wanted, result, kept-old, put-total, put-edited}
+use Rattle.editing.specs.PutDone.{put-fits, put-full, put-room, put-gives}
+use Rattle.editing.specs.PutCandidate.{put-candidate, no-entry-more}
+use Rattle.editing.specs.LowerBound.{least, candidate-room}
+
+module _ (P N : ℕ) (image table path bytes : List ℕ) (o : OnlyRoom P N image table path) (imageBytes : Bytes image) (pathBytes : Bytes path) (areBytes : Bytes bytes) where
+  abbrev g : Geometry
+  g = o .geometry
+
+  abbrev asked : Asked g image path bytes
+  asked = record {
+    tree = o .tree;
+    well = accepted-iff g image (fit-of P N image table g (o .right)) imageBytes (o .tree) .0 (o .accepted);
+    imageBytes = imageBytes;
+    pathBytes = pathBytes;
+    areBytes = areBytes;
+    to = o .to;
+    formed = o .formed;
+    place = o .place;
+    there = o .there;
+    writable = o .writable;
+  }
+
+  -- what a put that is done leaves is a candidate
+  pub put-done : (after : List ℕ) → put g path bytes image ≡ ok after → Candidate g image (o .to) bytes after
+  put-done after e =
+      let p = put-gives g path bytes image after (fit-of P N image table g (o .right)) imageBytes pathBytes areBytes e in
+      subst (λ (q : Path). Candidate g image q bytes after) (ok-inj (sym (p .formed) ∙ o .formed)) (put-candidate g path bytes image after p)
+
+  -- no candidate has fewer pages in use
+  pub put-least : (after : List ℕ) → put g path bytes image ≡ ok after → (i : Image) → Accepted g after i
+      → (new : List ℕ) (c : Candidate g image (o .to) bytes new) → pagesInUse i ≤ pagesInUse (c .after)
+  put-least after e i h new c =
+      let r = put-room g image path bytes asked after e in
+      let w = put-edited g image path bytes asked (free g image path bytes asked) (free-clear g image path bytes asked) (r .0) .wellFormed in
+      let old = chainPages (find (fileKey (o .to)) (o .place .items)) in
+      let same : i ≡ result g image path bytes asked (free g image path bytes asked) (free-clear g image path bytes asked) (r .0) = ok-inj (sym h ∙ ap (λ (l : List ℕ). check g (viewOf g l)) (r .1) ∙ accepted g _ _ w) in
+      let k = same-length (kept g image path bytes asked ++ old) (used (o .tree)) (λ x. count-append x (kept g image path bytes asked) old ∙ kept-old g image path bytes asked x) in
+      omega (
+        arith,
+        ap pagesInUse same,
+        put-total g image path bytes asked (free g image path bytes asked) (free-clear g image path bytes asked) (r .0),
+        k,
+        length-append (kept g image path bytes asked) old,
+        least g image path bytes asked new c,
+      )
+
+  -- and it keeps all else exactly: what stands at another path stood there
+  pub put-keeps : (after : List ℕ) → put g path bytes image ≡ ok after → (i : Image) → Accepted g after i
+      → (ks : List ℕ) → (ks ≡ filePath (o .to) → ⊥) → Exists (atPath ks i) → Exists (atPath ks (o .tree))
+  put-keeps after e i h ks n x =
+      let p = put-gives g path bytes image after (fit-of P N image table g (o .right)) imageBytes pathBytes areBytes e in
+      let t : p .tree ≡ i = ok-inj (sym (accepted g after (p .tree) (p .done .wellFormed)) ∙ h) in
+      let b : p .before ≡ o .tree = ok-inj (sym (accepted g image (p .before) (p .accepted)) ∙ o .accepted) in
+      let q : p .to ≡ o .to = ok-inj (sym (p .formed) ∙ o .formed) in
+      subst (λ (j : Image). Exists (atPath ks j)) b
+      (no-entry-more g path bytes image after p ks (λ f. n (f ∙ ap filePath q)) (subst (λ (j : Image). Exists (atPath ks j)) (sym t) x))
+
+  -- it is done exactly when there is a candidate
+  pub put-exactly : ((after : List ℕ) × (put g path bytes image ≡ ok after)) ↔ ((new : List ℕ) × Candidate g image (o .to) bytes new)
+  put-exactly = (
+    λ x. (x .0, put-done (x .0) (x .1)),
+    λ x. (_, put-fits g image path bytes asked (candidate-room g image path bytes asked (x .0) (x .1))),
+  )
+
+  -- and refused with 17 exactly when there is none
+  pub put-refused : (put g path bytes image ≡ err 17 0) ↔ ((new : List ℕ) → Candidate g image (o .to) bytes new → ⊥)
+  put-refused = (
+    λ e new c. clash (sym e ∙ put-fits g image path bytes asked (candidate-room g image path bytes asked new c)),
+    λ h. elim (decLt (length (free g image path bytes asked)) (extra g image path bytes asked + wanted g image path bytes asked)) [
+      | yes k ↦ put-full g image path bytes asked k
+      | no k ↦ let e = put-fits g image path bytes asked (omega arith) in absurd (h _ (put-done _ e))
+    ],
+  )
+
+  -- ---- the call: answer, image and owner table
+  call-is : putCall P N image table path bytes ≡ done P N image table g (put g path bytes image)
+  unfolding putCall
+  call-is = rw (o .right) refl
+
+  -- a call that answers 0 leaves what the rule tells
+  call-ok : putCall P N image table path bytes .0 ≡ ok tt → put g path bytes image ≡ ok (putCall P N image table path bytes .1)
+  call-ok e = rw call-is (done-ok P N image table g (put g path bytes image) (rw call-is at e))
+
+  call-done : (after : List ℕ) → put g path bytes image ≡ ok after → putCall P N image table path bytes .0 ≡ ok tt
+  call-done after e = rw (call-is, e) refl
+
+  -- it answers 0 exactly when there is a candidate
+  pub call-exactly : (putCall P N image table path bytes .0 ≡ ok tt) ↔ ((new : List ℕ) × Candidate g image (o .to) bytes new)
+  call-exactly = (λ e. put-exactly .0 (_, call-ok e), λ x. let r = put-exactly .1 x in call-done (r .0) (r .1))
+
+  -- 17 exactly when there is none
+  pub call-refused : (putCall P N image table path bytes .0 ≡ err 17 0) ↔ ((new : List ℕ) → Candidate g image (o .to) bytes new → ⊥)
+  call-refused = (λ e. put-refused .0 (back (put g path bytes image) (rw call-is at e)), λ h. let e = put-refused .1 h in rw (call-is, e) refl)
+    where
+      back : (r : Res (List ℕ)) → done P N image table g r .0 ≡ err 17 0 → r ≡ err 17 0
+      back (ok after) e = clash (sym e)
+      back (err n p) e = cc
+
+  -- and the image it leaves is a candidate than which none has fewer pages in use
+  pub call-candidate : putCall P N image table path bytes .0 ≡ ok tt → Candidate g image (o .to) bytes (putCall P N image table path bytes .1)
+  call-candidate e = put-done (putCall P N image table path bytes .1) (call-ok e)
+
+  pub call-least : putCall P N image table path bytes .0 ≡ ok tt → (i : Image) → Accepted g (putCall P N image table path bytes .1) i
+      → (new : List ℕ) (c : Candidate g image (o .to) bytes new) → pagesInUse i ≤ pagesInUse (c .after)
+  call-least e = put-least (putCall P N image table path bytes .1) (call-ok e)

@@ -1,0 +1,59 @@
+-- What a put that is done leaves is a candidate, and keeps all else exactly: no entry more.
+use mathlib.Core.Path.{_≡_, ap, sym, _∙_, subst}
+use mathlib.Core.List.{List, _∷_}
+use Prim.Native.Nat.{ℕ}
+use native.Mathlib.Omega.{arith}
+use lib.ListN.{length}
+use Rattle.geometry.specs.declared.Geometry.{Geometry}
+use Rattle.rules.specs.PageSets.{count}
+use Rattle.rules.specs.Chain.{pages}
+use Rattle.rules.specs.Tree.{Label, Map, inRoot, inFile, Image}
+use Rattle.rules.specs.Bitmap.{remap}
+use Rattle.rules.specs.BitmapLaws.{pages-refill}
+use Rattle.rules.specs.Paths.{Found, aDirectory}
+use Rattle.rules.specs.Writes.{Edit, edited}
+use Rattle.rules.specs.Candidate.{atPath, Exists, reads, SameMap, targetPath, filePath, Candidate}
+use Rattle.reading.specs.Accepted.{accepted}
+use Rattle.editing.specs.PathChanges.{Shown, same-path}
+use Rattle.editing.specs.FoundLaws.{entry-some, exists-entry}
+use Rattle.editing.specs.PutDone.{PutDone}
+
+same-remap : (bits : List ℕ) (m : Map) → SameMap m (remap bits m)
+same-remap bits inRoot = tt
+same-remap bits (inFile ls) = λ x. ap (count x) (pages-refill ls bits)
+
+edited-map : (g : Geometry) (names : List ℕ) (e : Edit) (i : Image) → SameMap (i .map) (edited g names e i .map)
+unfolding edited
+edited-map g names e i = same-remap _ (i .map)
+
+-- a directory reads nothing
+directory-reads : (f h : Found) (l m : Label) (d e : Rattle.rules.specs.Tree.Items) → f ≡ aDirectory l d → h ≡ aDirectory m e → reads f ≡ reads h
+directory-reads f h l m d e p q = ap reads p ∙ sym (ap reads q)
+
+pub put-candidate : (g : Geometry) (path bytes image now : List ℕ) (p : PutDone g path bytes image now) → Candidate g image (p .to) bytes now
+put-candidate g path bytes image now p = record {
+  areBytes = p .done .areBytes;
+  sized = p .done .sized;
+  before = p .before;
+  was = accepted g image (p .before) (p .accepted);
+  after = p .tree;
+  accepted = accepted g now (p .tree) (p .done .wellFormed);
+  label = record { name = p .to .name; extension = p .to .extension };
+  links = p .links;
+  file = p .file;
+  asked = p .reads;
+  kept = λ k ks n h. same-path (k ∷ ks) (targetPath (p .to)) (λ e. rw e (p .target-entry)) (λ m. ap (λ (s : Shown). s .entry) (p .others (k ∷ ks) n m));
+  pages = λ ks n m h x. ap (λ (s : Shown). count x (s .pages)) (p .others ks n m);
+  target = λ x h. omega (arith, p .target-pages x);
+  same = λ ks n h. same-path ks (targetPath (p .to))
+      (λ e. rw e (directory-reads (atPath (targetPath (p .to)) (p .tree)) (atPath (targetPath (p .to)) (p .before)) (p .target-label) (p .target-label) (p .edit .after) (p .place .items) (p .target-after) (p .target-before)))
+      (λ m. ap (λ (s : Shown). s .bytes) (p .others ks n m));
+  map = subst (λ (j : Image). SameMap (p .before .map) (j .map)) (sym (p .tree-is)) (edited-map g (p .to .directories) (p .edit) (p .before));
+}
+
+-- ---- no entry more: what stands at another path stood there
+pub no-entry-more : (g : Geometry) (path bytes image now : List ℕ) (p : PutDone g path bytes image now) (ks : List ℕ) → (ks ≡ filePath (p .to) → ⊥)
+    → Exists (atPath ks (p .tree)) → Exists (atPath ks (p .before))
+no-entry-more g path bytes image now p ks n h = same-path ks (targetPath (p .to))
+    (λ e. subst Exists (sym (ap (λ (k : List ℕ). atPath k (p .before)) e ∙ p .target-before)) tt)
+    (λ m. exists-entry g (atPath ks (p .before)) (omega (arith, entry-some g (atPath ks (p .tree)) h, ap (λ (s : Shown). length (s .entry)) (p .others ks n m))))

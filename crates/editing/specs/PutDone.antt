@@ -1,0 +1,182 @@
+-- Put as a whole: it is done exactly if there is room, else it refuses with 17; and what a put that is done leaves.
+use mathlib.Core.Path.{_≡_, refl, ap, sym, _∙_, subst}
+use mathlib.Core.Bool.{Bool, true, false}
+use mathlib.Core.List.{List, [], _∷_, _++_}
+use Prim.Native.Nat.{ℕ, _+_, _≤_, _<_}
+use native.Mathlib.Omega.{arith}
+use lib.Dec.{leb}
+use lib.ListN.{length, take}
+use lib.Seq.{length-take-le}
+use borrow.Author.Tests.{leb-true, le-leb, lt-leb, eqb-true, eq-eqb}
+use Rattle.geometry.specs.declared.Geometry.{Geometry}
+use Rattle.geometry.specs.Geometry.{Fit, dataCapacity}
+use Rattle.geometry.specs.Number.{Bytes}
+use Rattle.packet.specs.Packet.{viewOf}
+use Rattle.rules.specs.Result.{Res, ok, err, andThen, andAfter, refuse-unless}
+use Rattle.rules.specs.ResultLaws.{ok-inj, on-then, on-refuse, refuse-inv, then-ok, then-err, refuse-true, refuse-false}
+use Rattle.rules.specs.PageSets.{count, range, freePages}
+use Rattle.rules.specs.Chain.{Link, pages, content, pagesFor}
+use Rattle.rules.specs.Names.{attribute}
+use Rattle.rules.specs.Tree.{Label, Image, used}
+use Rattle.rules.specs.Control.{theRoot}
+use Rattle.rules.specs.Bitmap.{bitmapOf}
+use Rattle.rules.specs.WellFormed.{WellFormed}
+use Rattle.rules.specs.Check.{check}
+use Rattle.rules.specs.Paths.{Path, pathOf, fileKey, Found, nothing, aFile, aDirectory, find, atRoot, Place, directoryAt}
+use Rattle.rules.specs.Writes.{Edit, edited, editWrites}
+use Rattle.rules.specs.Put.{writable, keptPages, putEdit, plainEdit, put}
+use Rattle.rules.specs.Candidate.{targetPath, filePath, atPath, foundEntry, chainPages}
+use Rattle.reading.specs.Accepted.{accepted, accepted-iff}
+use Rattle.editing.specs.Contexts.{contextPath}
+use Rattle.editing.specs.EditStands.{EditDone}
+use Rattle.editing.specs.PathChanges.{shown, start-entry}
+use Rattle.editing.specs.DeleteLaws.{target-is}
+use Rattle.editing.specs.PutDirectory.{extraPages}
+use Rattle.editing.specs.PutLaws.{Asked, kept, free, free-clear, extra, wanted, chain, after, theEdit, edit-is, located, cs, into, own-then, chain-reads, result, put-edited, put-paths, put-total}
+
+-- ---- read-only
+writable-ok : (f : Found) → ((l : Label) (ls : List Link) → f ≡ aFile l ls → attribute (l .extension) ≡ 0) → writable f ≡ ok tt
+unfolding writable
+writable-ok nothing h = refl
+writable-ok (aFile l ls) h = simp (eq-eqb (attribute (l .extension)) 0 (h l ls refl), refuse-true)
+writable-ok (aDirectory l d) h = refl
+
+writable-inv : (f : Found) (u : Unit {0}) → writable f ≡ ok u → (l : Label) (ls : List Link) → f ≡ aFile l ls → attribute (l .extension) ≡ 0
+unfolding writable
+writable-inv nothing u e l ls q = absurd (let z : _≡_ {A = ℕ} 0 1 = cc in omega arith)
+writable-inv (aFile m ms) u e l ls q = let i : m ≡ l = cc in ap (λ (n : Label). attribute (n .extension)) (sym i) ∙ eqb-true _ _ (refuse-inv _ _ _ _ e)
+writable-inv (aDirectory m d) u e l ls q = absurd (let z : _≡_ {A = ℕ} 0 1 = cc in omega arith)
+
+-- ---- what a put that is done leaves
+pub record PutDone (g : Geometry) (path bytes image now : List ℕ) : Type 0 where
+  pub before : Image
+  pub accepted : WellFormed g image before
+  pub to : Path
+  pub formed : pathOf path ≡ ok to
+  pub place : Place
+  pub there : directoryAt (to .directories) atRoot theRoot (before .tree) ≡ ok place
+  pub edit : Edit
+  pub made : putEdit g (freePages (keptPages to before) (g .pages)) to bytes place ≡ ok edit
+  -- accepted, with the edited tree; bytes outside the packets written stay
+  pub tree : Image
+  pub tree-is : tree ≡ edited g (to .directories) edit before
+  pub done : EditDone g image before tree (editWrites g (bitmapOf g (used before) (before .map)) edit before tree) now
+  -- the path's file has the path's name and extension byte, top bit clear, and reads the bytes
+  pub links : List Link
+  pub file : atPath (filePath to) tree ≡ aFile (record { name = to .name; extension = to .extension }) links
+  pub reads : content links ≡ bytes
+  -- every other path shows what it showed: entry, pages, bytes; of the target, its entry, and its pages with those that join it
+  pub others : (ks : List ℕ) → (ks ≡ filePath to → ⊥) → (ks ≡ targetPath to → ⊥) → shown g (atPath ks tree) ≡ shown g (atPath ks before)
+  pub target-label : Label
+  pub target-before : atPath (targetPath to) before ≡ aDirectory target-label (place .items)
+  pub target-after : atPath (targetPath to) tree ≡ aDirectory target-label (edit .after)
+  pub target-entry : foundEntry g (atPath (targetPath to) tree) ≡ foundEntry g (atPath (targetPath to) before)
+  pub joined : List ℕ
+  pub target-pages : (x : ℕ) → count x (chainPages (atPath (targetPath to) tree)) ≡ count x (chainPages (atPath (targetPath to) before)) + count x joined
+  -- a page joins it exactly if the file is new and no page has space
+  pub joins : length joined ≡ extraPages g (record { name = to .name; extension = to .extension }) (place .items)
+  -- the pages in use
+  pub total : length (used tree) + length (chainPages (atPath (filePath to) before)) ≡ length (used before) + length joined + pagesFor (dataCapacity g) (length bytes)
+
+-- ---- a put that nothing but room could refuse
+module _ (g : Geometry) (image path bytes : List ℕ) (a : Asked g image path bytes) where
+  -- the free pages, those that the directory needs and those that the file needs
+  abbrev spare : List ℕ
+  spare = free g image path bytes a
+
+  abbrev more : ℕ
+  more = extra g image path bytes a
+
+  abbrev need : ℕ
+  need = wanted g image path bytes a
+
+  -- the image after the edit
+  abbrev pub imageAfter : List ℕ
+  imageAfter = plainEdit g (a .to .directories) (theEdit g image path bytes a (free g image path bytes a)) (a .tree) image
+
+  pub put-is : put g path bytes image ≡ andAfter (refuse-unless (leb (more + need) (length spare)) 17 0) (ok imageAfter)
+  unfolding put
+  put-is =
+      let c = accepted g image (a .tree) (a .well) in
+      let w = writable-ok (find (fileKey (a .to)) (a .place .items)) (a .writable) in
+      let t = leb (more + need) (length spare) in
+      let s : andThen (check g (viewOf g image)) (λ i. andThen (pathOf path) λ q. andThen (directoryAt (q .directories) atRoot theRoot (i .tree)) λ d.
+      andThen (writable (find (fileKey q) (d .items))) λ _. andThen (putEdit g (freePages (keptPages q i) (g .pages)) q bytes d) λ e. ok (plainEdit g (q .directories) e i image))
+      ≡ andThen (putEdit g spare (a .to) bytes (a .place)) (λ e. ok (plainEdit g (a .to .directories) e (a .tree) image))
+      = simp (c, a .formed, a .there, w, then-ok) in
+      s ∙ ap (λ (r : Res Edit). andThen r (λ e. ok (plainEdit g (a .to .directories) e (a .tree) image))) (edit-is g image path bytes a spare) ∙ join t
+    where
+      join : (t : Bool) → andThen (andAfter (refuse-unless t 17 0) (ok (theEdit g image path bytes a spare))) (λ e. ok (plainEdit g (a .to .directories) e (a .tree) image))
+          ≡ andAfter (refuse-unless t 17 0) (ok imageAfter)
+      join true = simp (refuse-true, then-ok)
+      join false = simp (refuse-false, then-err)
+
+  -- there is room exactly when it is done, else it refuses with 17
+  pub put-fits : more + need ≤ length spare → put g path bytes image ≡ ok imageAfter
+  put-fits h = put-is ∙ simp (le-leb _ _ h, refuse-true, then-ok)
+
+  pub put-full : length spare < more + need → put g path bytes image ≡ err 17 0
+  put-full h = put-is ∙ simp (lt-leb _ _ h, refuse-false, then-err)
+
+  pub put-room : (now : List ℕ) → put g path bytes image ≡ ok now → (more + need ≤ length spare) × (now ≡ imageAfter)
+  put-room now e = on-refuse _ _ _ _ _ (sym put-is ∙ e) λ t q. (leb-true _ _ t, sym (ok-inj q))
+
+  module _ (room : more + need ≤ length spare) where
+    abbrev clear : (x : ℕ) → count x spare + count x (kept g image path bytes a) ≤ count x (range (g .pages))
+    clear = free-clear g image path bytes a
+
+    pub put-leaves : PutDone g path bytes image imageAfter
+    put-leaves =
+        let c = put-paths g image path bytes a spare clear room in
+        let t : targetPath (a .to) ≡ contextPath (cs g image path bytes a) = target-is (a .to) ∙ sym (located g image path bytes a .path) in
+        let e = after g image path bytes a spare in
+        let d = a .place .items in
+        let z : length (take more spare) ≡ more = length-take-le more spare (omega arith) in
+        record {
+          before = a .tree;
+          accepted = a .well;
+          to = a .to;
+          formed = a .formed;
+          place = a .place;
+          there = a .there;
+          edit = theEdit g image path bytes a spare;
+          made = edit-is g image path bytes a spare ∙ simp (le-leb _ _ room, refuse-true, then-ok);
+          tree = result g image path bytes a spare clear room;
+          tree-is = refl;
+          done = put-edited g image path bytes a spare clear room;
+          links = chain g image path bytes a spare;
+          file = rw t (c .after ∙ into g image path bytes a spare clear room .here);
+          reads = chain-reads g image path bytes a spare clear room;
+          others = λ ks m n. c .others ks (λ q. n (q ∙ sym t)) (λ q. m (q ∙ ap (λ (ts : List ℕ). ts ++ (fileKey (a .to) ∷ [])) (sym t)));
+          target-label = c .label;
+          target-before = rw t (c .target-before);
+          target-after = rw t (c .target-after);
+          target-entry = rw t (ap (foundEntry g) (c .target-after) ∙ start-entry g (c .label) d e (into g image path bytes a spare clear room .edit .start) ∙ sym (ap (foundEntry g) (c .target-before)));
+          joined = take more spare;
+          target-pages = λ x. rw t (ap (λ (f : Found). count x (chainPages f)) (c .target-after) ∙ own-then g image path bytes a spare clear room x
+              ∙ ap (λ (f : Found). count x (chainPages f) + count x (take more spare)) (sym (c .target-before)));
+          joins = z;
+          total = rw (z, t) (ap (λ (f : Found). length (used (result g image path bytes a spare clear room)) + length (chainPages f)) (c .before) ∙ put-total g image path bytes a spare clear room);
+        }
+
+-- what a put that is done has met
+pub asked-of : (g : Geometry) (path bytes image now : List ℕ) → Fit g image → Bytes image → Bytes path → Bytes bytes → put g path bytes image ≡ ok now → Asked g image path bytes
+unfolding put
+asked-of g path bytes image now fit b p c e = on-then _ _ _ e λ i h e. on-then _ _ _ e λ q f e. on-then _ _ _ e λ d n e. on-then _ _ _ e λ u w e. record {
+  tree = i;
+  well = accepted-iff g image fit b i .0 h;
+  imageBytes = b;
+  pathBytes = p;
+  areBytes = c;
+  to = q;
+  formed = f;
+  place = d;
+  there = n;
+  writable = writable-inv (find (fileKey q) (d .items)) u w;
+}
+
+pub put-gives : (g : Geometry) (path bytes image now : List ℕ) → Fit g image → Bytes image → Bytes path → Bytes bytes → put g path bytes image ≡ ok now → PutDone g path bytes image now
+put-gives g path bytes image now fit b p c e =
+    let a = asked-of g path bytes image now fit b p c e in
+    let r = put-room g image path bytes a now e in
+    subst (PutDone g path bytes image) (sym (r .1)) (put-leaves g image path bytes a (r .0))

@@ -1,0 +1,80 @@
+-- What a read answers is what stands at the path; so a put's path then reads the bytes, a deleted path is absent, and every other path reads what it read.
+use mathlib.Core.Path.{_≡_, refl, ap, sym, _∙_}
+use mathlib.Core.List.{List, [], _∷_, _++_}
+use Prim.Native.Nat.{ℕ}
+use Rattle.geometry.specs.declared.Geometry.{Geometry}
+use Rattle.rules.specs.Result.{Res, ok, err, andThen}
+use Rattle.rules.specs.ResultLaws.{then-ok, then-err, then-cong}
+use Rattle.rules.specs.Tree.{Label, Items, startOf, Image}
+use Rattle.rules.specs.Control.{Above, theRoot}
+use Rattle.rules.specs.Paths.{Path, pathOf, directoryKey, fileKey, Found, nothing, aFile, aDirectory, find, Site, atRoot, below, Place, directoryAt}
+use Rattle.rules.specs.Candidate.{lookUp, rootLabel, atPath, targetPath, filePath}
+use Rattle.rules.specs.Calls.{bytesOf, fileAt}
+use Rattle.editing.specs.Contexts.{directoryKeys}
+use Rattle.editing.specs.PathChanges.{Shown, shown, same-path}
+use Rattle.editing.specs.DeleteLaws.{target-is, Deleted}
+use Rattle.editing.specs.PutDone.{PutDone}
+
+nothing-below : (ks : List ℕ) → lookUp ks nothing ≡ nothing
+nothing-below [] = refl
+nothing-below (k ∷ ks) = refl
+
+file-below : (xs : List ℕ) (k : ℕ) (f : Found) → ((j : ℕ) (ks : List ℕ) → lookUp (j ∷ ks) f ≡ nothing) → lookUp (directoryKeys xs ++ (k ∷ [])) f ≡ nothing
+file-below [] k f h = h k []
+file-below (x ∷ xs) k f h = h (directoryKey x) (directoryKeys xs ++ (k ∷ []))
+
+no-bytes : {f : Found} → f ≡ nothing → bytesOf f ≡ err 15 0
+unfolding bytesOf
+no-bytes e = ap bytesOf e
+
+-- the directory's names, then the file's key
+read-down : (xs : List ℕ) (k : ℕ) (site : Site) (here : Above) (l : Label) (t : Items)
+    → andThen (directoryAt xs site here t) (λ d. bytesOf (find k (d .items))) ≡ bytesOf (lookUp (directoryKeys xs ++ (k ∷ [])) (aDirectory l t))
+unfolding directoryAt
+read-down [] k site here l t = then-ok _ _
+read-down (x ∷ xs) k site here l t = go (find (directoryKey x) t) refl (λ m d. read-down xs k (below here) (record { name = x; start = startOf d }) m d)
+  where
+    go : (f : Found) → find (directoryKey x) t ≡ f
+        → ((m : Label) (d : Items) → andThen (directoryAt xs (below here) (record { name = x; start = startOf d }) d) (λ d. bytesOf (find k (d .items))) ≡ bytesOf (lookUp (directoryKeys xs ++ (k ∷ [])) (aDirectory m d)))
+        → andThen (directoryAt (x ∷ xs) site here t) (λ d. bytesOf (find k (d .items))) ≡ bytesOf (lookUp (directoryKeys xs ++ (k ∷ [])) (find (directoryKey x) t))
+    go nothing q r = rw q (then-err 15 0 (λ (d : Place). bytesOf (find k (d .items))) ∙ sym (no-bytes (nothing-below (directoryKeys xs ++ (k ∷ [])))))
+    go (aFile m ls) q r = rw q (then-err 15 0 (λ (d : Place). bytesOf (find k (d .items))) ∙ sym (no-bytes (file-below xs k (aFile m ls) (λ j ks. refl))))
+    go (aDirectory m d) q r = rw q (r m d)
+
+-- what a read answers: 14 for a malformed path, else what stands there
+pub read-at : (path : List ℕ) (i : Image) → fileAt path i ≡ andThen (pathOf path) (λ q. bytesOf (atPath (filePath q) i))
+unfolding fileAt atPath
+read-at path i = then-cong (pathOf path) _ _ (λ q e.
+    read-down (q .directories) (fileKey q) atRoot theRoot rootLabel (i .tree)
+    ∙ ap (λ (ks : List ℕ). bytesOf (lookUp (ks ++ (fileKey q ∷ [])) (aDirectory rootLabel (i .tree)))) (sym (target-is q)))
+
+-- two images that show the same at a path read the same there
+read-same : (g : Geometry) (path : List ℕ) (i j : Image) → ((q : Path) → pathOf path ≡ ok q → shown g (atPath (filePath q) i) ≡ shown g (atPath (filePath q) j))
+    → fileAt path i ≡ fileAt path j
+read-same g path i j h = read-at path i ∙ then-cong (pathOf path) _ _ (λ q e. ap (λ (s : Shown). s .answer) (h q e)) ∙ sym (read-at path j)
+
+read-found : (path : List ℕ) (q : Path) (i : Image) (f : Found) → pathOf path ≡ ok q → atPath (filePath q) i ≡ f → fileAt path i ≡ bytesOf f
+read-found path q i f p e = read-at path i ∙ ap (λ (r : Res Path). andThen r (λ q. bytesOf (atPath (filePath q) i))) p ∙ then-ok q (λ q. bytesOf (atPath (filePath q) i)) ∙ ap bytesOf e
+
+-- ---- after a put
+module _ (g : Geometry) (path bytes image now : List ℕ) (p : PutDone g path bytes image now) where
+  -- the path reads the bytes
+  pub read-put : fileAt path (p .tree) ≡ ok bytes
+  unfolding bytesOf
+  read-put = read-found path (p .to) (p .tree) (aFile (record { name = p .to .name; extension = p .to .extension }) (p .links)) (p .formed) (p .file) ∙ ap ok (p .reads)
+
+  -- every other path reads what it read, or answers the refusal that it answered
+  pub read-beside-put : (other : List ℕ) → ((q : Path) → pathOf other ≡ ok q → filePath q ≡ filePath (p .to) → ⊥) → fileAt other (p .tree) ≡ fileAt other (p .before)
+  unfolding bytesOf
+  read-beside-put other n = read-at other (p .tree) ∙ then-cong (pathOf other) _ _ (λ q e. same-path (filePath q) (targetPath (p .to))
+      (λ f. ap (λ (ks : List ℕ). bytesOf (atPath ks (p .tree))) f ∙ ap bytesOf (p .target-after) ∙ sym (ap bytesOf (p .target-before)) ∙ ap (λ (ks : List ℕ). bytesOf (atPath ks (p .before))) (sym f))
+      (λ m. ap (λ (s : Shown). s .answer) (p .others (filePath q) (n q e) m))) ∙ sym (read-at other (p .before))
+
+-- ---- after a delete
+module _ (g : Geometry) (path image now : List ℕ) (p : Deleted g path image now) where
+  pub read-deleted : fileAt path (p .tree) ≡ err 15 0
+  read-deleted = read-found path (p .to) (p .tree) nothing (p .formed) (p .gone) ∙ no-bytes refl
+
+  pub read-beside-deleted : (other : List ℕ) → ((q : Path) → pathOf other ≡ ok q → filePath q ≡ filePath (p .to) → ⊥)
+      → fileAt other (p .tree) ≡ fileAt other (p .before)
+  read-beside-deleted other n = read-same g other (p .tree) (p .before) (λ q e. p .others (filePath q) (n q e))

@@ -1,0 +1,116 @@
+-- Packets that stand: the pages they take, what leaves them standing, and an image whose view has every packet of a tree.
+use mathlib.Core.Path.{_≡_, refl, ap, _∙_}
+use mathlib.Core.List.{List, [], _∷_, _++_}
+use Prim.Native.Nat.{ℕ, _+_, _≤_}
+use native.Mathlib.Omega.{arith}
+use Rattle.geometry.specs.declared.Geometry.{Geometry}
+use Rattle.geometry.specs.Geometry.{Fit, Valid}
+use Rattle.packet.specs.Packet.{View, viewOf, Write, write, play}
+use Rattle.rules.specs.PageSets.{count, Once, Within}
+use Rattle.rules.specs.PageSetLaws.{hit-same, count-append, range-of}
+use Rattle.rules.specs.Chain.{Link, link, pages, linked}
+use Rattle.rules.specs.Tree.{Items, end, page, file, dir, startOf, directoryLinks, ownPages, innerPages, keys, Map, inRoot, inFile, mapPages, Image, used}
+use Rattle.rules.specs.Control.{rootControl, subControl, Above, theRoot}
+use Rattle.rules.specs.Bitmap.{mapSize, bitmapOf}
+use Rattle.rules.specs.BitmapLaws.{length-bitmap, bytes-bitmap}
+use Rattle.rules.specs.WellFormed.{Stand, packetsBelow, mapPackets, packets, IsDirectory, Entries, MapHolds, WellFormed}
+use Rattle.reading.specs.PacketLaws.{ByteView}
+use Rattle.reading.specs.Directory.{own-links}
+use Rattle.editing.specs.Capacity.{capacity-is}
+use Rattle.editing.specs.Plays.{writePages, WritesFit, play-fit}
+
+-- ---- the pages of packets
+pub pages-linked : (ls : List Link) → writePages (linked ls) ≡ pages ls
+pages-linked [] = refl
+pages-linked (link p b ∷ ls) = ap (λ (l : List ℕ). p ∷ l) (pages-linked ls)
+
+pub pages-joined : (ws us : List Write) → writePages (ws ++ us) ≡ writePages ws ++ writePages us
+pages-joined [] us = refl
+pages-joined (write p b n ∷ ws) us = ap (λ (l : List ℕ). p ∷ l) (pages-joined ws us)
+
+pub count-joined : (x : ℕ) (ws us : List Write) → count x (writePages (ws ++ us)) ≡ count x (writePages ws) + count x (writePages us)
+count-joined x ws us = ap (count x) (pages-joined ws us) ∙ count-append x (writePages ws) (writePages us)
+
+pub count-directory : (g : Geometry) (x : ℕ) (control : List ℕ) (t : Items) → count x (writePages (linked (directoryLinks g control t))) ≡ count x (ownPages t)
+count-directory g x control t = ap (count x) (pages-linked (directoryLinks g control t) ∙ own-links g control t)
+
+pub count-below : (g : Geometry) (x : ℕ) (here : Above) (t : Items) → count x (writePages (packetsBelow g here t)) ≡ count x (innerPages t)
+count-below g x here end = refl
+count-below g x here (page p t) = count-below g x here t
+count-below g x here (file l ls t) =
+    omega (arith, count-joined x (linked ls) (packetsBelow g here t), ap (count x) (pages-linked ls), count-below g x here t, count-append x (pages ls) (innerPages t))
+count-below g x here (dir l d t) =
+    let there : Above = record { name = l .name; start = startOf d } in
+    let own = linked (directoryLinks g (subControl (g .width) here) d) in
+    simp count-append (omega (
+      arith,
+      count-joined x own (packetsBelow g there d ++ packetsBelow g here t),
+      count-joined x (packetsBelow g there d) (packetsBelow g here t),
+      count-directory g x (subControl (g .width) here) d,
+      count-below g x there d,
+      count-below g x here t,
+    ))
+
+pub count-map : (x : ℕ) (m : Map) → count x (writePages (mapPackets m)) ≡ count x (mapPages m)
+count-map x inRoot = refl
+count-map x (inFile ls) = ap (count x) (pages-linked ls)
+
+-- the packets of an image take the pages in use
+pub count-packets : (g : Geometry) (x : ℕ) (bits : List ℕ) (i : Image) → count x (writePages (packets g bits i)) ≡ count x (used i)
+count-packets g x bits i =
+    let own = linked (directoryLinks g (rootControl (g .width) bits (i .map)) (i .tree)) in
+    let below = packetsBelow g theRoot (i .tree) in
+    simp count-append (omega (
+      arith,
+      count-joined x own (below ++ mapPackets (i .map)),
+      count-joined x below (mapPackets (i .map)),
+      count-directory g x (rootControl (g .width) bits (i .map)) (i .tree),
+      count-below g x theRoot (i .tree),
+      count-map x (i .map),
+    ))
+
+-- ---- packets stay where their pages do
+pub stand-same : (v w : View) (ws : List Write) → ((x : ℕ) → 1 ≤ count x (writePages ws) → w x ≡ v x) → Stand v ws → Stand w ws
+stand-same v w [] h s = tt
+stand-same v w (write p b n ∷ ws) h s = (h p (omega (arith, hit-same p)) ∙ s .0, stand-same v w ws (λ x k. h x (omega arith)) (s .1))
+
+-- packets of a view whose pages are below N can be written
+pub stand-fits : (g : Geometry) → Valid g → (v : View) → ByteView g v → (ws : List Write) → Within (g .pages) (writePages ws) → Stand v ws → WritesFit g ws
+stand-fits g valid v bv [] h s = tt
+stand-fits g valid v bv (write p b n ∷ ws) h s = (
+  record {
+    below = range-of p (g .pages) (omega (arith, h p, hit-same p));
+    room = omega (arith, bv .room p b n (s .0), capacity-is g, valid .least, valid .two);
+    pointer = bv .pointer p b n (s .0);
+    bytes = bv .bytes p b n (s .0);
+  },
+  stand-fits g valid v bv ws (λ x. omega (arith, h x)) (s .1),
+)
+
+pub fits-join : (g : Geometry) (ws us : List Write) → WritesFit g ws → WritesFit g us → WritesFit g (ws ++ us)
+fits-join g [] us f h = h
+fits-join g (write p b n ∷ ws) us f h = (f .0, fits-join g ws us (f .1) h)
+
+-- ---- an image in which every packet of a tree stands, with the bitmap of its pages, is well formed
+pub image-stands : (g : Geometry) (image : List ℕ) (i : Image) → Fit g image → IsDirectory (i .tree) → startOf (i .tree) ≡ 0 → Once (keys (i .tree)) → Entries 8 (i .tree)
+    → MapHolds g (bitmapOf g (used i) (i .map)) (i .map) → Within (g .pages) (used i) → Stand (viewOf g image) (packets g (bitmapOf g (used i) (i .map)) i) → WellFormed g image i
+image-stands g image i fit d z o w m f s = record {
+  fits = fit;
+  holds = record {
+    isDirectory = d;
+    atZero = z;
+    names = o;
+    entries = w;
+    map = m;
+    room = length-bitmap (used i) 0 (mapSize g (i .map));
+    bytes = bytes-bitmap (used i) 0 (mapSize g (i .map));
+    stand = s;
+    apart = f;
+  };
+}
+
+-- so is an image after writes that make every packet stand
+pub played-stands : (g : Geometry) (image : List ℕ) (ws : List Write) (i : Image) → Fit g image → WritesFit g ws → IsDirectory (i .tree) → startOf (i .tree) ≡ 0 → Once (keys (i .tree))
+    → Entries 8 (i .tree) → MapHolds g (bitmapOf g (used i) (i .map)) (i .map) → Within (g .pages) (used i)
+    → Stand (viewOf g (play g ws image)) (packets g (bitmapOf g (used i) (i .map)) i) → WellFormed g (play g ws image) i
+played-stands g image ws i fit f d z o w m k s = image-stands g (play g ws image) i (play-fit g ws f image fit) d z o w m k s

@@ -1,0 +1,1 @@
+// What the edits do to an image, and demand 3: the theorems are in specs/.

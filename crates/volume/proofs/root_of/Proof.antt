@@ -1,0 +1,34 @@
+use mathlib.Core.Path.{sym, ap, _∙_}
+use native.Mathlib.Omega.{arith}
+use lib.ListN.{length}
+use Rattle.geometry.specs.PageLaws.{page-length}
+use Rattle.packet.specs.Packet.{viewOf, packetOf}
+use Rattle.packet.specs.Judged.{judged}
+use Rattle.volume.proofs.ScanLaws.{root-bad, root-good, page-fits, root-page}
+use borrow.Author.Needs.{needs}
+use Rattle.volume.proofs.root_of.Statement.{statement}
+use Rattle.volume.proofs.root_of.Tie as tie
+
+judge-requires : tie.Need-judge-requires
+judge-requires c κs =
+    let f = c .before .before .pre in
+    let l = page-length _ _ 0 f (omega (arith, f .valid .some)) in
+    (f .valid .one, f .valid .two, omega arith, omega (arith, ap length (c .page-of .ensures), f .valid .least))
+
+data-of-requires : tie.Need-data-of-requires
+data-of-requires c κs = page-fits (c .before .before .before .before .before .before .args .g) 0 _ _ _ (sym (c .before .length .given .1) ∙ c .before .before .before .judge .ensures)
+
+returns : tie.Need-returns
+unfolding viewOf
+returns c = root-bad (c .before .before .before .before .before .args .g) (viewOf (c .before .before .before .before .before .args .g) (c .before .before .before .before .before .args .image .now) 0) (root-page _ _ 0 _ _ (c .before .before .before .page-of .ensures) (sym (c .enum-told .given .1) ∙ c .before .before .judge .ensures))
+
+returns-2 : tie.Need-returns-2
+unfolding viewOf
+returns-2 c =
+    let a = c .before .before .before .before .before .before .before .before .args in
+    root-good (a .g) 0 _ _ _ (root-page (a .g) _ 0 _ _ (c .before .before .before .before .before .before .page-of .ensures) (sym (c .before .before .before .length .given .1) ∙ c .before .before .before .before .before .judge .ensures)) _ _ (c .before .data-of .ensures) (c .before .before .before .before .before .before .page-of .ensures) _ (c .root-control .ensures)
+
+pub root-of-spec : {M : Type 1} → statement M
+root-of-spec =
+    tie.close
+    (tie.spec (λ c κs. search needs) judge-requires (λ c. search needs) (λ c. search needs) data-of-requires (λ c κs. search needs) returns returns-2)

@@ -1,0 +1,56 @@
+use mathlib.Core.Path.{refl, sym, _∙_}
+use mathlib.Core.List.{List, []}
+use native.Mathlib.Omega.{arith}
+use Rattle.packet.specs.Packet.{viewOf}
+use Rattle.rules.specs.Tree.{inRoot}
+use Rattle.volume.proofs.MapLaws.{empty-table}
+use Rattle.volume.proofs.ScanLaws.{scan-refused, scan-local, scan-remote, scan-from, mapped, file-mapped, map-refused-is, file-refused, file-scan}
+use borrow.Author.Needs.{needs}
+use Rattle.volume.proofs.scan.Statement.{statement}
+use Rattle.volume.proofs.scan.Tie as tie
+
+walk-root-requires : tie.Need-walk-root-requires
+walk-root-requires c κs =
+    let s = c .before .before .before .before .before .pre in
+    let a = c .before .before .before .before .before .args in
+    let e = empty-table (a .g .pages) _ (s .1 .0) in
+    let k = scan-local (a .g) (viewOf (a .g) (a .image .now)) _ (s .1 .1) (c .before .enum-told .given .1) in
+    (s .0, (e .1, sym (e .2), λ h. omega (arith, k .few)))
+
+walk-root-requires-2 : tie.Need-walk-root-requires-2
+walk-root-requires-2 c κs =
+    let s = c .before .before .before .before .before .before .before .before .before .before .before .before .before .pre in
+    let a = c .before .before .before .before .before .before .before .before .before .before .before .before .before .args in
+    let m = file-mapped _ _ _ _ _ _ _ (c .before .before .before .before .before .before .claim-map .ensures) (c .before .before .map .given .1) in
+    let k = mapped (a .g) (m .map) _ _ (m .inside) (m .pages-are) (m .table-is) in
+    (s .0, (k .long, k .used-is, λ h. m .some))
+
+returns : tie.Need-returns
+returns c = scan-refused _ _ _ _ (c .before .before .before .before .before .pre .1 .1) (c .before .root .given .1)
+
+returns-2 : tie.Need-returns-2
+returns-2 c =
+    let s = c .before .before .before .before .before .before .before .before .pre in
+    let a = c .before .before .before .before .before .before .before .before .args in
+    let e = empty-table (a .g .pages) _ (s .1 .0) in
+    let k = scan-local (a .g) (viewOf (a .g) (a .image .now)) _ (s .1 .1) (c .before .before .before .before .enum-told .given .1) in
+    scan-from _ _ (k .head) inRoot (k .scan-is) 0 _ refl (s .1 .0) (c .before .before .walk-root .result) (c .before .before .walk-root .last .1 .1 .1 .0) (c .before .before .walk-root .ensures [] (e .0))
+
+returns-3 : tie.Need-returns-3
+returns-3 c =
+    let s = c .before .before .before .before .before .before .before .before .before .before .before .before .pre in
+    file-refused _ _ _ _ _ _ (scan-remote _ _ _ _ _ (s .1 .1) (c .before .before .before .before .before .before .before .before .root2 .given .1)) (map-refused-is _ _ _ _ _ _ _ _ (c .before .before .before .before .before .claim-map .ensures) (c .before .number .given .1))
+
+returns-4 : tie.Need-returns-4
+returns-4 c =
+    let s = c .before .before .before .before .before .before .before .before .before .before .before .before .before .before .before .before .pre in
+    let a = c .before .before .before .before .before .before .before .before .before .before .before .before .before .before .before .before .args in
+    let m = file-mapped _ _ _ _ _ _ _ (c .before .before .before .before .before .before .before .before .before .claim-map .ensures) (c .before .before .before .before .before .map .given .1) in
+    let k = mapped (a .g) (m .map) _ _ (m .inside) (m .pages-are) (m .table-is) in
+    let f = scan-remote _ _ _ _ _ (s .1 .1) (c .before .before .before .before .before .before .before .before .before .before .before .before .root2 .given .1) in
+    scan-from _ _ (f .head) (m .map) (file-scan _ _ _ _ _ _ f m) _ _ (m .pages-are) (m .table-is) (c .before .before .walk-root2 .result) (c .before .before .walk-root2 .last .1 .1 .1 .0) (c .before .before .walk-root2 .ensures _ (k .represents))
+
+pub scan-spec : {M : Type 1} → statement M
+scan-spec =
+    tie.close
+    (tie.spec (λ c. search needs) (λ c. search needs) walk-root-requires (λ c. search needs) (λ c κs. search needs) (λ c. search needs) (λ c. search needs) walk-root-requires-2 returns (λ c. search needs) returns-2 (λ c. search needs) returns-3 (λ c. search needs) returns-4)

@@ -1,0 +1,20 @@
+use native.Mathlib.Omega.{arith}
+use Rattle.rules.specs.Control.{rootPage}
+use Rattle.directory.specs.Faults.{testOf}
+use borrow.Author.Needs.{needs}
+use Rattle.volume.proofs.walk_root.Statement.{statement}
+use Rattle.volume.proofs.walk_root.Tie as tie
+
+walk-directory-requires : tie.Need-walk-directory-requires
+walk-directory-requires c κs =
+    let s = c .before .before .before .pre in
+    (s .0, (s .1 .0, record { used-is = s .1 .1; below = omega arith; spare = λ i. omega (arith, s .1 .2 i); some = omega arith; few = λ i. omega arith }))
+
+returns : tie.Need-returns
+unfolding testOf
+returns c = λ claimed h. c .before .before .walk-directory .ensures claimed h
+
+pub walk-root-spec : {M : Type 1} → statement M
+walk-root-spec =
+    tie.close
+    (tie.spec walk-directory-requires (λ c. search needs) returns)

@@ -1,0 +1,101 @@
+// The whole image: the check in two halves, over the owner table.
+use chain::Claim;
+use directory::control::Kind;
+use directory::control::Root;
+use geometry::Geometry;
+use packet::Judged;
+use rules::Totals;
+use walk::Walk;
+ghost use mathlib.Core.Path.{_≡_};
+ghost use mathlib.Core.List.{List};
+ghost use Prim.Native.Nat.{_+_, _≤_, _<_};
+ghost use lib.ListN.{length, replicate};
+ghost use Rattle.geometry.specs.Geometry.{Fit};
+ghost use Rattle.packet.specs.Packet.{viewOf};
+ghost use Rattle.rules.specs.OwnerLaws.{inUse};
+ghost use Rattle.volume.specs.Scans.{rootOf, MapClaimed, RootWalked, Scanned};
+
+// `ROOT`, the first byte lowest.
+const ROOT: u32 = 0x544F4F52;
+
+// Makes every page free.
+fn clear(owners: &mut [u16])
+    ensures { λ _. ⌜ now (owners .exit) ≡ replicate (length (now (owners .entry))) 0 ⌝ }
+{
+    let mut i = 0;
+    while i < owners.len() {
+        owners[i] = 0;
+        i += 1;
+    }
+}
+
+// Reads the root's control field from page 0; its packet may be wrong (2).
+fn root_of(image: &[u8], g: Geometry) -> Root
+    requires { ⌜ Fit g (now image) ⌝ }
+    ensures { λ r. ⌜ r ≡ rootOf g (viewOf g (now (image .entry)) 0) ⌝ }
+{
+    let page = geometry::page_of(image, g, 0);
+    match packet::judge(page, 0, g.width) {
+        Judged::Bad => Root::Refused(2),
+        Judged::Whole { length, next: _ } => {
+            directory::control::root_control(packet::data_of(page, length), g)
+        }
+    }
+}
+
+// Claims the bitmap file: its start page (6), its chain, its page count (8), its bytes (8).
+fn claim_map(image: &[u8], g: Geometry, start: usize, count: usize, owners: &mut [u16]) -> Walk
+    requires { ⌜ Fit g (now image) ⌝ }
+    requires { ⌜ now owners ≡ replicate (g .pages) 0 ⌝ }
+    ensures { λ r. ⌜ MapClaimed g (viewOf g (now (image .entry))) start count r (now (owners .exit)) ⌝ }
+{
+    if start == 0 {
+        return Walk::Refused(6, 0);
+    }
+    match chain::claim_chain(image, g, Kind::File, 2, 0, start, owners) {
+        Claim::Refused(number, told) => Walk::Refused(number, told),
+        Claim::Chain(pages, bytes) => {
+            if count != pages {
+                return Walk::Refused(8, 0);
+            }
+            if bytes != g.bitmap_size() {
+                return Walk::Refused(8, 0);
+            }
+            Walk::Done(Totals {
+                used: pages,
+                files: 0,
+                directories: 0,
+            })
+        }
+    }
+}
+
+// Walks the root and all below it; the bitmap file has so many pages.
+fn walk_root(image: &[u8], g: Geometry, used: usize, owners: &mut [u16]) -> Walk
+    requires { ⌜ Fit g (now image) ⌝ }
+    requires { ⌜ (length (now owners) ≡ g .pages) × (used ≡ inUse (now owners)) × (65532 < g .pages → 1 ≤ used) ⌝ }
+    ensures { λ r. ⌜ RootWalked g (viewOf g (now (image .entry))) used (now (owners .entry)) r (now (owners .exit)) ⌝ }
+{
+    let totals = Totals {
+        used,
+        files: 0,
+        directories: 0,
+    };
+    walk::walk_directory(image, g, 8, Kind::Root, ROOT, 0, 0, 1, totals, owners)
+}
+
+// The first half of the check, over an empty table: all but the bits of the bitmap.
+fn scan(image: &[u8], g: Geometry, root: Root, owners: &mut [u16]) -> Walk
+    requires { ⌜ Fit g (now image) ⌝ }
+    requires { ⌜ (now owners ≡ replicate (g .pages) 0) × (root ≡ rootOf g (viewOf g (now image) 0)) ⌝ }
+    ensures { λ r. ⌜ Scanned g (viewOf g (now (image .entry))) r (now (owners .exit)) ⌝ }
+{
+    match root {
+        Root::Refused(number) => Walk::Refused(number, 0),
+        Root::Local => walk_root(image, g, 0, owners),
+        Root::Remote(start, count) => match claim_map(image, g, start, count, owners) {
+            Walk::Refused(number, told) => Walk::Refused(number, told),
+            Walk::Done(map) => walk_root(image, g, map.used, owners),
+        },
+    }
+}
