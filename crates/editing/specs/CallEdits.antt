@@ -2,15 +2,11 @@
 use mathlib.Core.Path.{_≡_, refl, subst}
 use mathlib.Core.Bool.{Bool}
 use mathlib.Core.List.{List}
-use Prim.Native.Nat.{ℕ, _*_, _≤_}
-use native.Mathlib.Omega.{arith}
-use lib.Dec.{leb}
+use Prim.Native.Nat.{ℕ}
 use lib.ListN.{length}
-use borrow.Author.Tests.{leb-true, eqb-true}
 use Rattle.geometry.specs.declared.Geometry.{Geometry}
 use Rattle.geometry.specs.declared.Shape.the-variants.{Fits}
-use Rattle.geometry.specs.ChooseLaws.{on-choose}
-use Rattle.geometry.specs.Geometry.{widthFor, right, geometryOf, Fit}
+use Rattle.geometry.specs.ShapeLaws.{fit-of}
 use Rattle.geometry.specs.Number.{Bytes}
 use Rattle.rules.specs.Result.{Res, ok, err}
 use Rattle.rules.specs.ResultLaws.{clash}
@@ -18,43 +14,9 @@ use Rattle.rules.specs.Format.{format}
 use Rattle.rules.specs.Put.{put}
 use Rattle.rules.specs.Delete.{delete}
 use Rattle.rules.specs.Calls.{shape, done, formatCall, putCall, deleteCall}
-use Rattle.reading.specs.BoolLaws.{both}
 use Rattle.editing.specs.FormatLaws.{Formatted, format-done}
 use Rattle.editing.specs.DeleteLaws.{Deleted, delete-done}
 use Rattle.editing.specs.PutDone.{PutDone, put-gives}
-
--- ---- sizes that are right are a geometry's
-width-one : (N : ℕ) → 1 ≤ widthFor N
-unfolding widthFor
-width-one N = on-choose (leb N 256) 1 2 (widthFor N) refl (λ t e. omega (arith, e)) (λ t e. omega (arith, e))
-
-width-two : (N : ℕ) → widthFor N ≤ 2
-unfolding widthFor
-width-two N = on-choose (leb N 256) 1 2 (widthFor N) refl (λ t e. omega (arith, e)) (λ t e. omega (arith, e))
-
-pub fit-of : (P N : ℕ) (image table : List ℕ) (g : Geometry) → geometryOf P N (length image) (length table) ≡ Fits g → Fit g image
-unfolding geometryOf right
-fit-of P N image table g e = on-choose _ _ _ _ e
-    (λ t e.
-    let r₁ = both _ _ t in
-    let r₂ = both _ _ (r₁ .1) in
-    let r₃ = both _ _ (r₂ .1) in
-    let r₄ = both _ _ (r₃ .1) in
-    let r₅ = both _ _ (r₄ .1) in
-    let i : record { size = P; pages = N; width = widthFor N } ≡ g = cc in
-    subst (λ (g : Geometry). Fit g image) i (record {
-      valid = record {
-        least = leb-true 32 P (r₁ .0);
-        most = leb-true P 256 (r₂ .0);
-        some = leb-true 2 N (r₃ .0);
-        few = leb-true N 65535 (r₄ .0);
-        wide = refl;
-        one = width-one N;
-        two = width-two N;
-      };
-      whole = eqb-true (length image) (P * N) (r₅ .0);
-    }))
-    (λ t e. absurd (let z : _≡_ {A = ℕ} 0 1 = cc in omega arith))
 
 -- an edit that answers 0 leaves what the rule tells
 pub done-ok : (P N : ℕ) (image table : List ℕ) (g : Geometry) (r : Res (List ℕ)) → done P N image table g r .0 ≡ ok tt → r ≡ ok (done P N image table g r .1)

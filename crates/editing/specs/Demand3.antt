@@ -19,7 +19,8 @@ use Rattle.rules.specs.Paths.{Path, fileKey, find}
 use Rattle.rules.specs.Candidate.{Accepted, OnlyRoom, Exists, atPath, filePath, Candidate, chainPages, pagesInUse}
 use Rattle.rules.specs.Calls.{done, putCall}
 use Rattle.reading.specs.Accepted.{accepted-iff, accepted}
-use Rattle.editing.specs.CallEdits.{fit-of, done-ok}
+use Rattle.geometry.specs.ShapeLaws.{fit-of}
+use Rattle.editing.specs.CallEdits.{done-ok}
 use Rattle.editing.specs.PutLaws.{same-length, Asked, kept, free, free-clear, extra, wanted, result, kept-old, put-total, put-edited}
 use Rattle.editing.specs.PutDone.{put-fits, put-full, put-room, put-gives}
 use Rattle.editing.specs.PutCandidate.{put-candidate, no-entry-more}

@@ -21,7 +21,7 @@ use Rattle.rules.specs.Names.{entryBytes}
 use Rattle.rules.specs.Tree.{Items, end, page, file, dir, fileEntry, directoryEntry, tokens, tokenBytes, tokenLinks, directoryLinks, ownPages}
 use Rattle.rules.specs.WellFormed.{Stand, Entries}
 use Rattle.rules.specs.Writes.{sameList, sameWrite, changes, backwards}
-use Rattle.reading.specs.BoolLaws.{both}
+use Rattle.geometry.specs.BoolLaws.{both}
 use Rattle.reading.specs.PacketLaws.{ByteView, stand-left, stand-right}
 use Rattle.reading.specs.DirectoryComplete.{pages-fit}
 use Rattle.editing.specs.Capacity.{capacity-is, later-holds, holds-later, entriesHere, PagesHold, length-here}

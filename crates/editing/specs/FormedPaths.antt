@@ -13,7 +13,7 @@ use Rattle.rules.specs.Result.{ok}
 use Rattle.rules.specs.ResultLaws.{ok-inj, on-refuse}
 use Rattle.rules.specs.Names.{validName}
 use Rattle.rules.specs.Paths.{Path, namesIn, validNames, pathOf}
-use Rattle.reading.specs.BoolLaws.{both}
+use Rattle.geometry.specs.BoolLaws.{both}
 use Rattle.reading.specs.ByteLaws.{number-fits}
 
 pub record Formed (path : List ℕ) (q : Path) : Type 0 where

@@ -18,7 +18,7 @@ use Rattle.geometry.specs.PageLaws.{page-end}
 use Rattle.packet.specs.Packet.{good, checkOf, pointerOf, isPacket, packetOf, packetBody, packetBytes, written}
 use Rattle.packet.specs.Reading.{right-packet}
 use Rattle.packet.specs.RoundTrip.{length-packet}
-use Rattle.reading.specs.BoolLaws.{both}
+use Rattle.geometry.specs.BoolLaws.{both}
 use Rattle.reading.specs.ByteLaws.{number-back}
 
 -- ---- a page put into an image

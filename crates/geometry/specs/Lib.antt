@@ -7,3 +7,5 @@ pub mod NumberLaws
 pub mod PageLaws
 pub mod Capacities
 pub mod ListLaws
+pub mod BoolLaws
+pub mod ShapeLaws

@@ -24,7 +24,7 @@ use Rattle.rules.specs.Control.{Above, subControl, subPage}
 use Rattle.rules.specs.WellFormed.{Stand, packetsBelow, IsDirectory, Named, Entries}
 use Rattle.rules.specs.Check.{chain, directory, Judge, judgeFile, judgeEntry, judgeEntries, judgeDirectory, judgeSub}
 use Rattle.reading.specs.TokenLaws.{TokensFit, whole-tokens, tokens-back}
-use Rattle.reading.specs.BoolLaws.{either-left, either-right}
+use Rattle.geometry.specs.BoolLaws.{either-left, either-right}
 use Rattle.reading.specs.LabelLaws.{file-no-directory, label-complete}
 use Rattle.reading.specs.PacketLaws.{stand-left, stand-right}
 use Rattle.reading.specs.ControlLaws.{whole-ok}

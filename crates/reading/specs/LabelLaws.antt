@@ -13,7 +13,7 @@ use Rattle.rules.specs.PageSets.{count, mem}
 use Rattle.rules.specs.PageSetLaws.{same, other, hits}
 use Rattle.rules.specs.Names.{signs, nameByte, validName, fileNumber, directoryNumber}
 use Rattle.rules.specs.Check.{judgeLabel}
-use Rattle.reading.specs.BoolLaws.{both, on-either, right-fails}
+use Rattle.geometry.specs.BoolLaws.{both, on-either, right-fails}
 
 -- ---- a name's bytes are below 128
 abbrev AtMost : ℕ → List ℕ → Type 0

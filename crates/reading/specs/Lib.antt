@@ -1,4 +1,3 @@
-pub mod BoolLaws
 pub mod ByteLaws
 pub mod EntryLaws
 pub mod TokenLaws

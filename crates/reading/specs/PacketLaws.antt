@@ -14,7 +14,7 @@ use Rattle.geometry.specs.Page.{pageOf}
 use Rattle.packet.specs.Packet.{bad, good, pointerOf, isPacket, packetOf, View, viewOf, Write, write}
 use Rattle.rules.specs.WellFormed.{Stand}
 use Rattle.reading.specs.ByteLaws.{number-fits}
-use Rattle.reading.specs.BoolLaws.{both}
+use Rattle.geometry.specs.BoolLaws.{both}
 
 -- every packet of a view is one that a page can hold
 pub record ByteView (g : Geometry) (v : View) : Type 0 where

@@ -15,7 +15,7 @@ use Rattle.rules.specs.Result.{ok}
 use Rattle.rules.specs.ResultLaws.{on-refuse, then-ok, refuse-true}
 use Rattle.rules.specs.Control.{marker, Above, subControl, wholeEntries, backReference, subPage}
 use Rattle.reading.specs.ByteLaws.{bytes-are, number-front}
-use Rattle.reading.specs.BoolLaws.{both}
+use Rattle.geometry.specs.BoolLaws.{both}
 use Rattle.reading.specs.ControlLaws.{control-size, whole-inv}
 
 -- the directory above has a name and a start page that fit

@@ -2,18 +2,21 @@
 use mathlib.Core.Path.{_≡_, refl, ap, sym, _∙_, subst}
 use mathlib.Core.Bool.{Bool, true, false}
 use mathlib.Core.List.{List, [], _++_}
-use Prim.Native.Nat.{ℕ, zero, suc, _+_, _≤_, _<_}
+use Prim.Native.Nat.{ℕ, zero, suc, _+_, _-_, _≤_, _<_}
 use native.Mathlib.Omega.{arith}
 use lib.Dec.{leb, ltb}
+use lib.Seq.{drop-drop, take-take}
 use lib.ListN.{length, getD, take, drop, replicate, length-append, length-replicate}
-use borrow.Author.Tests.{ltb-true}
+use borrow.Author.Tests.{ltb-true, leb-true}
 use Rattle.geometry.specs.declared.Geometry.{Geometry}
 use Rattle.geometry.specs.Choose.{choose}
 use Rattle.geometry.specs.ChooseLaws.{choose-true, choose-false}
+use Rattle.geometry.specs.Geometry.{controlSize}
+use Rattle.geometry.specs.ListLaws.{drop-of-take}
 use Rattle.geometry.specs.Page.{pageOf}
 use Rattle.packet.specs.declared.Judged.{Judged}
 use Rattle.packet.specs.declared.Judged.the-variants.{Whole, Bad}
-use Rattle.packet.specs.Packet.{Packet, bad, good, View, packetOf}
+use Rattle.packet.specs.Packet.{Packet, bad, good, View, packetOf, viewOf}
 use Rattle.packet.specs.Judged.{judged}
 use Rattle.packet.specs.Reading.{Right, right-packet}
 use Rattle.rules.specs.declared.Totals.{Totals}
@@ -21,16 +24,19 @@ use Rattle.rules.specs.Result.{Res, ok, err, andThen, andAfter, refuse-unless}
 use Rattle.rules.specs.ResultLaws.{ok-inj, clash, on-then, on-refuse, then-ok, then-err, refuse-true, refuse-false}
 use Rattle.rules.specs.PageSets.{count, range, Within}
 use Rattle.rules.specs.PageSetLaws.{count-append}
-use Rattle.rules.specs.Chain.{packetAt, anyPage}
+use Rattle.rules.specs.Chain.{Link, content, packetAt, anyPage}
 use Rattle.rules.specs.ChainLaws.{packet-good, length-pages, walk-sound}
 use Rattle.rules.specs.Tree.{Items, ownPages, innerPages, allPages, Map, inRoot, inFile, mapPages, Image, used}
 use Rattle.rules.specs.Control.{theRoot, Head, headOf, mapStart, mapCount, rootPage, localAllowed, placeZeros, fieldAt}
 use Rattle.rules.specs.Owners.{fileCount, directoryCount, own, owners, totals}
-use Rattle.rules.specs.OwnerLaws.{nonzero, Represents, represents-none, represents-own, represents-length, inUse, length-own}
-use Rattle.rules.specs.Check.{Scan, rawBits, judgeMap, judgeDirectory, judgeSub, scan}
+use Rattle.rules.specs.OwnerLaws.{nonzero, Represents, represents-none, represents-own, represents-length, inUse, length-own, represents-owners}
+use Rattle.rules.specs.Check.{Scan, rawBits, judgeBits, judgeMap, judgeDirectory, judgeSub, scan, check}
+use Rattle.rules.specs.Soundness.{scan-sound}
+use Rattle.entries.specs.Seats.{IsDirectoryChain}
 use Rattle.directory.specs.declared.control.Root.{Root}
 use Rattle.directory.specs.declared.control.Root.the-variants as root
 use Rattle.directory.specs.Faults.{control}
+use Rattle.walk.proofs.Directories.{chain-directory}
 use Rattle.walk.specs.declared.Walk.{Walk}
 use Rattle.walk.specs.declared.Walk.the-variants as w
 use Rattle.walk.specs.Walks.{Answers, plusDirectory, ownDirectory}
@@ -132,6 +138,7 @@ module _ (g : Geometry) (v : View) where
 
   pub record InRoot : Type 0 where
     pub head : Head
+    pub is-head : IsHead head
     pub scan-is : scan g v ≡ rest head inRoot
     pub few : g .pages < 32
 
@@ -139,7 +146,7 @@ module _ (g : Geometry) (v : View) where
   unfolding judgeMap
   scan-local r q i = elim (said r q) [
     | refused m j k ↦ absurd (let z : 2 ≡ 0 = ap told (sym j ∙ i) in omega arith)
-    | local h k j l ↦ record { head = h; scan-is = from-head h k ∙ simp (l, choose-true, then-ok); few = head-local g (k .bytes) h (k .head) l }
+    | local h k j l ↦ record { head = h; is-head = k; scan-is = from-head h k ∙ simp (l, choose-true, then-ok); few = head-local g (k .bytes) h (k .head) l }
     | remote h k j l ↦ absurd (let z : 1 ≡ 0 = ap told (sym j ∙ i) in omega arith)
   ]
 
@@ -265,3 +272,57 @@ page-fits g p page l n e = go (packetOf (g .width) p page) refl e
     go : (x : Packet) → packetOf (g .width) p page ≡ x → Whole l n ≡ judged x → l + 1 ≤ length page
     go bad y e = absurd (let z : _≡_ {A = ℕ} 0 1 = cc in omega arith)
     go (good b m) y e = omega (arith, right-packet (g .width) p page b m y .room, ap size e)
+
+-- ---- the bitmap's bytes as they stand
+-- in the root: the four bytes of the control field
+head-field : (g : Geometry) (b : List ℕ) (h : Head) → headOf g b ≡ ok h → (h .field ≡ fieldAt (g .width) b) × (controlSize g ≤ length b)
+unfolding headOf
+head-field g b h e =
+    on-refuse _ _ _ _ _ e λ g₁ e. on-refuse _ _ _ _ _ e λ g₂ e. on-refuse _ _ _ _ _ e λ g₃ e. on-refuse _ _ _ _ _ e λ g₄ e. on-refuse _ _ _ _ _ e λ g₅ e. on-refuse _ _ _ _ _ e λ g₆ e.
+    (ap (λ (x : Head). x .field) (sym (ok-inj e)), leb-true (controlSize g) (length b) g₁)
+
+scanned-raw : (g : Geometry) (v : View) (h : Head) (m : Map) (s : Scan) → rest g v h m ≡ ok s → s .raw ≡ rawBits h m
+scanned-raw g v h m s e = on-then _ _ _ e λ t a e. ap (λ (x : Scan). x .raw) (sym (ok-inj e))
+
+pub raw-local : (g : Geometry) (image : List ℕ) (k : InRoot g (viewOf g image)) (s : Scan) → scan g (viewOf g image) ≡ ok s → s .raw ≡ take 4 (drop (3 + g .width) (pageOf g 0 image))
+unfolding viewOf controlSize
+raw-local g image k s e =
+    let n = g .width in
+    let page = pageOf g 0 image in
+    let b = k .is-head .bytes in
+    let r = right-packet n 0 page b (k .is-head .next) (k .is-head .packet) in
+    let f = head-field g b (k .head) (k .is-head .head) in
+    let d : drop (n + 2) b ≡ take (length b - (n + 2)) (drop (1 + (n + 2)) page) = ap (drop (n + 2)) (r .bytes-are) ∙ drop-of-take (n + 2) (length b) (drop 1 page) (omega (arith, f .1)) ∙ ap (take (length b - (n + 2))) (drop-drop (n + 2) 1 page) in
+    let a : 1 + (n + 2) ≡ 3 + n = omega arith in
+    scanned-raw g (viewOf g image) (k .head) inRoot s (sym (k .scan-is) ∙ e) ∙ f .0 ∙ ap (take 4) d ∙ take-take 4 (length b - (n + 2)) (drop (1 + (n + 2)) page) (omega (arith, f .1)) ∙ ap (λ (x : ℕ). take 4 (drop x page)) a
+
+-- in a file: its content
+pub record RawFile (g : Geometry) (v : View) (start : ℕ) (s : Scan) : Type 0 where
+  pub links : List Link
+  pub chain : IsDirectoryChain g v start links
+  pub raw-is : s .raw ≡ content links
+
+pub raw-file : (g : Geometry) (v : View) (start count : ℕ) (k : InFile g v start count) (s : Scan) → scan g v ≡ ok s → RawFile g v start s
+unfolding judgeFileMap
+raw-file g v start count k s e =
+    on-then _ _ _ (sym (k .scan-is) ∙ e) λ m q z. on-refuse _ _ _ _ _ q λ g₁ q. on-then _ _ _ q λ ls y q. on-refuse _ _ _ _ _ q λ g₂ q. on-refuse _ _ _ _ _ q λ g₃ q.
+    let c = walk-sound (g .pages) v anyPage (suc (g .pages)) 0 [] 0 start ls (λ x. omega arith) y in
+    record { links = ls; chain = chain-directory g v anyPage [] start ls c; raw-is = scanned-raw g v (k .head) m s z ∙ ap (rawBits (k .head)) (sym (ok-inj q)) }
+
+-- ---- the check from its halves
+module _ (g : Geometry) (v : View) where
+  pub check-refused : (n p : ℕ) → scan g v ≡ err n p → check g v ≡ err n p
+  unfolding check
+  check-refused n p e = simp (e, then-err)
+
+  module _ (s : Scan) (e : scan g v ≡ ok s) where
+    pub check-differs : (d : ℕ) → judgeBits (s .raw) (used (s .image)) ≡ err 13 d → check g v ≡ err 13 d
+    unfolding check
+    check-differs d q = simp (e, then-ok, q, then-err)
+
+    pub check-same : judgeBits (s .raw) (used (s .image)) ≡ ok tt → check g v ≡ ok (s .image)
+    unfolding check
+    check-same q = simp (e, then-ok, q)
+
+    pub scan-table : (u : List ℕ) → u ≡ owners (g .pages) (s .image) → Represents u (used (s .image))
+    scan-table u q = subst (λ (x : List ℕ). Represents x (used (s .image))) (sym q) (represents-owners (g .pages) (s .image) (scan-sound g v s e .clear))

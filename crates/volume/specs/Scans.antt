@@ -10,15 +10,18 @@ use Rattle.packet.specs.Packet.{Packet, bad, good, View}
 use Rattle.rules.specs.declared.Totals.{Totals}
 use Rattle.rules.specs.Result.{Res, ok, err, andThen as _>>=_, andAfter as _>>_, refuse-unless}
 use Rattle.rules.specs.Chain.{content, anyPage, walk}
-use Rattle.rules.specs.Tree.{Map, inFile, mapPages}
+use Rattle.rules.specs.Tree.{Map, inFile, mapPages, Image}
 use Rattle.rules.specs.Control.{theRoot, headOf, rootPage}
 use Rattle.rules.specs.Owners.{own, owners, totals}
 use Rattle.rules.specs.OwnerLaws.{Represents, inUse}
-use Rattle.rules.specs.Check.{Scan, judgeDirectory, judgeSub, scan}
+use Rattle.rules.specs.Check.{Scan, judgeBits, judgeDirectory, judgeSub, scan, check}
 use Rattle.directory.specs.declared.control.Root.{Root}
 use Rattle.directory.specs.declared.control.Root.the-variants as root
 use Rattle.directory.specs.Faults.{control}
+use Rattle.bitmap.specs.declared.Bits.{Bits}
+use Rattle.bitmap.specs.Bits.{Compares}
 use Rattle.walk.specs.declared.Walk.{Walk}
+use Rattle.walk.specs.declared.Walk.the-variants as w
 use Rattle.walk.specs.Walks.{Answers, plusDirectory, ownDirectory}
 
 -- page 0's packet (2), then the root's control field
@@ -50,3 +53,20 @@ RootWalked g v n t r u = (claimed : List ℕ) → Represents t claimed → Answe
 -- the first half of the check
 abbrev pub Scanned : Geometry → View → Walk → List ℕ → Type 0
 Scanned g v r u = Answers (λ s. totals (s .image)) (λ s. owners (g .pages) (s .image)) (scan g v) r u
+
+abbrev pub IsScanned : Geometry → View → Type 0
+IsScanned g v = (s : Scan) × (scan g v ≡ ok s)
+
+-- the second half: the bits of a scanned image's bitmap
+abbrev pub BitsCompared : Geometry → View → List ℕ → Bits → Type 0
+BitsCompared g v table r = (s : Scan) → scan g v ≡ ok s → (used : List ℕ) → Represents table used → Compares (judgeBits (s .raw) used) r
+
+-- both halves: the totals and the table of an accepted image, an empty table otherwise
+abbrev pub TableChecked : Geometry → View → Walk → List ℕ → Type 0
+TableChecked g v (w.Done d) u = (i : Image) × (check g v ≡ ok i) × (d ≡ totals i) × (u ≡ owners (g .pages) i)
+TableChecked g v (w.Refused n p) u = (check g v ≡ err n p) × (u ≡ replicate (g .pages) 0)
+
+-- an answer as the rules have it
+abbrev pub told : Walk → Res Totals
+told (w.Done d) = ok d
+told (w.Refused n p) = err n p

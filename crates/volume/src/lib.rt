@@ -1,8 +1,10 @@
 // The whole image: the check in two halves, over the owner table.
+use bitmap::Bits;
 use chain::Claim;
 use directory::control::Kind;
 use directory::control::Root;
 use geometry::Geometry;
+use geometry::Shape;
 use packet::Judged;
 use rules::Totals;
 use walk::Walk;
@@ -13,7 +15,8 @@ ghost use lib.ListN.{length, replicate};
 ghost use Rattle.geometry.specs.Geometry.{Fit};
 ghost use Rattle.packet.specs.Packet.{viewOf};
 ghost use Rattle.rules.specs.OwnerLaws.{inUse};
-ghost use Rattle.volume.specs.Scans.{rootOf, MapClaimed, RootWalked, Scanned};
+ghost use Rattle.volume.specs.Scans.{rootOf, MapClaimed, RootWalked, Scanned, IsScanned, BitsCompared, TableChecked, told};
+ghost use Rattle.rules.specs.Calls.{checkCall};
 
 // `ROOT`, the first byte lowest.
 const ROOT: u32 = 0x544F4F52;
@@ -97,5 +100,59 @@ fn scan(image: &[u8], g: Geometry, root: Root, owners: &mut [u16]) -> Walk
             Walk::Refused(number, told) => Walk::Refused(number, told),
             Walk::Done(map) => walk_root(image, g, map.used, owners),
         },
+    }
+}
+
+// The second half: the bits of the bitmap where the root's control field places it.
+fn compare(image: &[u8], g: Geometry, root: Root, owners: &[u16]) -> Bits
+    requires { ⌜ Fit g (now image) ⌝ }
+    requires { ⌜ (root ≡ rootOf g (viewOf g (now image) 0)) × IsScanned g (viewOf g (now image)) ⌝ }
+    ensures { λ r. ⌜ BitsCompared g (viewOf g (now (image .entry))) (now (owners .entry)) r ⌝ }
+{
+    match root {
+        Root::Refused(_) => Bits::Same,
+        Root::Local => {
+            let at = 3 + g.width;
+            let end = at + 4;
+            let page = geometry::page_of(image, g, 0);
+            bitmap::compare_local(&page[at..end], owners)
+        }
+        Root::Remote(start, _) => bitmap::compare_chain(image, g, start, owners),
+    }
+}
+
+// Checks an image and fills the table, or leaves it empty.
+fn check_table(image: &[u8], g: Geometry, owners: &mut [u16]) -> Walk
+    requires { ⌜ Fit g (now image) ⌝ }
+    requires { ⌜ length (now owners) ≡ g .pages ⌝ }
+    ensures { λ r. ⌜ TableChecked g (viewOf g (now (image .entry))) r (now (owners .exit)) ⌝ }
+{
+    clear(owners);
+    let root = root_of(image, g);
+    match scan(image, g, root, owners) {
+        Walk::Refused(number, page) => {
+            clear(owners);
+            Walk::Refused(number, page)
+        }
+        Walk::Done(totals) => match compare(image, g, root, owners) {
+            Bits::Differ(bit) => {
+                clear(owners);
+                Walk::Refused(13, bit)
+            }
+            Bits::Same => Walk::Done(totals),
+        },
+    }
+}
+
+// Checks an image in its geometry: pages in use, files and directories, or the first fault. Fills the owner table.
+pub fn check(image: &[u8], size: u32, pages: u32, owners: &mut [u16]) -> Walk
+    ensures { λ r. ⌜ (told r, now (owners .exit)) ≡ checkCall size pages (now (image .entry)) (now (owners .entry)) ⌝ }
+{
+    match Geometry::new(size, pages, image.len(), owners.len()) {
+        Shape::Wrong => Walk::Refused(1, 0),
+        Shape::Fits(g) => {
+            let n = g.pages;
+            check_table(image, g, &mut owners[..n])
+        }
     }
 }

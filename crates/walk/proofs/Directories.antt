@@ -29,7 +29,7 @@ use Rattle.walk.proofs.Steps.{good-chain, directory-refused, directory-
 use Rattle.walk.proofs.Left.{here, LeftOver}
 
 -- a chain that the walk accepts is a directory's chain
-chain-directory : (g : Geometry) (v : View) (test : Test) (claimed : List ℕ) (start : ℕ) (ls : List Link) → IsChain (g .pages) v test 0 claimed start ls → IsDirectoryChain g v start ls
+pub chain-directory : (g : Geometry) (v : View) (test : Test) (claimed : List ℕ) (start : ℕ) (ls : List Link) → IsChain (g .pages) v test 0 claimed start ls → IsDirectoryChain g v start ls
 chain-directory g v test claimed start ls c = record {
   some = c .some;
   begins = c .start;

@@ -1,0 +1,40 @@
+use mathlib.Core.Path.{sym, _∙_}
+use Prim.Native.Nat.{ℕ, _-_, _*_, _≤_, _<_}
+use native.Mathlib.Omega.{arith}
+use lib.ListN.{length}
+use Rattle.bitmap.proofs.BitLaws.{Right, right-on, part-same, part-differ}
+use borrow.Author.Needs.{needs}
+use Rattle.bitmap.proofs.compare_bytes.Statement.{statement}
+use Rattle.bitmap.proofs.compare_bytes.Tie as tie
+
+abbrev Inv-loop : tie.InvT-loop
+Inv-loop bytes at owners end k₀ k = (k ≤ 8 * length bytes) × ((j : ℕ) → j < k → Right bytes at owners j)
+
+abbrev μ-loop : tie.MeasureT-loop
+μ-loop bytes at owners end k₀ k = end - k
+
+loop-holds : tie.Need-loop-holds Inv-loop μ-loop
+loop-holds c = (omega arith, λ j h. absurd (omega arith))
+
+returns : tie.Need-returns Inv-loop μ-loop
+returns c =
+    let a = c .before .before .before .before .before .before .before .before .args in
+    let l = c .before .before .before .before .before .loop in
+    part-differ (a .bytes .now) _ (a .owners .now) (l .k) (c .before .before .before .before .loop-test .taken) (l .inv .1) (λ e. c .if1 .taken (c .before .before .bit-of .ensures ∙ e ∙ sym (c .before .in-use .ensures)))
+
+loop-again : tie.Need-loop-again Inv-loop μ-loop
+loop-again c =
+    let a = c .before .before .before .before .before .before .before .before .args in
+    let l = c .before .before .before .before .before .loop in
+    (omega (arith, c .before .before .before .before .loop-test .taken), right-on (a .bytes .now) _ (a .owners .now) (l .k) (l .inv .1) (sym (c .before .before .bit-of .ensures) ∙ c .if1 .left ∙ c .before .in-use .ensures))
+
+returns-2 : tie.Need-returns-2 Inv-loop μ-loop
+returns-2 c =
+    let a = c .before .before .before .before .args in
+    let l = c .before .loop in
+    part-same (a .bytes .now) _ (a .owners .now) (l .k) (l .inv .0) (omega (arith, c .loop-test .left)) (l .inv .1)
+
+pub compare-bytes-spec : {M : Type 1} → statement M
+compare-bytes-spec =
+    tie.close
+    (tie.spec Inv-loop μ-loop (λ c. search needs) loop-holds (λ c. search needs) (λ c. search needs) (λ c. search needs) (λ c κs. search needs) (λ c κs. search needs) returns (λ c. search needs) (λ c. search needs) loop-again returns-2)

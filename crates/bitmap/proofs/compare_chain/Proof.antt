@@ -1,0 +1,88 @@
+-- The loop over a bitmap's chain: the bits of the pages passed agree.
+use mathlib.Core.Path.{sym, _∙_}
+use mathlib.Core.List.{List}
+use Prim.Native.Nat.{ℕ, _-_}
+use native.Mathlib.Omega.{arith}
+use lib.ListN.{length}
+use Rattle.packet.specs.Packet.{viewOf}
+use Rattle.rules.specs.Chain.{Link, content}
+use Rattle.rules.specs.OwnerLaws.{Represents, taken, represents-taken}
+use Rattle.entries.specs.Seats.{IsDirectoryChain}
+use Rattle.entries.proofs.SeatLaws.{never-refused}
+use Rattle.bitmap.proofs.Comparing.{Comparing, started, now-here, reaches, in-bounds, counts-on, answer-differ, answer-same, compare-on}
+use borrow.Author.Needs.{needs}
+use Rattle.bitmap.proofs.compare_chain.Statement.{statement}
+use Rattle.bitmap.proofs.compare_chain.Tie as tie
+
+abbrev Inv-loop : tie.InvT-loop
+Inv-loop image g start owners c₀ c = (ls : List Link) → IsDirectoryChain g (viewOf g image) start ls → (used : List ℕ) → Represents owners used → Comparing g (viewOf g image) (content ls) used (length ls) c
+
+abbrev μ-loop : tie.MeasureT-loop
+μ-loop image g start owners c₀ c = g .pages - c .count
+
+loop-holds : tie.Need-loop-holds Inv-loop μ-loop
+loop-holds c = λ ls d used r. started _ _ (c .before .before .before .pre .0) _ _ used ls (c .new .ensures) d
+
+step-requires : tie.Need-step-requires Inv-loop μ-loop
+step-requires c κs =
+    let s = c .before .before .before .before .pre in
+    let t = c .before .before .before .before .args .owners .now in
+    let l = c .loop .inv (s .1 .links) (s .1 .chain) (taken t) (represents-taken t) in
+    (s .0, (l .counted, λ z. now-here _ _ (s .0) _ _ _ _ l .1))
+
+returns : tie.Need-returns Inv-loop μ-loop
+returns c =
+    let s = c .before .before .before .before .before .before .before .pre in
+    let t = c .before .before .before .before .before .before .before .args .owners .now in
+    let l = c .before .before .before .loop .inv (s .1 .links) (s .1 .chain) (taken t) (represents-taken t) in
+    let k = now-here _ _ (s .0) _ _ _ _ l in
+    absurd (never-refused _ _ _ (k .0) (k .1) _ _ (sym (c .enum-told .given .1) ∙ c .before .before .step .ensures))
+
+page-of-requires : tie.Need-page-of-requires Inv-loop μ-loop
+page-of-requires c κs =
+    let s = c .before .before .before .before .before .before .before .before .pre in
+    let t = c .before .before .before .before .before .before .before .before .args .owners .now in
+    let l = c .before .before .before .before .loop .inv (s .1 .links) (s .1 .chain) (taken t) (represents-taken t) in
+    (s .0, now-here _ _ (s .0) _ _ _ _ l .0)
+
+data-of-requires : tie.Need-data-of-requires Inv-loop μ-loop
+data-of-requires c κs =
+    let s = c .before .before .before .before .before .before .before .before .before .pre in
+    let t = c .before .before .before .before .before .before .before .before .before .args .owners .now in
+    let l = c .before .before .before .before .before .loop .inv (s .1 .links) (s .1 .chain) (taken t) (represents-taken t) in
+    reaches _ _ (s .0) _ _ _ _ _ (now-here _ _ (s .0) _ _ _ _ l .0) (c .before .before .size .given .1) (c .before .before .before .before .step .ensures) (c .page-of .ensures)
+
+compare-bytes-requires : tie.Need-compare-bytes-requires Inv-loop μ-loop
+compare-bytes-requires c κs =
+    let s = c .before .before .before .before .before .before .before .before .before .before .pre in
+    let t = c .before .before .before .before .before .before .before .before .before .before .args .owners .now in
+    let l = c .before .before .before .before .before .before .loop .inv (s .1 .links) (s .1 .chain) (taken t) (represents-taken t) in
+    in-bounds _ _ (s .0) _ _ _ _ l _ _ _ (c .before .before .before .size .given .1) (c .before .before .before .before .before .step .ensures) _ (c .before .page-of .ensures) _ (c .data-of .ensures)
+
+returns-2 : tie.Need-returns-2 Inv-loop μ-loop
+returns-2 c = λ ls d used r.
+    let s = c .before .before .before .before .before .before .before .before .before .before .before .before .before .before .pre in
+    answer-differ _ _ (s .0) _ _ _ _ (c .before .before .before .before .before .before .before .before .before .before .loop .inv ls d used r) _ _ _ (c .before .before .before .before .before .before .before .size .given .1) (c .before .before .before .before .before .before .before .before .before .step .ensures) _ (c .before .before .before .before .before .page-of .ensures) _ (c .before .before .before .before .data-of .ensures) (c .before .before .before .before .before .before .before .before .before .before .before .before .before .before .args .owners .now) r (c .before .before .before .compare-bytes .result) (c .before .before .before .compare-bytes .ensures) _ (c .before .bit .given .1)
+
+returns-3 : tie.Need-returns-3 Inv-loop μ-loop
+returns-3 c = λ ls d used r.
+    let s = c .before .before .before .before .before .before .before .before .before .before .before .before .before .before .before .pre in
+    answer-same _ _ (s .0) _ _ _ _ (c .before .before .before .before .before .before .before .before .before .before .before .loop .inv ls d used r) _ _ _ (c .before .before .before .before .before .before .before .before .size .given .1) (c .before .before .before .before .before .before .before .before .before .before .step .ensures) _ (c .before .before .before .before .before .before .page-of .ensures) _ (c .before .before .before .before .before .data-of .ensures) (c .before .before .before .before .before .before .before .before .before .before .before .before .before .before .before .args .owners .now) r (c .before .before .before .before .compare-bytes .result) (c .before .before .before .before .compare-bytes .ensures) (c .before .before .enum-told2 .given .1) (c .if1 .taken)
+
+loop-less : tie.Need-loop-less Inv-loop μ-loop
+loop-less c =
+    let s = c .before .before .before .before .before .before .before .before .before .before .before .before .before .before .before .pre in
+    let t = c .before .before .before .before .before .before .before .before .before .before .before .before .before .before .before .args .owners .now in
+    let l = c .before .before .before .before .before .before .before .before .before .before .before .loop .inv (s .1 .links) (s .1 .chain) (taken t) (represents-taken t) in
+    let k = counts-on _ _ (s .0) _ _ _ _ l _ _ _ (c .before .before .before .before .before .before .before .before .size .given .1) (c .before .before .before .before .before .before .before .before .before .before .step .ensures) _ (c .before .before .before .before .before .before .page-of .ensures) _ (c .before .before .before .before .before .data-of .ensures) in
+    omega (arith, l .steps, l .chain .some, s .1 .chain .few)
+
+loop-again : tie.Need-loop-again Inv-loop μ-loop
+loop-again c = λ ls d used r.
+    let s = c .before .before .before .before .before .before .before .before .before .before .before .before .before .before .before .pre in
+    compare-on _ _ (s .0) _ _ _ _ (c .before .before .before .before .before .before .before .before .before .before .before .loop .inv ls d used r) _ _ _ (c .before .before .before .before .before .before .before .before .size .given .1) (c .before .before .before .before .before .before .before .before .before .before .step .ensures) _ (c .before .before .before .before .before .before .page-of .ensures) _ (c .before .before .before .before .before .data-of .ensures) (c .before .before .before .before .before .before .before .before .before .before .before .before .before .before .before .args .owners .now) r (c .before .before .before .before .compare-bytes .result) (c .before .before .before .before .compare-bytes .ensures) (c .before .before .enum-told2 .given .1) (c .if1 .left) (d .few)
+
+pub compare-chain-spec : {M : Type 1} → statement M
+compare-chain-spec =
+    tie.close
+    (tie.spec Inv-loop μ-loop (λ c κs. search needs) loop-holds step-requires (λ c. search needs) returns (λ c. search needs) page-of-requires data-of-requires compare-bytes-requires (λ c. search needs) returns-2 (λ c. search needs) returns-3 loop-less loop-again)

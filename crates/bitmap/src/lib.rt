@@ -1,0 +1,100 @@
+// The bitmap compared with the owner table, in the root or in a file of its own.
+use chain::Cursor;
+use chain::Step;
+use geometry::Geometry;
+ghost use mathlib.Core.Path.{_≡_};
+ghost use Prim.Native.Nat.{_+_, _*_, _/_, _%_, _^_, _≤_, _<_};
+ghost use lib.ListN.{length, getD};
+ghost use Rattle.geometry.specs.Geometry.{Fit};
+ghost use Rattle.packet.specs.Packet.{viewOf};
+ghost use Rattle.rules.specs.OwnerLaws.{nonzero};
+ghost use Rattle.entries.specs.Seats.{Known};
+ghost use Rattle.bitmap.specs.Bits.{ComparesPart, ComparesAll, ComparesChain};
+
+// A bitmap compared with the table: all bits right, or the lowest that is wrong.
+pub enum Bits {
+    Same,
+    Differ(usize),
+}
+
+// Bit k of a byte, low bit first.
+fn bit_of(b: u8, k: usize) -> usize
+    requires { ⌜ k < 8 ⌝ }
+    ensures { λ r. ⌜ r ≡ b / 2 ^ k % 2 ⌝ }
+{
+    let mut value = geometry::wide(b);
+    let mut left = k;
+    while 0 < left {
+        value = value / 2;
+        left -= 1;
+    }
+    value % 2
+}
+
+// The bit that a page must have: 1 where it has an owner. A page past the table has none.
+fn in_use(owners: &[u16], page: usize) -> usize
+    ensures { λ r. ⌜ r ≡ nonzero (getD (now (owners .entry)) page 0) ⌝ }
+{
+    if page < owners.len() {
+        if owners[page] != 0 {
+            return 1;
+        }
+    }
+    0
+}
+
+// Compares the bits of some bytes of a bitmap, of which `at` bytes stand before them.
+fn compare_bytes(bytes: &[u8], at: usize, owners: &[u16]) -> Bits
+    requires { ⌜ (at ≤ 16777216) × (length (now bytes) ≤ 256) ⌝ }
+    ensures { λ r. ⌜ ComparesPart (now (bytes .entry)) at (now (owners .entry)) r ⌝ }
+{
+    let end = 8 * bytes.len();
+    let mut k = 0;
+    while k < end {
+        let page = 8 * at + k;
+        if bit_of(bytes[k / 8], k % 8) != in_use(owners, page) {
+            return Bits::Differ(page);
+        }
+        k += 1;
+    }
+    Bits::Same
+}
+
+// Compares a bitmap that stands in the root's control field.
+pub fn compare_local(bytes: &[u8], owners: &[u16]) -> Bits
+    requires { ⌜ length (now bytes) ≤ 256 ⌝ }
+    ensures { λ r. ⌜ ComparesAll (now (bytes .entry)) (now (owners .entry)) r ⌝ }
+{
+    compare_bytes(bytes, 0, owners)
+}
+
+// Compares a bitmap that stands in a chain which is known to stand, page by page.
+pub fn compare_chain(image: &[u8], g: Geometry, start: usize, owners: &[u16]) -> Bits
+    requires { ⌜ Fit g (now image) ⌝ }
+    requires { ⌜ Known g (viewOf g (now image)) start 0 ⌝ }
+    ensures { λ r. ⌜ ComparesChain g (viewOf g (now (image .entry))) start (now (owners .entry)) r ⌝ }
+{
+    let mut c = Cursor::new(start, start);
+    loop {
+        let page = c.page;
+        match c.step(image, g, true) {
+            Step::Refused(_, _) => {
+                return Bits::Same;
+            }
+            Step::Page(size, next) => {
+                let bytes = packet::data_of(geometry::page_of(image, g, page), size);
+                match compare_bytes(bytes, c.bytes, owners) {
+                    Bits::Differ(bit) => {
+                        return Bits::Differ(bit);
+                    }
+                    Bits::Same => {
+                        if next.page == 0 {
+                            return Bits::Same;
+                        }
+                        c = next;
+                    }
+                }
+            }
+        }
+    }
+}

@@ -1,0 +1,92 @@
+-- Both halves together: the bitmap compared, the table filled, the call.
+use mathlib.Core.Path.{_≡_, refl, ap, ap₂, sym, _∙_, subst}
+use mathlib.Core.List.{List, [], _++_}
+use Prim.Native.Nat.{ℕ, zero, suc, _+_, _-_, _≤_, _<_}
+use native.Mathlib.Omega.{arith}
+use lib.ListN.{length, take, drop, replicate}
+use Rattle.geometry.specs.declared.Geometry.{Geometry}
+use Rattle.geometry.specs.declared.Shape.the-variants.{Fits}
+use Rattle.geometry.specs.Geometry.{geometryOf, Fit}
+use Rattle.geometry.specs.Page.{pageOf}
+use Rattle.geometry.specs.PageLaws.{page-length}
+use Rattle.packet.specs.Packet.{View, viewOf}
+use Rattle.rules.specs.declared.Totals.{Totals}
+use Rattle.rules.specs.Result.{Res, ok, err, andThen}
+use Rattle.rules.specs.ResultLaws.{clash, then-ok, then-err}
+use Rattle.rules.specs.Tree.{Image, used}
+use Rattle.rules.specs.Owners.{owners, totals, tableAfter}
+use Rattle.rules.specs.OwnerLaws.{Represents}
+use Rattle.rules.specs.Check.{Scan, judgeBits, scan, check}
+use Rattle.rules.specs.Calls.{shape, asked, inGeometry, checkCall}
+use Rattle.entries.specs.Seats.{Known}
+use Rattle.directory.specs.declared.control.Root.{Root}
+use Rattle.directory.specs.declared.control.Root.the-variants as root
+use Rattle.bitmap.specs.declared.Bits.{Bits}
+use Rattle.bitmap.specs.declared.Bits.the-variants as bits
+use Rattle.bitmap.specs.Bits.{Compares}
+use Rattle.walk.specs.declared.Walk.{Walk}
+use Rattle.walk.specs.declared.Walk.the-variants as w
+use Rattle.volume.specs.Scans.{rootOf, Scanned, BitsCompared, TableChecked, told}
+use Rattle.volume.proofs.ScanLaws.{scan-refused, scan-local, scan-remote, raw-local, RawFile, raw-file, check-refused, check-differs, check-same, scan-table}
+
+-- ---- the bitmap compared
+pub on-raw : (raw bytes used : List ℕ) (r : Bits) → raw ≡ bytes → Compares (judgeBits bytes used) r → Compares (judgeBits raw used) r
+on-raw raw bytes used r e k = subst (λ (x : List ℕ). Compares (judgeBits x used) r) (sym e) k
+
+pub never : (g : Geometry) (v : View) (x : Root) (n : ℕ) (s : Scan) {C : Type 0} → x ≡ rootOf g (v 0) → x ≡ root.Refused n → scan g v ≡ ok s → C
+never g v x n s q i e = clash (sym (scan-refused g v x n q i) ∙ e)
+
+pub field-inside : (g : Geometry) (image page : List ℕ) → Fit g image → page ≡ pageOf g 0 image → 3 + g .width + 4 ≤ length page
+field-inside g image page f e = omega (arith, ap length e, page-length g image 0 f (omega (arith, f .valid .some)), f .valid .least, f .valid .two)
+
+pub local-raw : (g : Geometry) (image page : List ℕ) (x : Root) (s : Scan) → x ≡ rootOf g (viewOf g image 0) → x ≡ root.Local → scan g (viewOf g image) ≡ ok s → page ≡ pageOf g 0 image
+    → s .raw ≡ take (3 + g .width + 4 - (3 + g .width)) (drop (3 + g .width) page)
+local-raw g image page x s q i e k =
+    let n : 4 ≡ 3 + g .width + 4 - (3 + g .width) = omega arith in
+    raw-local g image (scan-local g (viewOf g image) x q i) s e ∙ ap₂ (λ (a : ℕ) (y : List ℕ). take a (drop (3 + g .width) y)) n (sym k)
+
+pub remote-raw : (g : Geometry) (v : View) (x : Root) (start count : ℕ) (s : Scan) → x ≡ rootOf g (v 0) → x ≡ root.Remote start count → scan g v ≡ ok s → RawFile g v start s
+remote-raw g v x start count s q i e = raw-file g v start count (scan-remote g v x start count q i) s e
+
+pub remote-known : (g : Geometry) (v : View) (start : ℕ) (s : Scan) → RawFile g v start s → Known g v start 0
+remote-known g v start s k = record { links = k .links; chain = k .chain; enough = omega arith }
+
+-- ---- the table
+pub record Done (g : Geometry) (v : View) (d : Totals) (u : List ℕ) : Type 0 where
+  pub scanned : Scan
+  pub scan-is : scan g v ≡ ok scanned
+  pub totals-are : d ≡ totals (scanned .image)
+  pub table-is : u ≡ owners (g .pages) (scanned .image)
+
+pub scan-done : (g : Geometry) (v : View) (r : Walk) (u : List ℕ) (d : Totals) → Scanned g v r u → r ≡ w.Done d → Done g v d u
+scan-done g v r u d k i =
+    let a : Scanned g v (w.Done d) u = subst (λ (x : Walk). Scanned g v x u) i k in
+    record { scanned = a .0; scan-is = a .1; totals-are = a .2; table-is = a .3 }
+
+pub scan-fault : (g : Geometry) (v : View) (r : Walk) (u : List ℕ) (n p : ℕ) → Scanned g v r u → r ≡ w.Refused n p → check g v ≡ err n p
+scan-fault g v r u n p k i = check-refused g v n p (subst (λ (x : Walk). Scanned g v x u) i k)
+
+module _ (g : Geometry) (v : View) (d : Totals) (u : List ℕ) (a : Done g v d u) (r : Bits) (k : BitsCompared g v u r) where
+  judged : Compares (judgeBits (a .scanned .raw) (used (a .scanned .image))) r
+  judged = k (a .scanned) (a .scan-is) (used (a .scanned .image)) (scan-table g v (a .scanned) (a .scan-is) u (a .table-is))
+
+  pub table-differs : (b : ℕ) → r ≡ bits.Differ b → check g v ≡ err 13 b
+  table-differs b i = check-differs g v (a .scanned) (a .scan-is) b (subst (λ (x : Bits). Compares (judgeBits (a .scanned .raw) (used (a .scanned .image))) x) i judged)
+
+  pub table-same : r ≡ bits.Same → (i : Image) × (check g v ≡ ok i) × (d ≡ totals i) × (u ≡ owners (g .pages) i)
+  table-same i =
+      (a .scanned .image, check-same g v (a .scanned) (a .scan-is) (subst (λ (x : Bits). Compares (judgeBits (a .scanned .raw) (used (a .scanned .image))) x) i judged), a .totals-are, a .table-is)
+
+-- ---- the call
+in-shape : (P N : ℕ) (image table : List ℕ) (g : Geometry) → geometryOf P N (length image) (length table) ≡ Fits g
+    → checkCall P N image table ≡ (andThen (check g (viewOf g image)) (λ i. ok (totals i)), tableAfter (g .pages) (check g (viewOf g image)) table)
+unfolding checkCall
+in-shape P N image table g e = rw e refl
+
+pub checked : (P N : ℕ) (image table : List ℕ) (g : Geometry) → geometryOf P N (length image) (length table) ≡ Fits g → (r : Walk) (u : List ℕ) → TableChecked g (viewOf g image) r u
+    → (told r, u ++ drop (g .pages) table) ≡ checkCall P N image table
+unfolding tableAfter
+checked P N image table g e (w.Done d) u k = sym (in-shape P N image table g e ∙ ap (λ (x : Res Image). (andThen x (λ i. ok (totals i)), tableAfter (g .pages) x table)) (k .1)
+    ∙ ap₂ (λ (x : Res Totals) (y : List ℕ). (x, y ++ drop (g .pages) table)) (then-ok (k .0) (λ i. ok (totals i)) ∙ ap ok (sym (k .2))) (sym (k .3)))
+checked P N image table g e (w.Refused n p) u k = sym (in-shape P N image table g e ∙ ap (λ (x : Res Image). (andThen x (λ i. ok (totals i)), tableAfter (g .pages) x table)) (k .0)
+    ∙ ap₂ (λ (x : Res Totals) (y : List ℕ). (x, y ++ drop (g .pages) table)) (then-err n p (λ i. ok (totals i))) (sym (k .1)))

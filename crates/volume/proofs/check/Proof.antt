@@ -1,0 +1,40 @@
+use mathlib.Core.Path.{sym, _∙_}
+use lib.Seq.{length-take-le}
+use Rattle.geometry.specs.ShapeLaws.{sized-of, fit-of}
+use Rattle.rules.specs.CallLaws.{check-wrong}
+use Rattle.volume.proofs.CheckLaws.{checked}
+use borrow.Author.Needs.{needs}
+use Rattle.volume.proofs.check.Statement.{statement}
+use Rattle.volume.proofs.check.Tie as tie
+
+slice-relend-prefix-check-table : tie.Need-slice-relend-prefix-check-table
+slice-relend-prefix-check-table c =
+    let a = c .before .before .before .before .before .before .args in
+    sized-of (a .size) (a .pages) _ _ _ (sym (c .before .before .before .new .ensures) ∙ c .before .g .given .1) .room
+
+slice-aggregate-check-table : tie.Need-slice-aggregate-check-table
+slice-aggregate-check-table c =
+    let a = c .before .before .before .before .before .before .before .args in
+    let z = sized-of (a .size) (a .pages) _ _ _ (sym (c .before .before .before .before .new .ensures) ∙ c .before .before .g .given .1) in
+    sym (length-take-le _ _ (z .room))
+
+check-table-requires : tie.Need-check-table-requires
+check-table-requires c κs =
+    let a = c .before .before .before .before .before .before .before .args in
+    let e = sym (c .before .before .before .before .new .ensures) ∙ c .before .before .g .given .1 in
+    (fit-of (a .size) (a .pages) (a .image .now) (a .owners .now) _ e, length-take-le _ (a .owners .now) (sized-of (a .size) (a .pages) _ _ _ e .room))
+
+returns : tie.Need-returns
+returns c =
+    let a = c .before .before .before .before .before .args in
+    sym (check-wrong (a .size) (a .pages) (a .image .now) (a .owners .now) (sym (c .before .before .new .ensures) ∙ c .enum-told .given .1))
+
+returns-2 : tie.Need-returns-2
+returns-2 c =
+    let a = c .before .before .before .before .before .before .before .before .before .before .args in
+    checked (a .size) (a .pages) (a .image .now) (a .owners .now) _ (sym (c .before .before .before .before .before .before .before .new .ensures) ∙ c .before .before .before .before .before .g .given .1) (c .before .before .check-table .result) (c .before .before .check-table .last .1 .1 .0) (c .before .before .check-table .ensures)
+
+pub check-spec : {M : Type 1} → statement M
+check-spec =
+    tie.close
+    (tie.spec (λ c κs. search needs) (λ c. search needs) (λ c. search needs) slice-relend-prefix-check-table slice-aggregate-check-table check-table-requires returns (λ c. search needs) returns-2)
