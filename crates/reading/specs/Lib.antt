@@ -11,3 +11,4 @@ pub mod DirectoryComplete
 pub mod CheckSound
 pub mod CheckComplete
 pub mod Accepted
+pub mod CheckCall

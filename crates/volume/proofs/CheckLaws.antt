@@ -3,7 +3,7 @@ use mathlib.Core.Path.{_≡_, refl, ap, ap₂, sym, _∙_, subst}
 use mathlib.Core.List.{List, [], _++_}
 use Prim.Native.Nat.{ℕ, zero, suc, _+_, _-_, _≤_, _<_}
 use native.Mathlib.Omega.{arith}
-use lib.ListN.{length, take, drop, replicate}
+use lib.ListN.{length, getD, take, drop, replicate}
 use Rattle.geometry.specs.declared.Geometry.{Geometry}
 use Rattle.geometry.specs.declared.Shape.the-variants.{Fits}
 use Rattle.geometry.specs.Geometry.{geometryOf, Fit}
@@ -18,6 +18,7 @@ use Rattle.rules.specs.Owners.{owners, totals, tableAfter}
 use Rattle.rules.specs.OwnerLaws.{Represents}
 use Rattle.rules.specs.Check.{Scan, judgeBits, scan, check}
 use Rattle.rules.specs.Calls.{shape, asked, inGeometry, checkCall}
+use Rattle.reading.specs.CheckCall.{check-accepts, bytes-known}
 use Rattle.entries.specs.Seats.{Known}
 use Rattle.directory.specs.declared.control.Root.{Root}
 use Rattle.directory.specs.declared.control.Root.the-variants as root
@@ -26,7 +27,7 @@ use Rattle.bitmap.specs.declared.Bits.the-variants as bits
 use Rattle.bitmap.specs.Bits.{Compares}
 use Rattle.walk.specs.declared.Walk.{Walk}
 use Rattle.walk.specs.declared.Walk.the-variants as w
-use Rattle.volume.specs.Scans.{rootOf, Scanned, BitsCompared, TableChecked, told}
+use Rattle.volume.specs.Scans.{rootOf, Scanned, BitsCompared, TableChecked, told, Accepts}
 use Rattle.volume.proofs.ScanLaws.{scan-refused, scan-local, scan-remote, raw-local, RawFile, raw-file, check-refused, check-differs, check-same, scan-table}
 
 -- ---- the bitmap compared
@@ -90,3 +91,10 @@ checked P N image table g e (w.Done d) u k = sym (in-shape P N image table g e �
     ∙ ap₂ (λ (x : Res Totals) (y : List ℕ). (x, y ++ drop (g .pages) table)) (then-ok (k .0) (λ i. ok (totals i)) ∙ ap ok (sym (k .2))) (sym (k .3)))
 checked P N image table g e (w.Refused n p) u k = sym (in-shape P N image table g e ∙ ap (λ (x : Res Image). (andThen x (λ i. ok (totals i)), tableAfter (g .pages) x table)) (k .0)
     ∙ ap₂ (λ (x : Res Totals) (y : List ℕ). (x, y ++ drop (g .pages) table)) (then-err n p (λ i. ok (totals i))) (sym (k .1)))
+
+-- what a call that answers so accepts
+pub accepts : (P N : ℕ) (image table : List ℕ) → ((i : ℕ) → getD image i 0 < 256) → (r : Walk) (u : List ℕ) → (told r, u) ≡ checkCall P N image table → Accepts P N image table r
+accepts P N image table h r u e =
+    let k = check-accepts P N image table (bytes-known image h) in
+    let q : told r ≡ checkCall P N image table .0 = ap (λ (x : Res Totals × List ℕ). x .0) e in
+    (λ x. k .0 (x .0, sym q ∙ x .1), λ w. let y = k .1 w in (y .0, q ∙ y .1))

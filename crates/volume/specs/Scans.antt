@@ -1,5 +1,6 @@
 -- For contracts: the two halves of the check over an owner table.
 use mathlib.Core.Path.{_≡_}
+use mathlib.Core.Logic.{_↔_}
 use mathlib.Core.List.{List, []}
 use Prim.Native.Nat.{ℕ, suc, _+_, _≤_, _<_}
 use lib.Dec.{ltb, eqb}
@@ -15,6 +16,7 @@ use Rattle.rules.specs.Control.{theRoot, headOf, rootPage}
 use Rattle.rules.specs.Owners.{own, owners, totals}
 use Rattle.rules.specs.OwnerLaws.{Represents, inUse}
 use Rattle.rules.specs.Check.{Scan, judgeBits, judgeDirectory, judgeSub, scan, check}
+use Rattle.reading.specs.CheckCall.{WellFormedAt}
 use Rattle.directory.specs.declared.control.Root.{Root}
 use Rattle.directory.specs.declared.control.Root.the-variants as root
 use Rattle.directory.specs.Faults.{control}
@@ -70,3 +72,7 @@ TableChecked g v (w.Refused n p) u = (check g v ≡ err n p) × (u ≡ replicate
 abbrev pub told : Walk → Res Totals
 told (w.Done d) = ok d
 told (w.Refused n p) = err n p
+
+-- accepted exactly when the image is well formed in the geometry that the sizes give
+abbrev pub Accepts : ℕ → ℕ → List ℕ → List ℕ → Walk → Type 0
+Accepts P N image table r = ((t : Totals) × (told r ≡ ok t)) ↔ WellFormedAt P N image table

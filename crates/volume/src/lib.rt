@@ -15,7 +15,7 @@ ghost use lib.ListN.{length, replicate};
 ghost use Rattle.geometry.specs.Geometry.{Fit};
 ghost use Rattle.packet.specs.Packet.{viewOf};
 ghost use Rattle.rules.specs.OwnerLaws.{inUse};
-ghost use Rattle.volume.specs.Scans.{rootOf, MapClaimed, RootWalked, Scanned, IsScanned, BitsCompared, TableChecked, told};
+ghost use Rattle.volume.specs.Scans.{rootOf, MapClaimed, RootWalked, Scanned, IsScanned, BitsCompared, TableChecked, told, Accepts};
 ghost use Rattle.rules.specs.Calls.{checkCall};
 
 // `ROOT`, the first byte lowest.
@@ -147,6 +147,7 @@ fn check_table(image: &[u8], g: Geometry, owners: &mut [u16]) -> Walk
 // Checks an image in its geometry: pages in use, files and directories, or the first fault. Fills the owner table.
 pub fn check(image: &[u8], size: u32, pages: u32, owners: &mut [u16]) -> Walk
     ensures { λ r. ⌜ (told r, now (owners .exit)) ≡ checkCall size pages (now (image .entry)) (now (owners .entry)) ⌝ }
+    ensures { λ r. ⌜ Accepts size pages (now (image .entry)) (now (owners .entry)) r ⌝ }
 {
     match Geometry::new(size, pages, image.len(), owners.len()) {
         Shape::Wrong => Walk::Refused(1, 0),

@@ -2,7 +2,8 @@ use mathlib.Core.Path.{sym, _∙_}
 use lib.Seq.{length-take-le}
 use Rattle.geometry.specs.ShapeLaws.{sized-of, fit-of}
 use Rattle.rules.specs.CallLaws.{check-wrong}
-use Rattle.volume.proofs.CheckLaws.{checked}
+use Rattle.walk.specs.declared.Walk.the-variants as w
+use Rattle.volume.proofs.CheckLaws.{checked, accepts}
 use borrow.Author.Needs.{needs}
 use Rattle.volume.proofs.check.Statement.{statement}
 use Rattle.volume.proofs.check.Tie as tie
@@ -27,12 +28,14 @@ check-table-requires c κs =
 returns : tie.Need-returns
 returns c =
     let a = c .before .before .before .before .before .args in
-    sym (check-wrong (a .size) (a .pages) (a .image .now) (a .owners .now) (sym (c .before .before .new .ensures) ∙ c .enum-told .given .1))
+    let e = sym (check-wrong (a .size) (a .pages) (a .image .now) (a .owners .now) (sym (c .before .before .new .ensures) ∙ c .enum-told .given .1)) in
+    (e, accepts (a .size) (a .pages) (a .image .now) (a .owners .now) (λ i. c .before .before .before .before .shared-slice-known .given i .fits) (w.Refused 1 0) (a .owners .now) e)
 
 returns-2 : tie.Need-returns-2
 returns-2 c =
     let a = c .before .before .before .before .before .before .before .before .before .before .args in
-    checked (a .size) (a .pages) (a .image .now) (a .owners .now) _ (sym (c .before .before .before .before .before .before .before .new .ensures) ∙ c .before .before .before .before .before .g .given .1) (c .before .before .check-table .result) (c .before .before .check-table .last .1 .1 .0) (c .before .before .check-table .ensures)
+    let e = checked (a .size) (a .pages) (a .image .now) (a .owners .now) _ (sym (c .before .before .before .before .before .before .before .new .ensures) ∙ c .before .before .before .before .before .g .given .1) (c .before .before .check-table .result) (c .before .before .check-table .last .1 .1 .0) (c .before .before .check-table .ensures) in
+    (e, accepts (a .size) (a .pages) (a .image .now) (a .owners .now) (λ i. c .before .before .before .before .before .before .before .before .before .shared-slice-known .given i .fits) (c .before .before .check-table .result) _ e)
 
 pub check-spec : {M : Type 1} → statement M
 check-spec =
