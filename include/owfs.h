@@ -14,4 +14,37 @@
  * Any bytes of any length are taken; nothing is written. Stack: under 128 bytes. */
 uint16_t owfs_crc16(uint16_t start, const uint8_t *bytes, size_t length);
 
+/* What a check answers: number 0, page 0 and the totals, or the number and page of the first fault with every other field 0. */
+struct owfs_totals {
+    uint32_t number;
+    uint32_t page;
+    uint32_t used;        /* pages in use */
+    uint32_t files;       /* files and directories: root and bitmap file are not counted */
+    uint32_t directories;
+};
+
+/* Checks an image of `page_count` pages of `page_length` bytes and fills the owner table. The image is not written.
+ *
+ * number  meaning                                                  page
+ *      0  done                                                     0
+ *      1  page length, page count, image length or owner table     0
+ *      2  packet length or check                                   that page
+ *      3  marker                                                   that page
+ *      4  control field; local bitmap with 32 pages or more        that page
+ *      5  in progress                                              0
+ *      6  start page 0 or past the last page; pointer past it      page that holds the number
+ *      7  page in two chains or twice in one                       that page
+ *      8  page count, bitmap byte count, or entries not whole      page that holds the entries; 0 for the bitmap file
+ *      9  name                                                     page of the entry
+ *     10  extension 100 to 126, or extended entry                  page of the entry
+ *     11  name and extension twice                                 page of the later entry
+ *     12  nested too deep                                          page of the entry
+ *     13  bitmap disagrees                                         lowest differing bit
+ *
+ * `owners` are bytes, two for each page, low byte first; at least 2 * page_count of them are needed (1). Afterwards the number of a page is
+ * 0 if it is free, 1 in the root, 2 in the bitmap file, 3 + k in the entry at walk position k; all are 0 after the faults 2 to 13.
+ * After 1 no byte is changed; bytes past the first 2 * page_count never change. Any arguments are taken. Image and owners must not overlap.
+ * Stack: 131 KiB, for a table of 65,535 numbers, and some more. */
+struct owfs_totals owfs_check(uint32_t page_length, uint32_t page_count, const uint8_t *image, size_t image_length, uint8_t *owners, size_t owners_length);
+
 #endif
