@@ -2,3 +2,4 @@ pub mod SeatLaws
 pub mod KeyLaws
 pub mod Seated
 pub mod Looking
+pub mod Places

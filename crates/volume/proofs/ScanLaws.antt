@@ -36,7 +36,7 @@ use Rattle.entries.specs.Seats.{IsDirectoryChain}
 use Rattle.directory.specs.declared.control.Root.{Root}
 use Rattle.directory.specs.declared.control.Root.the-variants as root
 use Rattle.directory.specs.Faults.{control}
-use Rattle.walk.proofs.Directories.{chain-directory}
+use Rattle.entries.proofs.Places.{chain-directory}
 use Rattle.walk.specs.declared.Walk.{Walk}
 use Rattle.walk.specs.declared.Walk.the-variants as w
 use Rattle.walk.specs.Walks.{Answers, plusDirectory, ownDirectory}

@@ -1,7 +1,7 @@
 -- A directory whose chain was claimed, and the answer for all of it from the answer for its entries.
-use mathlib.Core.Path.{_≡_, refl, ap, sym, _∙_, subst}
-use mathlib.Core.List.{List, [], _∷_, _++_}
-use Prim.Native.Nat.{ℕ, zero, suc, _+_, _≤_, _<_}
+use mathlib.Core.Path.{_≡_, sym, subst}
+use mathlib.Core.List.{List, [], _++_}
+use Prim.Native.Nat.{ℕ, suc, _+_}
 use native.Mathlib.Omega.{arith}
 use lib.ListN.{length}
 use Rattle.geometry.specs.declared.Geometry.{Geometry}
@@ -9,10 +9,10 @@ use Rattle.geometry.specs.Geometry.{controlSize}
 use Rattle.packet.specs.Packet.{View}
 use Rattle.rules.specs.declared.Totals.{Totals}
 use Rattle.rules.specs.Result.{err}
-use Rattle.rules.specs.PageSets.{count, range, Within}
-use Rattle.rules.specs.PageSetLaws.{count-append, range-of, within-length}
+use Rattle.rules.specs.PageSets.{Within}
+use Rattle.rules.specs.PageSetLaws.{count-append}
 use Rattle.rules.specs.Chain.{Link, pages, Test, walk}
-use Rattle.rules.specs.ChainLaws.{IsChain, length-pages, walk-sound}
+use Rattle.rules.specs.ChainLaws.{IsChain, walk-sound}
 use Rattle.rules.specs.Tree.{linkTokens}
 use Rattle.rules.specs.Owners.{own}
 use Rattle.rules.specs.OwnerLaws.{Represents, represents-own, represents-within, taken, represents-taken}
@@ -20,24 +20,14 @@ use Rattle.rules.specs.Check.{judgeEntries, judgeDirectory, judgeSub}
 use Rattle.chain.specs.declared.Claim.{Claim}
 use Rattle.chain.specs.declared.Claim.the-variants as claim
 use Rattle.chain.specs.Claims.{Claims}
-use Rattle.entries.specs.Seats.{chainKeys, IsDirectoryChain, Known}
+use Rattle.entries.proofs.Places.{chain-directory}
+use Rattle.entries.specs.Seats.{IsDirectoryChain, Known}
 use Rattle.walk.specs.declared.Walk.{Walk}
 use Rattle.walk.specs.declared.Walk.the-variants as w
 use Rattle.walk.specs.Walks.{Good, Ready, Answers, plusDirectory, ownDirectory}
 use Rattle.walk.proofs.Parts.{IsClaimed, claimed-chain, claim-refused}
 use Rattle.walk.proofs.Steps.{good-chain, directory-refused, directory-rest}
-use Rattle.walk.proofs.Left.{here, LeftOver}
-
--- a chain that the walk accepts is a directory's chain
-pub chain-directory : (g : Geometry) (v : View) (test : Test) (claimed : List ℕ) (start : ℕ) (ls : List Link) → IsChain (g .pages) v test 0 claimed start ls → IsDirectoryChain g v start ls
-chain-directory g v test claimed start ls c = record {
-  some = c .some;
-  begins = c .start;
-  stand = c .stand;
-  within = λ x h. range-of x (g .pages) (omega (arith, c .clear x));
-  few = omega (arith, within-length (g .pages) (pages ls) (λ x. omega (arith, c .clear x)), length-pages ls);
-  onward = c .onward;
-}
+use Rattle.walk.proofs.Left.{LeftOver}
 
 module _ (g : Geometry) (v : View) (test : Test) (owner from start n b : ℕ) (t u : List ℕ) (r : Claim) (k : Claims g v test owner from start t r u) (l : length t ≡ g .pages) where
   pub refused-directory : (levels name : ℕ) (m p : ℕ) → r ≡ claim.Refused m p → (claimed : List ℕ) → Represents t claimed

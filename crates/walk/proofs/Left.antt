@@ -1,22 +1,19 @@
 -- The walk over a directory's entries as the code goes: a place in the chain, what was met, and that whatever answers what is left answers all.
 use mathlib.Core.Path.{_≡_, refl, ap, ap₂, sym, _∙_, subst}
-use mathlib.Core.Bool.{Bool, true, false, not}
 use mathlib.Core.List.{List, [], _∷_, _++_, append-assoc}
-use Prim.Native.Nat.{ℕ, zero, suc, _+_, _-_, _*_, _/_, _≤_, _<_}
-use native.Mathlib.Nat.{mul-le-mul-left, mul-le-mul-right, mul-div-le, div-le-self}
+use Prim.Native.Nat.{ℕ, suc, _+_, _-_, _*_, _/_, _≤_, _<_}
+use native.Mathlib.Nat.{div-le-self}
 use native.Mathlib.Omega.{arith}
 use lib.Dec.{ltb}
-use lib.ListN.{length, getD, take, drop, length-append, length-drop}
-use lib.Seq.{drop-drop, take-take, getD-take, take-append-seam}
+use lib.ListN.{length, take, drop, length-append, length-drop}
+use lib.Seq.{take-append-seam}
 use Rattle.geometry.specs.declared.Geometry.{Geometry}
-use Rattle.geometry.specs.Geometry.{entrySize, controlSize, Valid, Fit}
-use Rattle.geometry.specs.ListLaws.{drop-of-take}
-use Rattle.geometry.specs.Number.{number}
+use Rattle.geometry.specs.Geometry.{entrySize, controlSize, Fit}
 use Rattle.geometry.specs.Page.{pageOf}
 use Rattle.packet.specs.Packet.{good, View, viewOf}
 use Rattle.rules.specs.declared.Entry.{Entry}
 use Rattle.rules.specs.declared.Totals.{Totals}
-use Rattle.rules.specs.Result.{ok, err}
+use Rattle.rules.specs.Result.{ok}
 use Rattle.rules.specs.PageSets.{count, mem, Within}
 use Rattle.rules.specs.PageSetLaws.{count-append}
 use Rattle.rules.specs.Chain.{Link, link, pages, first, linked}
@@ -27,69 +24,19 @@ use Rattle.rules.specs.Tree.{Token, newPage, entry, entriesIn, linkTokens}
 use Rattle.rules.specs.Control.{Above}
 use Rattle.rules.specs.OwnerLaws.{Represents, represents-within, taken, represents-taken}
 use Rattle.rules.specs.Check.{Part, partPages, judgeEntry, judgeSub}
-use Rattle.rules.specs.Soundness.{PartClear, entry-sound, sub-sound}
+use Rattle.rules.specs.Soundness.{entry-sound, sub-sound}
 use Rattle.chain.specs.Claims.{IsGood}
 use Rattle.chain.specs.Steps.{firstStep}
 use Rattle.chain.specs.declared.Cursor.{Cursor}
 use Rattle.entries.specs.declared.Seat.{Seat}
-use Rattle.entries.specs.Seats.{keysFrom, chainKeys, Fits, opened, openOf, advanced, IsDirectoryChain, Known}
+use Rattle.entries.specs.Seats.{keysFrom, chainKeys, opened, openOf, advanced, IsDirectoryChain, Known}
+use Rattle.entries.proofs.Places.{entriesAt, entry-read, first-token, first-key}
 use Rattle.entries.proofs.Seated.{Seated, small-view, open-good, seated-past, seated-first, next-page, seated-next}
-use Rattle.entries.proofs.KeyLaws.{length-keys, entry-least}
-use Rattle.entries.proofs.Looking.{data-from}
-use Rattle.entries.proofs.SeatLaws.{entry-inside}
+use Rattle.entries.proofs.KeyLaws.{length-keys}
 use Rattle.walk.specs.declared.Walk.{Walk}
 use Rattle.walk.specs.declared.Walk.the-variants as w
-use Rattle.walk.specs.Walks.{Good, Answers, plusEntries, plusPart, ownPart, Met, EntryWalked}
-use Rattle.walk.proofs.Steps.{represents-part, length-part, good-part, Rest, rest-end, rest-page, rest-refused, rest-entry}
-
--- ---- one entry of a page
--- the bytes of the entries from number i on
-abbrev pub entriesAt : Geometry → ℕ → ℕ → List ℕ → List ℕ
-entriesAt g skip i b = drop (entrySize g * i) (drop skip b)
-
-entry-cut : (n s : ℕ) (l : List ℕ) → 5 + 2 * n ≤ s → entryOf n (take s l) ≡ entryOf n l
-entry-cut n s l h = λ i. record {
-  name = number (take-take 4 s l (omega arith) i);
-  extension = getD-take s l 4 0 (omega arith) i;
-  start = number (part 5 n (omega arith) i);
-  pages = number (part (5 + n) n (omega arith) i);
-}
-  where
-    part : (a n : ℕ) → a + n ≤ s → take n (drop a (take s l)) ≡ take n (drop a l)
-    part a n k = ap (take n) (drop-of-take a s l (omega arith)) ∙ take-take n (s - a) (drop a l) (omega arith)
-
--- the entry that the code reads from the page is that of the packet's data
-pub entry-read : (g : Geometry) (image : List ℕ) (total : ℕ) (s : Seat) (b : List ℕ) (more : List Link) (e : Entry) → Fit g image → Seated g (viewOf g image) total s b more → s .at < s .count
-    → e ≡ entryOf (g .width) (drop (1 + s .skip + entrySize g * s .at) (pageOf g (s .page) image)) → e ≡ entryOf (g .width) (entriesAt g (s .skip) (s .at) b)
-unfolding entrySize
-entry-read g image total s b more e fit h l q =
-    let es = entrySize g in
-    let k : es * suc (s .at) ≤ es * s .count = mul-le-mul-left es l in
-    let j : es * (length (drop (s .skip) b) / es) ≤ length (drop (s .skip) b) = mul-div-le (length (drop (s .skip) b)) es in
-    let m : es * s .count ≡ es * (length (drop (s .skip) b) / es) = ap (λ (x : ℕ). es * x) (h .count-is) in
-    let a = s .skip + es * s .at in
-    let i : a + es ≤ length b = omega (arith, length-drop (s .skip) b) in
-    let d : entriesAt g (s .skip) (s .at) b ≡ take (length b - a) (drop (1 + a) (pageOf g (s .page) image)) =
-    drop-drop (es * s .at) (s .skip) b ∙ data-from g image (s .page) a b (first more) (h .here) (omega arith) in
-    let c : 1 + s .skip + es * s .at ≡ 1 + a = omega arith in
-    q ∙ ap (λ (x : ℕ). entryOf (g .width) (drop x (pageOf g (s .page) image))) c ∙ sym (ap (entryOf (g .width)) d ∙ entry-cut (g .width) (length b - a) (drop (1 + a) (pageOf g (s .page) image)) (omega arith))
-
--- the first of what is left in a page
-module _ (g : Geometry) (skip i n : ℕ) (b : List ℕ) (h : i < n) where
-  after-one : drop (entrySize g) (entriesAt g skip i b) ≡ entriesAt g skip (i + 1) b
-  after-one = let q : entrySize g * i + entrySize g ≡ entrySize g * (i + 1) = omega arith in drop-drop (entrySize g) (entrySize g * i) (drop skip b) ∙ ap (λ (x : ℕ). drop x (drop skip b)) q
-
-  pub first-token : (ts : List Token) → entriesIn g (n - i) (entriesAt g skip i b) ++ ts ≡ entry (entryOf (g .width) (entriesAt g skip i b)) ∷ (entriesIn g (n - (i + 1)) (entriesAt g skip (i + 1) b) ++ ts)
-  first-token ts =
-      let s : n - i ≡ suc (n - (i + 1)) = omega arith in
-      ap (λ (x : ℕ). entriesIn g x (entriesAt g skip i b) ++ ts) s ∙ ap (λ (x : List ℕ). entry (entryOf (g .width) (entriesAt g skip i b)) ∷ (entriesIn g (n - (i + 1)) x ++ ts)) after-one
-
-  pub first-key : (ks : List ℕ) → keysFrom g (n - i) (entriesAt g skip i b) ++ ks
-      ≡ key (number (take 4 (entriesAt g skip i b))) (getD (entriesAt g skip i b) 4 0) ∷ (keysFrom g (n - (i + 1)) (entriesAt g skip (i + 1) b) ++ ks)
-  first-key ks =
-      let s : n - i ≡ suc (n - (i + 1)) = omega arith in
-      ap (λ (x : ℕ). keysFrom g x (entriesAt g skip i b) ++ ks) s
-      ∙ ap (λ (x : List ℕ). key (number (take 4 (entriesAt g skip i b))) (getD (entriesAt g skip i b) 4 0) ∷ (keysFrom g (n - (i + 1)) x ++ ks)) after-one
+use Rattle.walk.specs.Walks.{Good, Answers, plusPart, ownPart, Met, EntryWalked}
+use Rattle.walk.proofs.Steps.{represents-part, good-part, Rest, rest-end, rest-page, rest-refused, rest-entry}
 
 -- ---- what is left
 module _ (g : Geometry) (v : View) (levels name start : ℕ) where
@@ -280,9 +227,6 @@ module _ (g : Geometry) (image : List ℕ) (fit : Fit g image) (levels name star
           })
 
 -- ---- counts that fit
-pub seat-few : (g : Geometry) (s : Seat) → Valid g → Fits g s → s .count < 256
-seat-few g s v f = let a : 7 * s .count ≤ entrySize g * s .count = mul-le-mul-right (s .count) (entry-least g v) in omega (arith, f .room, v .most)
-
 pub keys-few : (g : Geometry) (image : List ℕ) → Fit g image → (skip : ℕ) (ls : List Link) → Stand (viewOf g image) (linked ls) → length (chainKeys g skip ls) ≤ 256 * length ls
 keys-few g image f skip [] s = omega arith
 keys-few g image f skip (link p b ∷ ls) s =
@@ -295,10 +239,3 @@ pub witness : (g : Geometry) (v : View) (levels name start : ℕ) (c₀ : Totals
     → ((claimed : List ℕ) (ls : List Link) → Represents t₀ claimed → IsDirectoryChain g v start ls → Left g v levels name start c₀ t₀ claimed ls t c s m)
     → Left g v levels name start c₀ t₀ (taken t₀) (k .links) t c s m
 witness g v levels name start c₀ t₀ t c s m k f = f (taken t₀) (k .links) (represents-taken t₀) (k .chain)
-
--- the loop's measure falls: past an entry, and over to the next page
-pub past-less : (N : ℕ) (s s′ : Seat) → s′ ≡ advanced s → s .at < s .count → (N - s′ .next .count) * 256 + (s′ .count - s′ .at) < (N - s .next .count) * 256 + (s .count - s .at)
-past-less N s s′ e h = rw e (omega arith)
-
-pub page-less : (N a b x y z : ℕ) → b ≡ a + 1 → a < N → x < 256 → (N - b) * 256 + (x - y) < (N - a) * 256 + z
-page-less N a b x y z e h k = omega arith

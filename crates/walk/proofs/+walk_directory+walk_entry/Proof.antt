@@ -8,9 +8,10 @@ use Rattle.rules.specs.Chain.{Link}
 use Rattle.rules.specs.OwnerLaws.{Represents, taken, represents-taken}
 use Rattle.entries.specs.Seats.{IsDirectoryChain, Known}
 use Rattle.geometry.specs.Geometry.{controlSize}
+use Rattle.entries.proofs.Places.{seat-few, past-less, page-less}
 use Rattle.entries.proofs.Seated.{begins, counts-on}
 use Rattle.walk.proofs.Parts.{claim-few, totals-fit, below-some, below-ready, entry-refused, file-entry, entry-below, entry-directory}
-use Rattle.walk.proofs.Left.{Left, witness, few-met, left-known, left-refused, left-entry, left-done, left-next, left-page, left-first, seat-few, keys-few, past-less, page-less}
+use Rattle.walk.proofs.Left.{Left, witness, few-met, left-known, left-refused, left-entry, left-done, left-next, left-page, left-first, keys-few}
 use Rattle.walk.proofs.Directories.{refused-directory, whole-refused, whole-done, known-directory}
 use borrow.Author.Needs.{needs}
 use Prim.Native.Nat.{ℕ, _+_, _-_, _*_, _<_}

@@ -1,0 +1,96 @@
+-- A place in a directory: the entry read there, what is left in its page, and the measure of a loop over places; a chain that the walk accepts is a directory's.
+use mathlib.Core.Path.{_≡_, ap, sym, _∙_}
+use mathlib.Core.List.{List, _∷_, _++_}
+use Prim.Native.Nat.{ℕ, suc, _+_, _-_, _*_, _/_, _≤_, _<_}
+use native.Mathlib.Nat.{mul-le-mul-left, mul-le-mul-right, mul-div-le}
+use native.Mathlib.Omega.{arith}
+use lib.ListN.{length, getD, take, drop, length-drop}
+use lib.Seq.{drop-drop, take-take, getD-take}
+use Rattle.geometry.specs.declared.Geometry.{Geometry}
+use Rattle.geometry.specs.Geometry.{entrySize, Valid, Fit}
+use Rattle.geometry.specs.ListLaws.{drop-of-take}
+use Rattle.geometry.specs.Number.{number}
+use Rattle.geometry.specs.Page.{pageOf}
+use Rattle.packet.specs.Packet.{View, viewOf}
+use Rattle.rules.specs.declared.Entry.{Entry}
+use Rattle.rules.specs.PageSetLaws.{range-of, within-length}
+use Rattle.rules.specs.Chain.{Link, pages, first, Test}
+use Rattle.rules.specs.ChainLaws.{IsChain, length-pages}
+use Rattle.rules.specs.Names.{key, entryOf}
+use Rattle.rules.specs.Tree.{Token, entry, entriesIn}
+use Rattle.entries.specs.declared.Seat.{Seat}
+use Rattle.entries.specs.Seats.{keysFrom, Fits, advanced, IsDirectoryChain}
+use Rattle.entries.proofs.KeyLaws.{entry-least}
+use Rattle.entries.proofs.Seated.{Seated}
+use Rattle.entries.proofs.Looking.{data-from}
+
+-- a chain that the walk accepts is a directory's chain
+pub chain-directory : (g : Geometry) (v : View) (test : Test) (claimed : List ℕ) (start : ℕ) (ls : List Link) → IsChain (g .pages) v test 0 claimed start ls → IsDirectoryChain g v start ls
+chain-directory g v test claimed start ls c = record {
+  some = c .some;
+  begins = c .start;
+  stand = c .stand;
+  within = λ x h. range-of x (g .pages) (omega (arith, c .clear x));
+  few = omega (arith, within-length (g .pages) (pages ls) (λ x. omega (arith, c .clear x)), length-pages ls);
+  onward = c .onward;
+}
+
+-- ---- one entry of a page
+-- the bytes of the entries from number i on
+abbrev pub entriesAt : Geometry → ℕ → ℕ → List ℕ → List ℕ
+entriesAt g skip i b = drop (entrySize g * i) (drop skip b)
+
+entry-cut : (n s : ℕ) (l : List ℕ) → 5 + 2 * n ≤ s → entryOf n (take s l) ≡ entryOf n l
+entry-cut n s l h = λ i. record {
+  name = number (take-take 4 s l (omega arith) i);
+  extension = getD-take s l 4 0 (omega arith) i;
+  start = number (part 5 n (omega arith) i);
+  pages = number (part (5 + n) n (omega arith) i);
+}
+  where
+    part : (a n : ℕ) → a + n ≤ s → take n (drop a (take s l)) ≡ take n (drop a l)
+    part a n k = ap (take n) (drop-of-take a s l (omega arith)) ∙ take-take n (s - a) (drop a l) (omega arith)
+
+-- the entry that the code reads from the page is that of the packet's data
+pub entry-read : (g : Geometry) (image : List ℕ) (total : ℕ) (s : Seat) (b : List ℕ) (more : List Link) (e : Entry) → Fit g image → Seated g (viewOf g image) total s b more → s .at < s .count
+    → e ≡ entryOf (g .width) (drop (1 + s .skip + entrySize g * s .at) (pageOf g (s .page) image)) → e ≡ entryOf (g .width) (entriesAt g (s .skip) (s .at) b)
+unfolding entrySize
+entry-read g image total s b more e fit h l q =
+    let es = entrySize g in
+    let k : es * suc (s .at) ≤ es * s .count = mul-le-mul-left es l in
+    let j : es * (length (drop (s .skip) b) / es) ≤ length (drop (s .skip) b) = mul-div-le (length (drop (s .skip) b)) es in
+    let m : es * s .count ≡ es * (length (drop (s .skip) b) / es) = ap (λ (x : ℕ). es * x) (h .count-is) in
+    let a = s .skip + es * s .at in
+    let i : a + es ≤ length b = omega (arith, length-drop (s .skip) b) in
+    let d : entriesAt g (s .skip) (s .at) b ≡ take (length b - a) (drop (1 + a) (pageOf g (s .page) image)) =
+    drop-drop (es * s .at) (s .skip) b ∙ data-from g image (s .page) a b (first more) (h .here) (omega arith) in
+    let c : 1 + s .skip + es * s .at ≡ 1 + a = omega arith in
+    q ∙ ap (λ (x : ℕ). entryOf (g .width) (drop x (pageOf g (s .page) image))) c ∙ sym (ap (entryOf (g .width)) d ∙ entry-cut (g .width) (length b - a) (drop (1 + a) (pageOf g (s .page) image)) (omega arith))
+
+-- the first of what is left in a page
+module _ (g : Geometry) (skip i n : ℕ) (b : List ℕ) (h : i < n) where
+  after-one : drop (entrySize g) (entriesAt g skip i b) ≡ entriesAt g skip (i + 1) b
+  after-one = let q : entrySize g * i + entrySize g ≡ entrySize g * (i + 1) = omega arith in drop-drop (entrySize g) (entrySize g * i) (drop skip b) ∙ ap (λ (x : ℕ). drop x (drop skip b)) q
+
+  pub first-token : (ts : List Token) → entriesIn g (n - i) (entriesAt g skip i b) ++ ts ≡ entry (entryOf (g .width) (entriesAt g skip i b)) ∷ (entriesIn g (n - (i + 1)) (entriesAt g skip (i + 1) b) ++ ts)
+  first-token ts =
+      let s : n - i ≡ suc (n - (i + 1)) = omega arith in
+      ap (λ (x : ℕ). entriesIn g x (entriesAt g skip i b) ++ ts) s ∙ ap (λ (x : List ℕ). entry (entryOf (g .width) (entriesAt g skip i b)) ∷ (entriesIn g (n - (i + 1)) x ++ ts)) after-one
+
+  pub first-key : (ks : List ℕ) → keysFrom g (n - i) (entriesAt g skip i b) ++ ks
+      ≡ key (number (take 4 (entriesAt g skip i b))) (getD (entriesAt g skip i b) 4 0) ∷ (keysFrom g (n - (i + 1)) (entriesAt g skip (i + 1) b) ++ ks)
+  first-key ks =
+      let s : n - i ≡ suc (n - (i + 1)) = omega arith in
+      ap (λ (x : ℕ). keysFrom g x (entriesAt g skip i b) ++ ks) s
+      ∙ ap (λ (x : List ℕ). key (number (take 4 (entriesAt g skip i b))) (getD (entriesAt g skip i b) 4 0) ∷ (keysFrom g (n - (i + 1)) x ++ ks)) after-one
+
+-- ---- counts that fit
+pub seat-few : (g : Geometry) (s : Seat) → Valid g → Fits g s → s .count < 256
+seat-few g s v f = let a : 7 * s .count ≤ entrySize g * s .count = mul-le-mul-right (s .count) (entry-least g v) in omega (arith, f .room, v .most)
+
+-- the loop's measure falls: past an entry, and over to the next page
+pub past-less : (N : ℕ) (s s′ : Seat) → s′ ≡ advanced s → s .at < s .count → (N - s′ .next .count) * 256 + (s′ .count - s′ .at) < (N - s .next .count) * 256 + (s .count - s .at)
+past-less N s s′ e h = rw e (omega arith)
+
+pub page-less : (N a b x y z : ℕ) → b ≡ a + 1 → a < N → x < 256 → (N - b) * 256 + (x - y) < (N - a) * 256 + z
+page-less N a b x y z e h k = omega arith

@@ -1,0 +1,4 @@
+pub mod Counting
+pub mod Accepting
+pub mod Lines
+pub mod Ahead

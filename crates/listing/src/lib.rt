@@ -1,0 +1,125 @@
+// The entry at a walk position of an image that is known to be accepted, found in the image alone.
+use chain::Cursor;
+use chain::Step;
+use entries::Seat;
+use geometry::Geometry;
+use rules::Entry;
+use rules::Line;
+ghost use mathlib.Core.Path.{_≡_};
+ghost use Prim.Native.Nat.{_+_, _≤_};
+ghost use Rattle.geometry.specs.Geometry.{Fit};
+ghost use Rattle.packet.specs.Packet.{viewOf};
+ghost use Rattle.entries.specs.Seats.{Known};
+ghost use Rattle.listing.specs.Standing.{HasDirectory, HasPart, Accepted, Counts, lineOf, Heads, LooksPart, LooksDirectory, LooksImage};
+
+// The line at a position, or how far past the last line it lies.
+pub enum Look {
+    Found(Line),
+    Left(usize),
+}
+
+// The bytes of a chain that is known to be right.
+fn chain_bytes(image: &[u8], g: Geometry, start: usize) -> usize
+    requires { ⌜ Fit g (now image) ⌝ }
+    requires { ⌜ Known g (viewOf g (now image)) start 0 ⌝ }
+    ensures { λ r. ⌜ Counts g (viewOf g (now (image .entry))) start r ⌝ }
+{
+    let mut c = Cursor::new(start, start);
+    loop {
+        match c.step(image, g, true) {
+            Step::Refused(_, _) => {
+                return c.bytes;
+            }
+            Step::Page(_, next) => {
+                if next.page == 0 {
+                    return next.bytes;
+                }
+                c = next;
+            }
+        }
+    }
+}
+
+// The line of an entry with so many bytes.
+fn line_of(level: usize, e: Entry, length: usize) -> Line
+    ensures { λ r. ⌜ r ≡ lineOf level e length ⌝ }
+{
+    Line {
+        level,
+        name: e.name,
+        extension: e.extension % 128,
+        attribute: e.extension / 128,
+        start: e.start,
+        pages: e.pages,
+        length,
+    }
+}
+
+// The line of an entry: a file's bytes are counted along its chain.
+fn entry_line(image: &[u8], g: Geometry, levels: usize, level: usize, e: Entry) -> Line
+    requires { ⌜ Fit g (now image) ⌝ }
+    requires { ⌜ HasPart g (viewOf g (now image)) levels e ⌝ }
+    ensures { λ r. ⌜ Heads g (viewOf g (now (image .entry))) levels level e r ⌝ }
+{
+    if e.extension % 128 == 127 {
+        return line_of(level, e, 0);
+    }
+    line_of(level, e, chain_bytes(image, g, e.start))
+}
+
+// The line at a position among those of one entry: its own, and all below a subdirectory.
+fn look_entry(image: &[u8], g: Geometry, levels: usize, level: usize, e: Entry, k: usize) -> Look
+    requires { ⌜ Fit g (now image) ⌝ }
+    requires { ⌜ (levels + level ≤ 8) × HasPart g (viewOf g (now image)) levels e ⌝ }
+    ensures { λ r. ⌜ LooksPart g (viewOf g (now (image .entry))) levels level e k r ⌝ }
+{
+    if k == 0 {
+        return Look::Found(entry_line(image, g, levels, level, e));
+    }
+    if e.extension % 128 != 127 {
+        return Look::Left(k - 1);
+    }
+    look_directory(image, g, levels - 1, level + 1, e.start, k - 1)
+}
+
+// The line at a position among those of a directory and all below it.
+fn look_directory(
+    image: &[u8],
+    g: Geometry,
+    levels: usize,
+    level: usize,
+    start: usize,
+    k: usize,
+) -> Look
+    requires { ⌜ Fit g (now image) ⌝ }
+    requires { ⌜ (levels + level ≤ 8) × HasDirectory g (viewOf g (now image)) levels start ⌝ }
+    ensures { λ r. ⌜ LooksDirectory g (viewOf g (now (image .entry))) levels level start k r ⌝ }
+{
+    let mut seat = Seat::begin(Cursor::new(start, start), g.control_size(), image, g);
+    let mut left = k;
+    loop {
+        if seat.at < seat.count {
+            let e = seat.entry(image, g);
+            match look_entry(image, g, levels, level, e, left) {
+                Look::Found(x) => return Look::Found(x),
+                Look::Left(j) => left = j,
+            }
+            seat = seat.past();
+        } else {
+            let next = seat.next;
+            if next.page == 0 {
+                return Look::Left(left);
+            }
+            seat = Seat::begin(next, 0, image, g);
+        }
+    }
+}
+
+// The entry at a walk position of an accepted image.
+pub fn line_at(image: &[u8], g: Geometry, k: usize) -> Look
+    requires { ⌜ Fit g (now image) ⌝ }
+    requires { ⌜ Accepted g (viewOf g (now image)) ⌝ }
+    ensures { λ r. ⌜ LooksImage g (viewOf g (now (image .entry))) k r ⌝ }
+{
+    look_directory(image, g, 8, 0, 0, k)
+}
