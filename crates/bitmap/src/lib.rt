@@ -8,8 +8,8 @@ ghost use lib.ListN.{length, getD};
 ghost use Rattle.geometry.specs.Geometry.{Fit};
 ghost use Rattle.packet.specs.Packet.{viewOf};
 ghost use Rattle.rules.specs.OwnerLaws.{nonzero};
-ghost use Rattle.entries.specs.Seats.{Known};
 ghost use Rattle.bitmap.specs.Bits.{ComparesPart, ComparesAll, ComparesChain};
+ghost use Rattle.chain.specs.KnownChain.{KnownChain};
 
 // A bitmap compared with the table: all bits right, or the lowest that is wrong.
 pub enum Bits {
@@ -71,7 +71,7 @@ pub fn compare_local(bytes: &[u8], owners: &[u16]) -> Bits
 // Compares a bitmap that stands in a chain which is known to stand, page by page.
 pub fn compare_chain(image: &[u8], g: Geometry, start: usize, owners: &[u16]) -> Bits
     requires { ⌜ Fit g (now image) ⌝ }
-    requires { ⌜ Known g (viewOf g (now image)) start 0 ⌝ }
+    requires { ⌜ KnownChain g (viewOf g (now image)) start ⌝ }
     ensures { λ r. ⌜ ComparesChain g (viewOf g (now (image .entry))) start (now (owners .entry)) r ⌝ }
 {
     let mut c = Cursor::new(start, start);

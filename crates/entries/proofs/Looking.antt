@@ -21,9 +21,10 @@ use Rattle.chain.specs.declared.Cursor.{Cursor}
 use Rattle.chain.specs.Claims.{IsGood}
 use Rattle.chain.specs.Steps.{firstStep}
 use Rattle.entries.specs.declared.Seat.{Seat}
-use Rattle.entries.specs.Seats.{keysFrom, chainKeys, Fits, openOf, IsDirectoryChain}
+use Rattle.entries.specs.Seats.{keysFrom, chainKeys, Fits, openOf}
 use Rattle.entries.proofs.KeyLaws.{length-keys, keys-cut, keys-take, in-first, not-in-first, in-rest}
 use Rattle.entries.proofs.Seated.{Seated, open-good, seated-first, next-page, seated-next}
+use Rattle.chain.specs.KnownChain.{ChainStands}
 
 -- the bytes from a place of a packet's data on, as the code reads them from the page
 pub data-from : (g : Geometry) (image : List ℕ) (p at : ℕ) (b : List ℕ) (n : ℕ) → viewOf g image p ≡ good b n → at ≤ length b → drop at b ≡ take (length b - at) (drop (1 + at) (pageOf g p image))
@@ -59,7 +60,7 @@ module _ (g : Geometry) (image : List ℕ) (fit : Fit g image) where
   abbrev v : View
   v = viewOf g image
 
-  pub started : (k m start skip : ℕ) (c : Cursor) (s : Seat) (ls : List Link) → c ≡ firstStep start start → s ≡ openOf g v skip c → skip ≡ controlSize g → skip ≤ 8 → IsDirectoryChain g v start ls → m ≤ length (chainKeys g (controlSize g) ls)
+  pub started : (k m start skip : ℕ) (c : Cursor) (s : Seat) (ls : List Link) → c ≡ firstStep start start → s ≡ openOf g v skip c → skip ≡ controlSize g → skip ≤ 8 → ChainStands g v start ls → m ≤ length (chainKeys g (controlSize g) ls)
       → Looking g v k (mem k (take m (chainKeys g (controlSize g) ls))) (length ls) s m
   started k m start skip c s [] q e i h d n = absurd (omega (arith, d .some))
   started k m start skip c s (link p b ∷ ls) q e i h d n =

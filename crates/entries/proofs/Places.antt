@@ -1,4 +1,4 @@
--- A place in a directory: the entry read there, what is left in its page, and the measure of a loop over places; a chain that the walk accepts is a directory's.
+-- A place in a directory: the entry read there, what is left in its page, and the measure of a loop over places.
 use mathlib.Core.Path.{_≡_, ap, sym, _∙_}
 use mathlib.Core.List.{List, _∷_, _++_}
 use Prim.Native.Nat.{ℕ, suc, _+_, _-_, _*_, _/_, _≤_, _<_}
@@ -11,29 +11,16 @@ use Rattle.geometry.specs.Geometry.{entrySize, Valid, Fit}
 use Rattle.geometry.specs.ListLaws.{drop-of-take}
 use Rattle.geometry.specs.Number.{number}
 use Rattle.geometry.specs.Page.{pageOf}
-use Rattle.packet.specs.Packet.{View, viewOf}
+use Rattle.packet.specs.Packet.{viewOf}
 use Rattle.rules.specs.declared.Entry.{Entry}
-use Rattle.rules.specs.PageSetLaws.{range-of, within-length}
-use Rattle.rules.specs.Chain.{Link, pages, first, Test}
-use Rattle.rules.specs.ChainLaws.{IsChain, length-pages}
+use Rattle.rules.specs.Chain.{Link, first}
 use Rattle.rules.specs.Names.{key, entryOf}
 use Rattle.rules.specs.Tree.{Token, entry, entriesIn}
 use Rattle.entries.specs.declared.Seat.{Seat}
-use Rattle.entries.specs.Seats.{keysFrom, Fits, advanced, IsDirectoryChain}
+use Rattle.entries.specs.Seats.{keysFrom, Fits, advanced}
 use Rattle.entries.proofs.KeyLaws.{entry-least}
 use Rattle.entries.proofs.Seated.{Seated}
 use Rattle.entries.proofs.Looking.{data-from}
-
--- a chain that the walk accepts is a directory's chain
-pub chain-directory : (g : Geometry) (v : View) (test : Test) (claimed : List ℕ) (start : ℕ) (ls : List Link) → IsChain (g .pages) v test 0 claimed start ls → IsDirectoryChain g v start ls
-chain-directory g v test claimed start ls c = record {
-  some = c .some;
-  begins = c .start;
-  stand = c .stand;
-  within = λ x h. range-of x (g .pages) (omega (arith, c .clear x));
-  few = omega (arith, within-length (g .pages) (pages ls) (λ x. omega (arith, c .clear x)), length-pages ls);
-  onward = c .onward;
-}
 
 -- ---- one entry of a page
 -- the bytes of the entries from number i on

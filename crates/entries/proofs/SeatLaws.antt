@@ -7,9 +7,7 @@ use native.Mathlib.Nat.{mul-le-mul-left, mul-div-le}
 use native.Mathlib.Omega.{arith}
 use lib.ListN.{length, getD, take, drop, length-drop}
 use lib.Seq.{drop-drop}
-use borrow.Author.Tests.{lt-ltb}
 use Rattle.geometry.specs.declared.Geometry.{Geometry}
-use Rattle.geometry.specs.ChooseLaws.{choose-true}
 use Rattle.geometry.specs.Geometry.{entrySize, Fit}
 use Rattle.geometry.specs.Page.{pageOf}
 use Rattle.geometry.specs.PageLaws.{page-length}
@@ -17,41 +15,19 @@ use Rattle.rules.specs.Names.{entryOf}
 use Rattle.packet.specs.Packet.{Packet, bad, good, View, viewOf}
 use Rattle.packet.specs.Reading.{Right, right-packet}
 use Rattle.chain.specs.declared.Cursor.{Cursor}
-use Rattle.chain.specs.declared.Step.{Step}
 use Rattle.chain.specs.declared.Step.the-variants as step
-use Rattle.chain.specs.Claims.{IsGood, Counted}
-use Rattle.chain.specs.Steps.{after, passed, stepOf}
+use Rattle.chain.specs.Steps.{after, stepOf}
+use Rattle.chain.proofs.Following.{stepped}
 use Rattle.entries.specs.declared.Seat.{Seat}
 use Rattle.entries.specs.Seats.{Fits, opened, openOf}
 
--- a step over a right packet
+-- a place at the first entry of a page that is passed
 module _ (g : Geometry) (v : View) (c : Cursor) (h : c .page < g .pages) where
-  pub never-refused : IsGood (v (c .page)) → (n p : ℕ) → step.Refused n p ≡ stepOf g v c → ⊥
-  unfolding stepOf
-  never-refused k n p e = go (v (c .page)) k (e ∙ simp (lt-ltb (c .page) (g .pages) h, choose-true))
-    where
-      go : (x : Packet) → IsGood x → step.Refused n p ≡ passed c x → ⊥
-      go bad k e = k
-      go (good b m) k e = let z : _≡_ {A = ℕ} 0 1 = cc in omega arith
-
-  -- what it passes
-  pub stepped : (size : ℕ) (d : Cursor) → step.Page size d ≡ stepOf g v c → (b : List ℕ) × (v (c .page) ≡ good b (d .page)) × (length b ≡ size) × (d ≡ after c size (d .page))
-  unfolding stepOf
-  stepped size d e = go (v (c .page)) refl (e ∙ simp (lt-ltb (c .page) (g .pages) h, choose-true))
-    where
-      go : (x : Packet) → v (c .page) ≡ x → step.Page size d ≡ passed c x → (b : List ℕ) × (v (c .page) ≡ good b (d .page)) × (length b ≡ size) × (d ≡ after c size (d .page))
-      go bad q e = absurd (let z : _≡_ {A = ℕ} 0 1 = cc in omega arith)
-      go (good b m) q e =
-          let i : d ≡ after c (length b) m = cc in
-          let j : m ≡ d .page = ap (λ (x : Cursor). x .page) (sym i) in
-          let l : length b ≡ size = cc in
-          (b, q ∙ ap (good b) j, l, i ∙ ap₂ (after c) l j)
-
   pub open-is : (size : ℕ) (d : Cursor) (skip n e : ℕ) → step.Page size d ≡ stepOf g v c → e ≡ entrySize g → n ≡ (size - skip) / e
       → _≡_ {A = Seat} (record { page = c .page; skip = skip; count = n; at = 0; next = d }) (openOf g v skip c)
   unfolding openOf
   open-is size d skip n e f i q =
-      let k = stepped size d f in
+      let k = stepped g v c h size d f in
       let s : n ≡ length (drop skip (k .0)) / entrySize g = q ∙ ap (λ (x : ℕ). (size - skip) / x) i ∙ ap (λ (i : ℕ). i / entrySize g) (sym (length-drop skip (k .0) ∙ ap (λ (i : ℕ). i - skip) (k .2))) in
       let j : d ≡ after c (length (k .0)) (d .page) = k .3 ∙ ap (λ (i : ℕ). after c i (d .page)) (sym (k .2)) in
       ap₂ (λ (i : ℕ) (x : Cursor). record { page = c .page; skip = skip; count = i; at = 0; next = x }) s j ∙ ap (opened g skip c) (sym (k .1))

@@ -3,21 +3,21 @@ use mathlib.Core.Path.{_≡_, refl, ap, sym, _∙_, subst}
 use mathlib.Core.List.{List, [], _∷_, _++_}
 use Prim.Native.Nat.{ℕ, zero, suc, _+_, _-_, _*_, _/_, _≤_, _<_}
 use native.Mathlib.Omega.{arith}
-use lib.ListN.{length, take, drop, length-take}
+use lib.ListN.{length, drop}
 use Rattle.geometry.specs.declared.Geometry.{Geometry}
 use Rattle.geometry.specs.Geometry.{entrySize, controlSize, Fit}
-use Rattle.geometry.specs.Page.{pageOf}
 use Rattle.packet.specs.Packet.{Packet, bad, good, View, viewOf}
-use Rattle.packet.specs.Reading.{Right, right-packet}
 use Rattle.rules.specs.PageSets.{count}
 use Rattle.rules.specs.PageSetLaws.{hit-same}
 use Rattle.rules.specs.Chain.{Link, link, pages, first, linked}
 use Rattle.rules.specs.WellFormed.{Stand}
 use Rattle.chain.specs.declared.Cursor.{Cursor}
 use Rattle.chain.specs.Claims.{IsGood, Counted}
+use Rattle.chain.specs.KnownChain.{ChainStands}
 use Rattle.chain.specs.Steps.{firstStep, after}
+use Rattle.chain.proofs.Following.{small-view, follow, page-known}
 use Rattle.entries.specs.declared.Seat.{Seat}
-use Rattle.entries.specs.Seats.{Fits, opened, openOf, advanced, IsDirectoryChain}
+use Rattle.entries.specs.Seats.{Fits, opened, openOf, advanced}
 use Rattle.entries.proofs.SeatLaws.{seat-fits}
 
 -- a place in the page with these bytes, these pages to come, in a chain of so many
@@ -31,13 +31,6 @@ pub record Seated (g : Geometry) (v : View) (total : ℕ) (s : Seat) (bytes : Li
   pub passed : s .next .count + length more ≡ total
   pub counted : Counted (s .next)
   pub fits : Fits g s
-
--- a packet's data are fewer than 256 bytes
-pub small-view : (g : Geometry) (image : List ℕ) → Fit g image → (p : ℕ) (b : List ℕ) (n : ℕ) → viewOf g image p ≡ good b n → length b < 256
-unfolding viewOf pageOf
-small-view g image f p b n e =
-    let r = right-packet (g .width) p (take (g .size) (drop (p * g .size) image)) b n e in
-    omega (arith, r .room, length-take (g .size) (drop (p * g .size) image), f .valid .most)
 
 pub open-good : (g : Geometry) (v : View) (skip : ℕ) (c : Cursor) (b : List ℕ) (n : ℕ) → v (c .page) ≡ good b n → openOf g v skip c ≡ opened g skip c (good b n)
 unfolding openOf
@@ -78,7 +71,7 @@ module _ (g : Geometry) (image : List ℕ) (fit : Fit g image) where
   }
 
   -- of a directory's first page
-  pub seated-first : (start skip p : ℕ) (b : List ℕ) (ls : List Link) → skip ≤ 31 → IsDirectoryChain g v start (link p b ∷ ls)
+  pub seated-first : (start skip p : ℕ) (b : List ℕ) (ls : List Link) → skip ≤ 31 → ChainStands g v start (link p b ∷ ls)
       → (v start ≡ good b (first ls)) × Seated g v (suc (length ls)) (opened g skip (firstStep start start) (good b (first ls))) b ls
   seated-first start skip p b ls i d =
       let e : v start ≡ good b (first ls) = ap v (sym (d .begins)) ∙ d .stand .0 in (
@@ -88,13 +81,8 @@ module _ (g : Geometry) (image : List ℕ) (fit : Fit g image) where
       )
 
   -- the search or the walk begins
-  pub begins : (start skip : ℕ) (c : Cursor) (ls : List Link) → c ≡ firstStep start start → skip ≤ 8 → IsDirectoryChain g v start ls → Counted c × (c .page < g .pages) × IsGood (v (c .page)) × (skip ≤ 31)
-  begins start skip c [] q h d = absurd (omega (arith, d .some))
-  begins start skip c (link p b ∷ ls) q h d =
-      let i : c .page ≡ p = ap (λ (x : Cursor). x .page) q ∙ sym (d .begins) in
-      let n : c .count ≡ 0 = ap (λ (x : Cursor). x .count) q in
-      let m : c .bytes ≡ 0 = ap (λ (x : Cursor). x .bytes) q in
-      (record { few = omega arith; small = omega arith }, rw i (d .within p (omega (arith, hit-same p))), rw (i, d .stand .0) tt, omega arith)
+  pub begins : (start skip : ℕ) (c : Cursor) (ls : List Link) → c ≡ firstStep start start → skip ≤ 8 → ChainStands g v start ls → Counted c × (c .page < g .pages) × IsGood (v (c .page)) × (skip ≤ 31)
+  begins start skip c ls q h d = let k = page-known g image fit (length ls) c ls (follow g v start c ls q d) in (follow g v start c ls q d .counted, k .0, k .1, omega arith)
 
   module _ (total : ℕ) (s : Seat) (bytes : List ℕ) where
     -- there is a next page

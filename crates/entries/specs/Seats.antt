@@ -9,12 +9,11 @@ use Rattle.geometry.specs.Geometry.{entrySize, controlSize}
 use Rattle.geometry.specs.Number.{number}
 use Rattle.packet.specs.Packet.{Packet, bad, good, View}
 use Rattle.rules.specs.declared.Entry.{Entry}
-use Rattle.rules.specs.PageSets.{count, mem}
-use Rattle.rules.specs.Chain.{Link, link, pages, first, linked}
-use Rattle.rules.specs.ChainLaws.{rest}
+use Rattle.rules.specs.PageSets.{mem}
+use Rattle.rules.specs.Chain.{Link, link}
 use Rattle.rules.specs.Names.{key, entryOf}
-use Rattle.rules.specs.WellFormed.{Stand}
 use Rattle.chain.specs.declared.Cursor.{Cursor}
+use Rattle.chain.specs.KnownChain.{ChainStands}
 use Rattle.chain.specs.Steps.{after}
 use Rattle.entries.specs.declared.Seat.{Seat}
 
@@ -44,21 +43,12 @@ openOf g v skip c = opened g skip c (v (c .page))
 abbrev pub advanced : Seat → Seat
 advanced s = record { page = s .page; skip = s .skip; count = s .count; at = s .at + 1; next = s .next }
 
--- a directory's chain from its start page on
-pub record IsDirectoryChain (g : Geometry) (v : View) (start : ℕ) (ls : List Link) : Type 0 where
-  pub some : 0 < length ls
-  pub begins : first ls ≡ start
-  pub stand : Stand v (linked ls)
-  pub within : (x : ℕ) → 1 ≤ count x (pages ls) → x < g .pages
-  pub few : length ls ≤ g .pages
-  pub onward : count 0 (pages (rest ls)) ≡ 0
-
--- there is such a chain, and it has so many entries
-pub record Known (g : Geometry) (v : View) (start m : ℕ) : Type 0 where
+-- there is a directory's chain, and it has at least so many entries
+pub record HasEntries (g : Geometry) (v : View) (start m : ℕ) : Type 0 where
   pub links : List Link
-  pub chain : IsDirectoryChain g v start links
+  pub chain : ChainStands g v start links
   pub enough : m ≤ length (chainKeys g (controlSize g) links)
 
 -- whether one of the first m entries of the directory from `start` on has this key
 abbrev pub Repeats : Geometry → View → ℕ → ℕ → ℕ → Bool → Type 0
-Repeats g v start m k r = (ls : List Link) → IsDirectoryChain g v start ls → m ≤ length (chainKeys g (controlSize g) ls) → r ≡ mem k (take m (chainKeys g (controlSize g) ls))
+Repeats g v start m k r = (ls : List Link) → ChainStands g v start ls → m ≤ length (chainKeys g (controlSize g) ls) → r ≡ mem k (take m (chainKeys g (controlSize g) ls))

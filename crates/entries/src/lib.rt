@@ -13,7 +13,7 @@ ghost use Rattle.packet.specs.Packet.{viewOf};
 ghost use Rattle.rules.specs.PageSets.{mem};
 ghost use Rattle.rules.specs.Names.{key, entryOf};
 ghost use Rattle.chain.specs.Claims.{Counted, IsGood};
-ghost use Rattle.entries.specs.Seats.{keysFrom, Fits, openOf, advanced, Known, Repeats};
+ghost use Rattle.entries.specs.Seats.{keysFrom, Fits, openOf, advanced, HasEntries, Repeats};
 
 // A place in a directory: a page, the bytes before its entries, how many it has and the next of them; the position of the page after it.
 pub struct Seat {
@@ -121,7 +121,7 @@ fn least(a: usize, b: usize) -> usize
 // Whether one of the first m entries of a directory has this key.
 pub fn is_repeated(image: &[u8], g: Geometry, start: usize, m: usize, key: u64) -> bool
     requires { ⌜ Fit g (now image) ⌝ }
-    requires { ⌜ Known g (viewOf g (now image)) start m ⌝ }
+    requires { ⌜ HasEntries g (viewOf g (now image)) start m ⌝ }
     ensures { λ r. ⌜ Repeats g (viewOf g (now (image .entry))) start m key r ⌝ }
 {
     let mut seat = Seat::begin(Cursor::new(start, start), g.control_size(), image, g);

@@ -23,9 +23,9 @@ use Rattle.rules.specs.Control.{Above, theRoot, rootPage, subPage}
 use Rattle.rules.specs.WellFormed.{Under}
 use Rattle.rules.specs.Check.{Part, chain, directory, partPages, add, Judge, Scan, judgeFile, judgeEntry, judgeEntries, judgeDirectory, judgeSub, scan, check}
 use Rattle.rules.specs.Soundness.{JudgeSound, entry-sound, sub-sound, map-sound}
-use Rattle.entries.specs.Seats.{IsDirectoryChain}
-use Rattle.entries.proofs.Places.{chain-directory}
 use Rattle.listing.specs.Standing.{Chained, Below, Stands, PartStands}
+use Rattle.chain.specs.KnownChain.{ChainStands}
+use Rattle.chain.proofs.Following.{chain-stands}
 
 -- a directory begins at its start page
 start-page : (t : Items) (p : ℕ) (ts : List Token) → newPage p ∷ ts ≡ tokens t → startOf t ≡ p
@@ -38,7 +38,7 @@ module _ (g : Geometry) (v : View) where
   starts : (start : ℕ) (t : Items) → Chained g v start t → startOf t ≡ start
   starts start t c = go (c .links) (c .chain) (c .shape)
     where
-      go : (ls : List Link) → IsDirectoryChain g v start ls → linkTokens g (controlSize g) ls ≡ tokens t → startOf t ≡ start
+      go : (ls : List Link) → ChainStands g v start ls → linkTokens g (controlSize g) ls ≡ tokens t → startOf t ≡ start
       go [] d q = absurd (omega (arith, d .some))
       go (link p b ∷ ls) d q = start-page t p _ q ∙ d .begins
 
@@ -56,7 +56,7 @@ module _ (g : Geometry) (v : View) where
     unfolding judgeFile
     file-stands claimed p x fit k q = on-refuse _ _ _ _ _ q λ g₁ q. on-then _ _ _ q λ ls w q. on-refuse _ _ _ _ _ q λ g₂ q.
         let c = walk-sound (g .pages) v anyPage (suc (g .pages)) 0 claimed p (e .start) ls fit w in
-        subst (PartStands g v levels e) (ok-inj q) (chain-directory g v anyPage claimed (e .start) ls c, eqb-true _ _ g₂, k)
+        subst (PartStands g v levels e) (ok-inj q) (chain-stands g v anyPage claimed (e .start) ls c, eqb-true _ _ g₂, k)
 
     entry-stands : (sub : Judge) → SubStands levels sub → (here : Above) (claimed : List ℕ) (p : ℕ) (seen : List ℕ) (x : Part) → Within (g .pages) claimed
         → judgeEntry g v sub here claimed p seen e ≡ ok x → PartStands g v levels e x
@@ -78,7 +78,7 @@ module _ (g : Geometry) (v : View) where
       → (tokens (add e x t) ≡ entry e ∷ ts) × Below g v levels (add e x t)
   add-stands levels e (chain ls) ts t h q b = (
     ap₂ (λ (y : Entry) (l : List Token). entry y ∷ l) (same-entry e (first ls) (length ls) (h .0 .begins) (sym (h .1))) q,
-    (subst (λ (p : ℕ). IsDirectoryChain g v p ls) (sym (h .0 .begins)) (h .0), h .2, b),
+    (subst (λ (p : ℕ). ChainStands g v p ls) (sym (h .0 .begins)) (h .0), h .2, b),
   )
   add-stands levels e (directory d) ts t h q b = (
     ap₂ (λ (y : Entry) (l : List Token). entry y ∷ l) (same-entry e (startOf d) 0 (h .0) (sym (h .1))) q,
@@ -105,7 +105,7 @@ module _ (g : Geometry) (v : View) where
     directory-stands test claimed p t fit q = on-then _ _ _ q λ ls w q.
         let c = walk-sound (g .pages) v test (suc (g .pages)) 0 claimed p (here .start) ls fit w in
         let i = entries-stand (linkTokens g (controlSize g) ls) (pages ls ++ claimed) (here .start) [] t (λ z. simp count-append (c .clear z)) q in
-        record { chained = record { links = ls; chain = chain-directory g v test claimed (here .start) ls c; shape = sym (i .0) }; below = i .1 }
+        record { chained = record { links = ls; chain = chain-stands g v test claimed (here .start) ls c; shape = sym (i .0) }; below = i .1 }
 
   sub-stands : (levels : ℕ) → SubStands levels (judgeSub g v levels)
   unfolding judgeSub

@@ -21,13 +21,14 @@ use Rattle.chain.specs.declared.Cursor.{Cursor}
 use Rattle.chain.specs.Claims.{IsGood}
 use Rattle.chain.specs.Steps.{firstStep}
 use Rattle.entries.specs.declared.Seat.{Seat}
-use Rattle.entries.specs.Seats.{opened, openOf, advanced, IsDirectoryChain}
+use Rattle.entries.specs.Seats.{opened, openOf, advanced}
 use Rattle.entries.proofs.Places.{entriesAt, entry-read, first-token}
 use Rattle.entries.proofs.Seated.{Seated, open-good, seated-past, seated-first, next-page, seated-next}
 use Rattle.listing.specs.declared.Look.{Look}
 use Rattle.listing.specs.declared.Look.the-variants as look
 use Rattle.listing.specs.Standing.{Chained, Below, Stands, PartStands, HasPart, partLines, Looks, LooksPart}
 use Rattle.listing.proofs.Lines.{looks-first, looks-on}
+use Rattle.chain.specs.KnownChain.{ChainStands}
 
 -- ---- a tree by its tokens
 module _ (g : Geometry) (v : View) (levels level : ℕ) where
@@ -181,7 +182,7 @@ module _ (g : Geometry) (image : List ℕ) (fit : Fit g image) (levels level k�
   pub ahead-first : (start skip : ℕ) (c : Cursor) (s : Seat) → Stands g v levels start t₀ → c ≡ firstStep start start → s ≡ openOf g v skip c → skip ≡ controlSize g → skip ≤ 8 → Now s k₀
   ahead-first start skip c s S q e i h = go (S .chained .links) (S .chained .chain) (S .chained .shape)
     where
-      go : (ls : List Link) → IsDirectoryChain g v start ls → linkTokens g (controlSize g) ls ≡ tokens t₀ → Now s k₀
+      go : (ls : List Link) → ChainStands g v start ls → linkTokens g (controlSize g) ls ≡ tokens t₀ → Now s k₀
       go [] d y = absurd (omega (arith, d .some))
       go (link p b ∷ ls) d y =
           let n = seated-first g image fit start skip p b ls (omega arith) d in

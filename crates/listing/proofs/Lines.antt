@@ -17,10 +17,11 @@ use Rattle.rules.specs.Tree.{Items}
 use Rattle.rules.specs.WellFormed.{Under}
 use Rattle.rules.specs.Listing.{linesOf, lineAt}
 use Rattle.rules.specs.Check.{Part, chain, directory}
-use Rattle.entries.specs.Seats.{Known}
 use Rattle.listing.specs.declared.Look.{Look}
 use Rattle.listing.specs.declared.Look.the-variants as look
-use Rattle.listing.specs.Standing.{Stands, PartStands, HasDirectory, HasPart, Counts, lineOf, headLine, partLines, Looks, Tells, Heads, LooksPart, LooksDirectory}
+use Rattle.listing.specs.Standing.{Stands, PartStands, HasDirectory, HasPart, lineOf, headLine, partLines, Looks, Tells, Heads, LooksPart, LooksDirectory}
+use Rattle.chain.specs.KnownChain.{KnownChain}
+use Rattle.content.specs.Contents.{Counts}
 
 -- ---- positions
 line-first : (k : ℕ) (xs ys : List Line) (x : Line) → lineAt k xs ≡ ok x → lineAt k (xs ++ ys) ≡ ok x
@@ -125,12 +126,12 @@ module _ (g : Geometry) (v : View) (levels level : ℕ) (e : Entry) where
       length = f ls (s .0) i;
     }
 
-    pub file-known : HasPart g v levels e → Known g v (e .start) 0
+    pub file-known : HasPart g v levels e → KnownChain g v (e .start)
     file-known p = go (p .part) (p .stands)
       where
-        go : (x : Part) → PartStands g v levels e x → Known g v (e .start) 0
+        go : (x : Part) → PartStands g v levels e x → KnownChain g v (e .start)
         go (directory d) s = absurd (apart (directoryNumber (e .extension)) (s .2) (number-other (e .extension) h))
-        go (chain ls) s = record { links = ls; chain = s .0; enough = omega arith }
+        go (chain ls) s = record { links = ls; chain = s .0 }
 
     pub looks-file : (k : ℕ) → (k ≡ 0 → ⊥) → LooksPart g v levels level e k (look.Left (k - 1))
     looks-file k z (directory d) s = absurd (apart (directoryNumber (e .extension)) (s .2) (number-other (e .extension) h))

@@ -16,14 +16,14 @@ use Rattle.rules.specs.Tree.{labelOf, Items, end, page, file, dir, startOf, tok
 use Rattle.rules.specs.WellFormed.{Under}
 use Rattle.rules.specs.Listing.{fileLine, directoryLine, linesOf, lineAt}
 use Rattle.rules.specs.Check.{Part, chain, directory, check}
-use Rattle.entries.specs.Seats.{IsDirectoryChain}
 use Rattle.listing.specs.declared.Look.{Look}
 use Rattle.listing.specs.declared.Look.the-variants as look
+use Rattle.chain.specs.KnownChain.{ChainStands}
 
 -- a directory's chain from its start page on, and its entries in the pages
 pub record Chained (g : Geometry) (v : View) (start : ℕ) (t : Items) : Type 0 where
   pub links : List Link
-  pub chain : IsDirectoryChain g v start links
+  pub chain : ChainStands g v start links
   pub shape : linkTokens g (controlSize g) links ≡ tokens t
 
 module _ (g : Geometry) (v : View) where
@@ -31,7 +31,7 @@ module _ (g : Geometry) (v : View) where
   abbrev pub Below : ℕ → Items → Type 0
   Below levels end = Unit {0}
   Below levels (page p t) = Below levels t
-  Below levels (file l ls t) = IsDirectoryChain g v (first ls) ls × (directoryNumber (l .extension) ≡ false) × Below levels t
+  Below levels (file l ls t) = ChainStands g v (first ls) ls × (directoryNumber (l .extension) ≡ false) × Below levels t
   Below levels (dir l d t) = Chained g v (startOf d) d × (directoryNumber (l .extension) ≡ true) × Under levels (λ less. Below less d) × Below levels t
 
   -- a directory from a start page on
@@ -41,7 +41,7 @@ module _ (g : Geometry) (v : View) where
 
   -- what an entry names
   abbrev pub PartStands : ℕ → Entry → Part → Type 0
-  PartStands levels e (chain ls) = IsDirectoryChain g v (e .start) ls × (e .pages ≡ length ls) × (directoryNumber (e .extension) ≡ false)
+  PartStands levels e (chain ls) = ChainStands g v (e .start) ls × (e .pages ≡ length ls) × (directoryNumber (e .extension) ≡ false)
   PartStands levels e (directory d) = (startOf d ≡ e .start) × (e .pages ≡ 0) × (directoryNumber (e .extension) ≡ true) × Under levels (λ less. Stands less (e .start) d)
 
   -- there is such a directory; there is such a part; the image is accepted
@@ -56,10 +56,6 @@ module _ (g : Geometry) (v : View) where
   pub record Accepted : Type 0 where
     pub image : Image
     pub accepted : check g v ≡ ok image
-
-  -- the bytes of the chain from a start page on
-  abbrev pub Counts : ℕ → ℕ → Type 0
-  Counts start r = (ls : List Link) → IsDirectoryChain g v start ls → r ≡ length (content ls)
 
 -- the line of an entry with so many bytes
 abbrev pub lineOf : ℕ → Entry → ℕ → Line

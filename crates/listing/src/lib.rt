@@ -1,6 +1,5 @@
 // The entry at a walk position of an image that is known to be accepted, found in the image alone.
 use chain::Cursor;
-use chain::Step;
 use entries::Seat;
 use geometry::Geometry;
 use rules::Entry;
@@ -9,35 +8,12 @@ ghost use mathlib.Core.Path.{_≡_};
 ghost use Prim.Native.Nat.{_+_, _≤_};
 ghost use Rattle.geometry.specs.Geometry.{Fit};
 ghost use Rattle.packet.specs.Packet.{viewOf};
-ghost use Rattle.entries.specs.Seats.{Known};
-ghost use Rattle.listing.specs.Standing.{HasDirectory, HasPart, Accepted, Counts, lineOf, Heads, LooksPart, LooksDirectory, LooksImage};
+ghost use Rattle.listing.specs.Standing.{HasDirectory, HasPart, Accepted, lineOf, Heads, LooksPart, LooksDirectory, LooksImage};
 
 // The line at a position, or how far past the last line it lies.
 pub enum Look {
     Found(Line),
     Left(usize),
-}
-
-// The bytes of a chain that is known to be right.
-fn chain_bytes(image: &[u8], g: Geometry, start: usize) -> usize
-    requires { ⌜ Fit g (now image) ⌝ }
-    requires { ⌜ Known g (viewOf g (now image)) start 0 ⌝ }
-    ensures { λ r. ⌜ Counts g (viewOf g (now (image .entry))) start r ⌝ }
-{
-    let mut c = Cursor::new(start, start);
-    loop {
-        match c.step(image, g, true) {
-            Step::Refused(_, _) => {
-                return c.bytes;
-            }
-            Step::Page(_, next) => {
-                if next.page == 0 {
-                    return next.bytes;
-                }
-                c = next;
-            }
-        }
-    }
 }
 
 // The line of an entry with so many bytes.
@@ -64,7 +40,7 @@ fn entry_line(image: &[u8], g: Geometry, levels: usize, level: usize, e: Entry) 
     if e.extension % 128 == 127 {
         return line_of(level, e, 0);
     }
-    line_of(level, e, chain_bytes(image, g, e.start))
+    line_of(level, e, content::chain_bytes(image, g, e.start))
 }
 
 // The line at a position among those of one entry: its own, and all below a subdirectory.

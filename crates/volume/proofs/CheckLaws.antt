@@ -19,7 +19,6 @@ use Rattle.rules.specs.OwnerLaws.{Represents}
 use Rattle.rules.specs.Check.{Scan, judgeBits, scan, check}
 use Rattle.rules.specs.Calls.{shape, asked, inGeometry, checkCall}
 use Rattle.reading.specs.CheckCall.{check-accepts, bytes-known}
-use Rattle.entries.specs.Seats.{Known}
 use Rattle.directory.specs.declared.control.Root.{Root}
 use Rattle.directory.specs.declared.control.Root.the-variants as root
 use Rattle.bitmap.specs.declared.Bits.{Bits}
@@ -29,6 +28,7 @@ use Rattle.walk.specs.declared.Walk.{Walk}
 use Rattle.walk.specs.declared.Walk.the-variants as w
 use Rattle.volume.specs.Scans.{rootOf, Scanned, BitsCompared, TableChecked, told, Accepts}
 use Rattle.volume.proofs.ScanLaws.{scan-refused, scan-local, scan-remote, raw-local, RawFile, raw-file, check-refused, check-differs, check-same, scan-table}
+use Rattle.chain.specs.KnownChain.{KnownChain}
 
 -- ---- the bitmap compared
 pub on-raw : (raw bytes used : List ℕ) (r : Bits) → raw ≡ bytes → Compares (judgeBits bytes used) r → Compares (judgeBits raw used) r
@@ -49,8 +49,8 @@ local-raw g image page x s q i e k =
 pub remote-raw : (g : Geometry) (v : View) (x : Root) (start count : ℕ) (s : Scan) → x ≡ rootOf g (v 0) → x ≡ root.Remote start count → scan g v ≡ ok s → RawFile g v start s
 remote-raw g v x start count s q i e = raw-file g v start count (scan-remote g v x start count q i) s e
 
-pub remote-known : (g : Geometry) (v : View) (start : ℕ) (s : Scan) → RawFile g v start s → Known g v start 0
-remote-known g v start s k = record { links = k .links; chain = k .chain; enough = omega arith }
+pub remote-known : (g : Geometry) (v : View) (start : ℕ) (s : Scan) → RawFile g v start s → KnownChain g v start
+remote-known g v start s k = record { links = k .links; chain = k .chain }
 
 -- ---- the table
 pub record Done (g : Geometry) (v : View) (d : Totals) (u : List ℕ) : Type 0 where

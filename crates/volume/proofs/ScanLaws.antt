@@ -32,15 +32,15 @@ use Rattle.rules.specs.Owners.{fileCount, directoryCount, own, owners, totals}
 use Rattle.rules.specs.OwnerLaws.{nonzero, Represents, represents-none, represents-own, represents-length, inUse, length-own, represents-owners}
 use Rattle.rules.specs.Check.{Scan, rawBits, judgeBits, judgeMap, judgeDirectory, judgeSub, scan, check}
 use Rattle.rules.specs.Soundness.{scan-sound}
-use Rattle.entries.specs.Seats.{IsDirectoryChain}
 use Rattle.directory.specs.declared.control.Root.{Root}
 use Rattle.directory.specs.declared.control.Root.the-variants as root
 use Rattle.directory.specs.Faults.{control}
-use Rattle.entries.proofs.Places.{chain-directory}
 use Rattle.walk.specs.declared.Walk.{Walk}
 use Rattle.walk.specs.declared.Walk.the-variants as w
 use Rattle.walk.specs.Walks.{Answers, plusDirectory, ownDirectory}
 use Rattle.volume.specs.Scans.{rootOf, judgeFileMap, noEntries, MapClaimed, RootWalked, Scanned}
+use Rattle.chain.specs.KnownChain.{ChainStands}
+use Rattle.chain.proofs.Following.{chain-stands}
 
 -- ---- page 0
 on-fault : {B C : Type 0} (t : Bool) (n p : ℕ) (r : Res B) (m q : ℕ) → andAfter (refuse-unless t n p) r ≡ err m q → (p ≡ q → C) → (r ≡ err m q → C) → C
@@ -299,7 +299,7 @@ raw-local g image k s e =
 -- in a file: its content
 pub record RawFile (g : Geometry) (v : View) (start : ℕ) (s : Scan) : Type 0 where
   pub links : List Link
-  pub chain : IsDirectoryChain g v start links
+  pub chain : ChainStands g v start links
   pub raw-is : s .raw ≡ content links
 
 pub raw-file : (g : Geometry) (v : View) (start count : ℕ) (k : InFile g v start count) (s : Scan) → scan g v ≡ ok s → RawFile g v start s
@@ -307,7 +307,7 @@ unfolding judgeFileMap
 raw-file g v start count k s e =
     on-then _ _ _ (sym (k .scan-is) ∙ e) λ m q z. on-refuse _ _ _ _ _ q λ g₁ q. on-then _ _ _ q λ ls y q. on-refuse _ _ _ _ _ q λ g₂ q. on-refuse _ _ _ _ _ q λ g₃ q.
     let c = walk-sound (g .pages) v anyPage (suc (g .pages)) 0 [] 0 start ls (λ x. omega arith) y in
-    record { links = ls; chain = chain-directory g v anyPage [] start ls c; raw-is = scanned-raw g v (k .head) m s z ∙ ap (rawBits (k .head)) (sym (ok-inj q)) }
+    record { links = ls; chain = chain-stands g v anyPage [] start ls c; raw-is = scanned-raw g v (k .head) m s z ∙ ap (rawBits (k .head)) (sym (ok-inj q)) }
 
 -- ---- the check from its halves
 module _ (g : Geometry) (v : View) where

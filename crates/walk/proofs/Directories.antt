@@ -20,14 +20,14 @@ use Rattle.rules.specs.Check.{judgeEntries, judgeDirectory, judgeSub}
 use Rattle.chain.specs.declared.Claim.{Claim}
 use Rattle.chain.specs.declared.Claim.the-variants as claim
 use Rattle.chain.specs.Claims.{Claims}
-use Rattle.entries.proofs.Places.{chain-directory}
-use Rattle.entries.specs.Seats.{IsDirectoryChain, Known}
 use Rattle.walk.specs.declared.Walk.{Walk}
 use Rattle.walk.specs.declared.Walk.the-variants as w
 use Rattle.walk.specs.Walks.{Good, Ready, Answers, plusDirectory, ownDirectory}
 use Rattle.walk.proofs.Parts.{IsClaimed, claimed-chain, claim-refused}
 use Rattle.walk.proofs.Steps.{good-chain, directory-refused, directory-rest}
 use Rattle.walk.proofs.Left.{LeftOver}
+use Rattle.chain.specs.KnownChain.{ChainStands, KnownChain}
+use Rattle.chain.proofs.Following.{chain-stands}
 
 module _ (g : Geometry) (v : View) (test : Test) (owner from start n b : ℕ) (t u : List ℕ) (r : Claim) (k : Claims g v test owner from start t r u) (l : length t ≡ g .pages) where
   pub refused-directory : (levels name : ℕ) (m p : ℕ) → r ≡ claim.Refused m p → (claimed : List ℕ) → Represents t claimed
@@ -57,27 +57,27 @@ module _ (g : Geometry) (v : View) (test : Test) (owner from start n b : ℕ) (t
 
       -- an answer for the entries of every such chain answers the directory
       whole-directory : (levels name : ℕ) (x : Walk) (y : List ℕ)
-          → ((others : List ℕ) (ls : List Link) → Represents u others → IsDirectoryChain g v start ls → LeftOver g v levels name start others start [] (linkTokens g (controlSize g) ls) begun u x y)
+          → ((others : List ℕ) (ls : List Link) → Represents u others → ChainStands g v start ls → LeftOver g v levels name start others start [] (linkTokens g (controlSize g) ls) begun u x y)
           → Answers (plusDirectory c) (ownDirectory owner (c .files + c .directories) t) (judgeDirectory g v (judgeSub g v levels) test (record { name = name; start = start }) claimed from) x y
       whole-directory levels name x y z =
           let ls = is-claimed .links in
           directory-rest g v levels test (record { name = name; start = start }) claimed from ls owner n c t (is-claimed .chain-is) (is-claimed .pages-are) (λ x. simp count-append (is-chain .clear x)) x y
           (subst (λ (q : List ℕ). LeftOver g v levels name start (pages ls ++ claimed) start [] (linkTokens g (controlSize g) ls) begun q x y) (is-claimed .table-is)
-          (z (pages ls ++ claimed) ls (subst (λ (q : List ℕ). Represents q (pages ls ++ claimed)) (sym (is-claimed .table-is)) owned) (chain-directory g v test claimed start ls is-chain)))
+          (z (pages ls ++ claimed) ls (subst (λ (q : List ℕ). Represents q (pages ls ++ claimed)) (sym (is-claimed .table-is)) owned) (chain-stands g v test claimed start ls is-chain)))
 
       pub whole-refused : (levels name m p : ℕ)
-          → ((others : List ℕ) (ls : List Link) → Represents u others → IsDirectoryChain g v start ls → judgeEntries g v (judgeSub g v levels) (record { name = name; start = start }) others start [] (linkTokens g (controlSize g) ls) ≡ err m p)
+          → ((others : List ℕ) (ls : List Link) → Represents u others → ChainStands g v start ls → judgeEntries g v (judgeSub g v levels) (record { name = name; start = start }) others start [] (linkTokens g (controlSize g) ls) ≡ err m p)
           → judgeDirectory g v (judgeSub g v levels) test (record { name = name; start = start }) claimed from ≡ err m p
       whole-refused levels name m p z = whole-directory levels name (w.Refused m p) [] z
 
       pub whole-done : (levels name : ℕ) (d : Totals) (y : List ℕ)
-          → ((others : List ℕ) (ls : List Link) → Represents u others → IsDirectoryChain g v start ls → LeftOver g v levels name start others start [] (linkTokens g (controlSize g) ls) begun u (w.Done d) y)
+          → ((others : List ℕ) (ls : List Link) → Represents u others → ChainStands g v start ls → LeftOver g v levels name start others start [] (linkTokens g (controlSize g) ls) begun u (w.Done d) y)
           → Answers (plusDirectory c) (ownDirectory owner (c .files + c .directories) t) (judgeDirectory g v (judgeSub g v levels) test (record { name = name; start = start }) claimed from) (w.Done d) y
       whole-done levels name d y z = whole-directory levels name (w.Done d) y z
 
     -- a chain is known, and the totals are good
-    pub known-directory : Known g v start 0 × Good g begun u
+    pub known-directory : KnownChain g v start × Good g begun u
     known-directory = (
-      record { links = is-claimed (taken t) (represents-taken t) .links; chain = chain-directory g v test (taken t) start (is-claimed (taken t) (represents-taken t) .links) (is-chain (taken t) (represents-taken t)); enough = omega arith },
+      record { links = is-claimed (taken t) (represents-taken t) .links; chain = chain-stands g v test (taken t) start (is-claimed (taken t) (represents-taken t) .links) (is-chain (taken t) (represents-taken t)) },
       is-good (taken t) (represents-taken t),
     )

@@ -29,14 +29,16 @@ use Rattle.chain.specs.Claims.{IsGood}
 use Rattle.chain.specs.Steps.{firstStep}
 use Rattle.chain.specs.declared.Cursor.{Cursor}
 use Rattle.entries.specs.declared.Seat.{Seat}
-use Rattle.entries.specs.Seats.{keysFrom, chainKeys, opened, openOf, advanced, IsDirectoryChain, Known}
+use Rattle.entries.specs.Seats.{keysFrom, chainKeys, opened, openOf, advanced, HasEntries}
 use Rattle.entries.proofs.Places.{entriesAt, entry-read, first-token, first-key}
-use Rattle.entries.proofs.Seated.{Seated, small-view, open-good, seated-past, seated-first, next-page, seated-next}
+use Rattle.entries.proofs.Seated.{Seated, open-good, seated-past, seated-first, next-page, seated-next}
 use Rattle.entries.proofs.KeyLaws.{length-keys}
 use Rattle.walk.specs.declared.Walk.{Walk}
 use Rattle.walk.specs.declared.Walk.the-variants as w
 use Rattle.walk.specs.Walks.{Good, Answers, plusPart, ownPart, Met, EntryWalked}
 use Rattle.walk.proofs.Steps.{represents-part, good-part, Rest, rest-end, rest-page, rest-refused, rest-entry}
+use Rattle.chain.specs.KnownChain.{ChainStands, KnownChain}
+use Rattle.chain.proofs.Following.{small-view}
 
 -- ---- what is left
 module _ (g : Geometry) (v : View) (levels name start : ℕ) where
@@ -64,7 +66,7 @@ module _ (g : Geometry) (v : View) (levels name start : ℕ) where
         → LeftOver claimed₀ start [] (linkTokens g (controlSize g) ls₀) c₀ t₀ r u
 
 -- ---- over the image
-module _ (g : Geometry) (image : List ℕ) (fit : Fit g image) (levels name start : ℕ) (c₀ : Totals) (t₀ claimed₀ : List ℕ) (ls₀ : List Link) (chain : IsDirectoryChain g (viewOf g image) start ls₀) where
+module _ (g : Geometry) (image : List ℕ) (fit : Fit g image) (levels name start : ℕ) (c₀ : Totals) (t₀ claimed₀ : List ℕ) (ls₀ : List Link) (chain : ChainStands g (viewOf g image) start ls₀) where
   abbrev v : View
   v = viewOf g image
 
@@ -81,7 +83,7 @@ module _ (g : Geometry) (image : List ℕ) (fit : Fit g image) (levels name star
     pub few-met : m ≤ length (chainKeys g (controlSize g) ls₀)
     few-met = omega (arith, met, ap length keys-are, length-append before (keysFrom g (s .count - s .at) (entriesAt g (s .skip) (s .at) bytes) ++ chainKeys g 0 more))
 
-    pub left-known : Known g v start m
+    pub left-known : HasEntries g v start m
     left-known = record { links = ls₀; chain = chain; enough = few-met }
 
     met-names : (k : ℕ) → Met g v start m k seen
@@ -196,7 +198,7 @@ module _ (g : Geometry) (image : List ℕ) (fit : Fit g image) (levels name star
   pub left-first : (skip : ℕ) (c : Cursor) (s : Seat) → c ≡ firstStep start start → s ≡ openOf g v skip c → skip ≡ controlSize g → skip ≤ 8 → Represents t₀ claimed₀ → Good g c₀ t₀ → Now t₀ c₀ s 0
   left-first skip c s q e i h r k = go ls₀ refl chain
     where
-      go : (ls : List Link) → ls₀ ≡ ls → IsDirectoryChain g v start ls → Now t₀ c₀ s 0
+      go : (ls : List Link) → ls₀ ≡ ls → ChainStands g v start ls → Now t₀ c₀ s 0
       go [] z d = absurd (omega (arith, d .some))
       go (link p b ∷ ls) z d =
           let n = seated-first g image fit start skip p b ls (omega arith) d in
@@ -235,7 +237,7 @@ keys-few g image f skip (link p b ∷ ls) s =
     omega (arith, length-append (keysFrom g n (drop skip b)) (chainKeys g 0 ls), length-keys g n (drop skip b), length-drop skip b, small-view g image f p b (first ls) (s .0), keys-few g image f 0 ls (s .1))
 
 -- for the code's own needs: one list of claimed pages and one chain
-pub witness : (g : Geometry) (v : View) (levels name start : ℕ) (c₀ : Totals) (t₀ t : List ℕ) (c : Totals) (s : Seat) (m : ℕ) (k : Known g v start 0)
-    → ((claimed : List ℕ) (ls : List Link) → Represents t₀ claimed → IsDirectoryChain g v start ls → Left g v levels name start c₀ t₀ claimed ls t c s m)
+pub witness : (g : Geometry) (v : View) (levels name start : ℕ) (c₀ : Totals) (t₀ t : List ℕ) (c : Totals) (s : Seat) (m : ℕ) (k : KnownChain g v start)
+    → ((claimed : List ℕ) (ls : List Link) → Represents t₀ claimed → ChainStands g v start ls → Left g v levels name start c₀ t₀ claimed ls t c s m)
     → Left g v levels name start c₀ t₀ (taken t₀) (k .links) t c s m
 witness g v levels name start c₀ t₀ t c s m k f = f (taken t₀) (k .links) (represents-taken t₀) (k .chain)

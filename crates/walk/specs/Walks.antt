@@ -20,9 +20,10 @@ use Rattle.rules.specs.Owners.{fileCount, directoryCount, own, ownEntries}
 use Rattle.rules.specs.OwnerLaws.{Represents, inUse}
 use Rattle.rules.specs.Check.{Part, chain, directory, judgeLabel, judgeFile, judgeEntry, judgeDirectory, judgeSub}
 use Rattle.directory.specs.Faults.{faultAt}
-use Rattle.entries.specs.Seats.{chainKeys, IsDirectoryChain}
+use Rattle.entries.specs.Seats.{chainKeys}
 use Rattle.walk.specs.declared.Walk.{Walk}
 use Rattle.walk.specs.declared.Walk.the-variants as w
+use Rattle.chain.specs.KnownChain.{ChainStands}
 
 -- the totals inside a directory whose chain is claimed: each entry and the directory itself have a page, and so has a bitmap file, which many pages need
 pub record Good (g : Geometry) (c : Totals) (table : List ℕ) : Type 0 where
@@ -77,7 +78,7 @@ judgeBelow (suc levels) p e = do
 
 -- the names met before an entry are those of the directory's first m entries
 abbrev pub Met : Geometry → View → ℕ → ℕ → ℕ → List ℕ → Type 0
-Met g v start m k seen = (ls : List Link) × IsDirectoryChain g v start ls × (m ≤ length (chainKeys g (controlSize g) ls)) × (mem k seen ≡ mem k (take m (chainKeys g (controlSize g) ls)))
+Met g v start m k seen = (ls : List Link) × ChainStands g v start ls × (m ≤ length (chainKeys g (controlSize g) ls)) × (mem k seen ≡ mem k (take m (chainKeys g (controlSize g) ls)))
 
 -- the answers of the parts: for every list of claimed pages that the table represents and every list of the names met
 abbrev pub EntryFault : Geometry → View → ℕ → ℕ → Entry → ℕ → Type 0

@@ -13,7 +13,7 @@ ghost use lib.ListN.{length};
 ghost use Rattle.geometry.specs.Geometry.{Fit};
 ghost use Rattle.packet.specs.Packet.{viewOf};
 ghost use Rattle.directory.specs.Faults.{testOf};
-ghost use Rattle.entries.specs.Seats.{Known};
+ghost use Rattle.entries.specs.Seats.{HasEntries};
 ghost use Rattle.walk.specs.Walks.{Good, Ready, EntryFault, BelowFault, FileWalked, EntryWalked, DirectoryWalked};
 
 // What a walk answers: the totals so far, or a number of document 01 and the page told.
@@ -25,7 +25,7 @@ pub enum Walk {
 // The fault of an entry's name or extension (9, 10), or that one of the m entries before it has them (11); 0 if there is none.
 fn entry_fault(image: &[u8], g: Geometry, start: usize, m: usize, e: Entry) -> u8
     requires { ⌜ Fit g (now image) ⌝ }
-    requires { ⌜ Known g (viewOf g (now image)) start m ⌝ }
+    requires { ⌜ HasEntries g (viewOf g (now image)) start m ⌝ }
     ensures { λ r. ⌜ EntryFault g (viewOf g (now (image .entry))) start m e r ⌝ }
 {
     let fault = directory::entries::label_fault(e);
@@ -100,7 +100,7 @@ fn walk_entry(
     owners: &mut [u16],
 ) -> Walk
     requires { ⌜ Fit g (now image) ⌝ }
-    requires { ⌜ (length (now owners) ≡ g .pages) × Known g (viewOf g (now image)) start m × Good g totals (now owners) ⌝ }
+    requires { ⌜ (length (now owners) ≡ g .pages) × HasEntries g (viewOf g (now image)) start m × Good g totals (now owners) ⌝ }
     ensures { λ r. ⌜ EntryWalked g (viewOf g (now (image .entry))) levels name start page m e totals (now (owners .entry)) r (now (owners .exit)) ⌝ }
 {
     let fault = entry_fault(image, g, start, m, e);

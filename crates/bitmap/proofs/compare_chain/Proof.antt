@@ -7,15 +7,15 @@ use lib.ListN.{length}
 use Rattle.packet.specs.Packet.{viewOf}
 use Rattle.rules.specs.Chain.{Link, content}
 use Rattle.rules.specs.OwnerLaws.{Represents, taken, represents-taken}
-use Rattle.entries.specs.Seats.{IsDirectoryChain}
-use Rattle.entries.proofs.SeatLaws.{never-refused}
-use Rattle.bitmap.proofs.Comparing.{Comparing, started, now-here, reaches, in-bounds, counts-on, answer-differ, answer-same, compare-on}
+use Rattle.bitmap.proofs.Comparing.{Comparing, started, in-bounds, answer-differ, answer-same, compare-on}
 use borrow.Author.Needs.{needs}
 use Rattle.bitmap.proofs.compare_chain.Statement.{statement}
 use Rattle.bitmap.proofs.compare_chain.Tie as tie
+use Rattle.chain.specs.KnownChain.{ChainStands}
+use Rattle.chain.proofs.Following.{never-refused, page-known, counts-up, data-inside}
 
 abbrev Inv-loop : tie.InvT-loop
-Inv-loop image g start owners c₀ c = (ls : List Link) → IsDirectoryChain g (viewOf g image) start ls → (used : List ℕ) → Represents owners used → Comparing g (viewOf g image) (content ls) used (length ls) c
+Inv-loop image g start owners c₀ c = (ls : List Link) → ChainStands g (viewOf g image) start ls → (used : List ℕ) → Represents owners used → Comparing g (viewOf g image) (content ls) used (length ls) c
 
 abbrev μ-loop : tie.MeasureT-loop
 μ-loop image g start owners c₀ c = g .pages - c .count
@@ -28,14 +28,14 @@ step-requires c κs =
     let s = c .before .before .before .before .pre in
     let t = c .before .before .before .before .args .owners .now in
     let l = c .loop .inv (s .1 .links) (s .1 .chain) (taken t) (represents-taken t) in
-    (s .0, (l .counted, λ z. now-here _ _ (s .0) _ _ _ _ l .1))
+    (s .0, (l .read .following .counted, λ z. page-known _ _ (s .0) _ _ _ (l .read .following) .1))
 
 returns : tie.Need-returns Inv-loop μ-loop
 returns c =
     let s = c .before .before .before .before .before .before .before .pre in
     let t = c .before .before .before .before .before .before .before .args .owners .now in
     let l = c .before .before .before .loop .inv (s .1 .links) (s .1 .chain) (taken t) (represents-taken t) in
-    let k = now-here _ _ (s .0) _ _ _ _ l in
+    let k = page-known _ _ (s .0) _ _ _ (l .read .following) in
     absurd (never-refused _ _ _ (k .0) (k .1) _ _ (sym (c .enum-told .given .1) ∙ c .before .before .step .ensures))
 
 page-of-requires : tie.Need-page-of-requires Inv-loop μ-loop
@@ -43,14 +43,14 @@ page-of-requires c κs =
     let s = c .before .before .before .before .before .before .before .before .pre in
     let t = c .before .before .before .before .before .before .before .before .args .owners .now in
     let l = c .before .before .before .before .loop .inv (s .1 .links) (s .1 .chain) (taken t) (represents-taken t) in
-    (s .0, now-here _ _ (s .0) _ _ _ _ l .0)
+    (s .0, page-known _ _ (s .0) _ _ _ (l .read .following) .0)
 
 data-of-requires : tie.Need-data-of-requires Inv-loop μ-loop
 data-of-requires c κs =
     let s = c .before .before .before .before .before .before .before .before .before .pre in
     let t = c .before .before .before .before .before .before .before .before .before .args .owners .now in
     let l = c .before .before .before .before .before .loop .inv (s .1 .links) (s .1 .chain) (taken t) (represents-taken t) in
-    reaches _ _ (s .0) _ _ _ _ _ (now-here _ _ (s .0) _ _ _ _ l .0) (c .before .before .size .given .1) (c .before .before .before .before .step .ensures) (c .page-of .ensures)
+    data-inside _ _ (s .0) _ _ _ (l .read .following) _ _ _ (c .before .before .size .given .1) (c .before .before .before .before .step .ensures) _ (c .page-of .ensures)
 
 compare-bytes-requires : tie.Need-compare-bytes-requires Inv-loop μ-loop
 compare-bytes-requires c κs =
@@ -74,8 +74,8 @@ loop-less c =
     let s = c .before .before .before .before .before .before .before .before .before .before .before .before .before .before .before .pre in
     let t = c .before .before .before .before .before .before .before .before .before .before .before .before .before .before .before .args .owners .now in
     let l = c .before .before .before .before .before .before .before .before .before .before .before .loop .inv (s .1 .links) (s .1 .chain) (taken t) (represents-taken t) in
-    let k = counts-on _ _ (s .0) _ _ _ _ l _ _ _ (c .before .before .before .before .before .before .before .before .size .given .1) (c .before .before .before .before .before .before .before .before .before .before .step .ensures) _ (c .before .before .before .before .before .before .page-of .ensures) _ (c .before .before .before .before .before .data-of .ensures) in
-    omega (arith, l .steps, l .chain .some, s .1 .chain .few)
+    let k = counts-up _ _ (s .0) _ _ _ (l .read .following) _ _ _ (c .before .before .before .before .before .before .before .before .size .given .1) (c .before .before .before .before .before .before .before .before .before .before .step .ensures) in
+    omega (arith, l .read .following .steps, l .read .following .chain .some, s .1 .chain .few)
 
 loop-again : tie.Need-loop-again Inv-loop μ-loop
 loop-again c = λ ls d used r.

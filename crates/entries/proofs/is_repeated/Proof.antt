@@ -8,16 +8,17 @@ use Rattle.geometry.specs.Geometry.{controlSize}
 use Rattle.packet.specs.Packet.{viewOf}
 use Rattle.rules.specs.PageSets.{mem}
 use Rattle.rules.specs.Chain.{Link}
-use Rattle.entries.specs.Seats.{chainKeys, IsDirectoryChain, Known}
+use Rattle.entries.specs.Seats.{chainKeys, HasEntries}
 use Rattle.entries.proofs.KeyLaws.{entry-least}
 use Rattle.entries.proofs.Seated.{begins, counts-on}
 use Rattle.entries.proofs.Looking.{Looking, started, searched, found, not-found, next-good, look-on}
 use borrow.Author.Needs.{needs}
 use Rattle.entries.proofs.is_repeated.Statement.{statement}
 use Rattle.entries.proofs.is_repeated.Tie as tie
+use Rattle.chain.specs.KnownChain.{ChainStands}
 
 abbrev Inv-loop : tie.InvT-loop
-Inv-loop image g start m key seat₀ left₀ seat left = (ls : List Link) → IsDirectoryChain g (viewOf g image) start ls → m ≤ length (chainKeys g (controlSize g) ls) → Looking g (viewOf g image) key (mem key (take m (chainKeys g (controlSize g) ls))) (length ls) seat left
+Inv-loop image g start m key seat₀ left₀ seat left = (ls : List Link) → ChainStands g (viewOf g image) start ls → m ≤ length (chainKeys g (controlSize g) ls) → Looking g (viewOf g image) key (mem key (take m (chainKeys g (controlSize g) ls))) (length ls) seat left
 
 abbrev μ-loop : tie.MeasureT-loop
 μ-loop image g start m key seat₀ left₀ seat left = left + (g .pages - seat .next .count)

@@ -6,7 +6,6 @@ use lib.ListN.{length}
 use Rattle.packet.specs.Packet.{viewOf}
 use Rattle.rules.specs.Chain.{Link}
 use Rattle.rules.specs.OwnerLaws.{Represents, taken, represents-taken}
-use Rattle.entries.specs.Seats.{IsDirectoryChain, Known}
 use Rattle.geometry.specs.Geometry.{controlSize}
 use Rattle.entries.proofs.Places.{seat-few, past-less, page-less}
 use Rattle.entries.proofs.Seated.{begins, counts-on}
@@ -34,6 +33,7 @@ use Rattle.walk.proofs.entry_fault.Reads as entry-fault-reads
 use Rattle.walk.proofs.walk_file.Reads as walk-file-reads
 use Rattle.walk.proofs.+walk_directory+walk_entry.{statement}
 use Rattle.walk.proofs.+walk_directory+walk_entry.Tie.{close}
+use Rattle.chain.specs.KnownChain.{ChainStands, KnownChain}
 
 abbrev μ-walk-directory : Measures 2 walk-directory-kinds.ps ℕ
 μ-walk-directory κs a = 2 * a .1 .1 .0 + 1
@@ -67,7 +67,7 @@ walk-entry-below t =
 
 abbrev walk-directory-Inv-loop : walk-directory-lts.InvT-loop
 walk-directory-Inv-loop image g levels name from start owner owners₀ pages so-far₀ seat₀ m₀ owners so-far seat m =
-    (length owners ≡ g .pages) × Known g (viewOf g image) start 0 × ((claimed : List ℕ) (ls : List Link) → Represents owners₀ claimed → IsDirectoryChain g (viewOf g image) start ls → Left g (viewOf g image) levels name start so-far₀ owners₀ claimed ls owners so-far seat m)
+    (length owners ≡ g .pages) × KnownChain g (viewOf g image) start × ((claimed : List ℕ) (ls : List Link) → Represents owners₀ claimed → ChainStands g (viewOf g image) start ls → Left g (viewOf g image) levels name start so-far₀ owners₀ claimed ls owners so-far seat m)
 
 abbrev walk-directory-μ-loop : walk-directory-lts.MeasureT-loop
 walk-directory-μ-loop image g levels name from start owner owners₀ pages so-far₀ seat₀ m₀ owners so-far seat m =

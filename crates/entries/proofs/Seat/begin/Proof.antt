@@ -1,8 +1,9 @@
 use mathlib.Core.Path.{refl, sym, _∙_}
-use Rattle.entries.proofs.SeatLaws.{never-refused, open-is, none-left}
+use Rattle.entries.proofs.SeatLaws.{open-is, none-left}
 use borrow.Author.Needs.{needs}
 use Rattle.entries.proofs.Seat.begin.Statement.{statement}
 use Rattle.entries.proofs.Seat.begin.Tie as tie
+use Rattle.chain.proofs.Following.{never-refused}
 
 returns : tie.Need-returns
 returns c =

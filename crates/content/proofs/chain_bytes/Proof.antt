@@ -6,33 +6,33 @@ use native.Mathlib.Omega.{arith}
 use lib.ListN.{length}
 use Rattle.packet.specs.Packet.{viewOf}
 use Rattle.rules.specs.Chain.{Link, content}
-use Rattle.entries.specs.Seats.{IsDirectoryChain}
-use Rattle.entries.proofs.SeatLaws.{never-refused}
-use Rattle.listing.proofs.Counting.{Counting, started, now-here, counts-up, counted-all, count-on}
+use Rattle.content.proofs.Reading.{counted-all, count-on}
 use borrow.Author.Needs.{needs}
-use Rattle.listing.proofs.chain_bytes.Statement.{statement}
-use Rattle.listing.proofs.chain_bytes.Tie as tie
+use Rattle.content.proofs.chain_bytes.Statement.{statement}
+use Rattle.content.proofs.chain_bytes.Tie as tie
+use Rattle.chain.specs.KnownChain.{ChainStands}
+use Rattle.chain.proofs.Following.{never-refused, page-known, counts-up, ReadTo, read-first}
 
 abbrev Inv-loop : tie.InvT-loop
-Inv-loop image g start c₀ c = (ls : List Link) → IsDirectoryChain g (viewOf g image) start ls → Counting g (viewOf g image) (length ls) (length (content ls)) c
+Inv-loop image g start c₀ c = (ls : List Link) → ChainStands g (viewOf g image) start ls → ReadTo g (viewOf g image) (length ls) (content ls) c
 
 abbrev μ-loop : tie.MeasureT-loop
 μ-loop image g start c₀ c = g .pages - c .count
 
 loop-holds : tie.Need-loop-holds Inv-loop μ-loop
-loop-holds c = λ ls d. started _ _ (c .before .before .pre .0) _ _ ls (c .new .ensures) d
+loop-holds c = λ ls d. read-first _ _ _ _ ls (c .new .ensures) d
 
 step-requires : tie.Need-step-requires Inv-loop μ-loop
 step-requires c κs =
     let s = c .before .before .before .pre in
     let l = c .loop .inv (s .1 .links) (s .1 .chain) in
-    (s .0, (l .counted, λ z. now-here _ _ (s .0) _ _ _ l .1))
+    (s .0, (l .following .counted, λ z. page-known _ _ (s .0) _ _ _ (l .following) .1))
 
 returns : tie.Need-returns Inv-loop μ-loop
 returns c =
     let s = c .before .before .before .before .before .before .pre in
     let l = c .before .before .before .loop .inv (s .1 .links) (s .1 .chain) in
-    let k = now-here _ _ (s .0) _ _ _ l in
+    let k = page-known _ _ (s .0) _ _ _ (l .following) in
     absurd (never-refused _ _ _ (k .0) (k .1) _ _ (sym (c .enum-told .given .1) ∙ c .before .before .step .ensures))
 
 returns-2 : tie.Need-returns-2 Inv-loop μ-loop
@@ -42,8 +42,8 @@ loop-less : tie.Need-loop-less Inv-loop μ-loop
 loop-less c =
     let s = c .before .before .before .before .before .before .before .before .before .pre in
     let l = c .before .before .before .before .before .before .loop .inv (s .1 .links) (s .1 .chain) in
-    let k = counts-up _ _ (s .0) _ _ _ l _ _ _ (c .before .before .before .next .given .1) (c .before .before .before .before .before .step .ensures) in
-    omega (arith, l .steps, l .chain .some, s .1 .chain .few)
+    let k = counts-up _ _ (s .0) _ _ _ (l .following) _ _ _ (c .before .before .before .next .given .1) (c .before .before .before .before .before .step .ensures) in
+    omega (arith, l .following .steps, l .following .chain .some, s .1 .chain .few)
 
 loop-again : tie.Need-loop-again Inv-loop μ-loop
 loop-again c = λ ls d. count-on _ _ (c .before .before .before .before .before .before .before .before .before .pre .0) _ _ _ (c .before .before .before .before .before .before .loop .inv ls d) _ _ _ (c .before .before .before .next .given .1) (c .before .before .before .before .before .step .ensures) (c .if1 .left) (d .few)

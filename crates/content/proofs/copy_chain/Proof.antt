@@ -1,0 +1,81 @@
+-- The loop over a chain: the output has the bytes of the pages passed at its front.
+use mathlib.Core.Path.{_≡_, refl, sym, _∙_}
+use mathlib.Core.List.{List}
+use Prim.Native.Nat.{_-_}
+use native.Mathlib.Omega.{arith}
+use lib.ListN.{length}
+use Rattle.packet.specs.Packet.{viewOf}
+use Rattle.rules.specs.Chain.{Link, content}
+use Rattle.chain.specs.KnownChain.{ChainStands}
+use Rattle.chain.proofs.Following.{never-refused, page-known, counts-up, data-inside, read-first}
+use Rattle.content.proofs.Reading.{Copying, copy-first, has-place, copied-all, copy-on}
+use borrow.Author.Needs.{needs}
+use Rattle.content.proofs.copy_chain.Statement.{statement}
+use Rattle.content.proofs.copy_chain.Tie as tie
+
+abbrev Inv-loop : tie.InvT-loop
+Inv-loop image g start out₀ c₀ out c = (length out ≡ length out₀) × ((ls : List Link) → ChainStands g (viewOf g image) start ls → Copying g (viewOf g image) (length ls) (content ls) out₀ out c)
+
+abbrev μ-loop : tie.MeasureT-loop
+μ-loop image g start out₀ c₀ out c = g .pages - c .count
+
+loop-holds : tie.Need-loop-holds Inv-loop μ-loop
+loop-holds c = (refl, λ ls d. copy-first _ _ _ _ ls _ (c .new .ensures) d)
+
+step-requires : tie.Need-step-requires Inv-loop μ-loop
+step-requires c κs =
+    let s = c .before .before .before .before .pre in
+    let l = c .loop .inv .1 (s .1 .0 .links) (s .1 .0 .chain) .read in
+    (s .0, (l .following .counted, λ z. page-known _ _ (s .0) _ _ _ (l .following) .1))
+
+returns : tie.Need-returns Inv-loop μ-loop
+returns c =
+    let s = c .before .before .before .before .before .before .before .pre in
+    let l = c .before .before .before .loop .inv .1 (s .1 .0 .links) (s .1 .0 .chain) .read in
+    let k = page-known _ _ (s .0) _ _ _ (l .following) in
+    absurd (never-refused _ _ _ (k .0) (k .1) _ _ (sym (c .enum-told .given .1) ∙ c .before .before .step .ensures))
+
+page-of-requires : tie.Need-page-of-requires Inv-loop μ-loop
+page-of-requires c κs =
+    let s = c .before .before .before .before .before .before .before .before .pre in
+    let l = c .before .before .before .before .loop .inv .1 (s .1 .0 .links) (s .1 .0 .chain) .read in
+    (s .0, page-known _ _ (s .0) _ _ _ (l .following) .0)
+
+data-of-requires : tie.Need-data-of-requires Inv-loop μ-loop
+data-of-requires c κs =
+    let s = c .before .before .before .before .before .before .before .before .before .pre in
+    let l = c .before .before .before .before .before .loop .inv .1 (s .1 .0 .links) (s .1 .0 .chain) .read in
+    data-inside _ _ (s .0) _ _ _ (l .following) _ _ _ (c .before .before .size .given .1) (c .before .before .before .before .step .ensures) _ (c .page-of .ensures)
+
+put-bytes-requires : tie.Need-put-bytes-requires Inv-loop μ-loop
+put-bytes-requires c κs =
+    let s = c .before .before .before .before .before .before .before .before .before .before .before .pre in
+    let l = c .before .before .before .before .before .before .before .loop .inv .1 (s .1 .0 .links) (s .1 .0 .chain) in
+    has-place _ _ (s .0) _ _ _ (l .read) _ _ _ (c .before .before .before .before .size .given .1) (c .before .before .before .before .before .before .step .ensures) _ (c .before .before .page-of .ensures) _ (c .before .data-of .ensures) _ _ (l .laid) (s .1 .1 (s .1 .0 .links) (s .1 .0 .chain))
+
+returns-2 : tie.Need-returns-2 Inv-loop μ-loop
+returns-2 c = λ ls d.
+    let s = c .before .before .before .before .before .before .before .before .before .before .before .before .before .before .before .before .pre in
+    let l = c .before .before .before .before .before .before .before .before .before .before .before .before .loop .inv .1 ls d in
+    copied-all _ _ (s .0) _ _ _ (l .read) _ _ _ (c .before .before .before .before .before .before .before .before .before .size .given .1) (c .before .before .before .before .before .before .before .before .before .before .before .step .ensures) _ (c .before .before .before .before .before .before .before .page-of .ensures) _ (c .before .before .before .before .before .before .data-of .ensures) _ _ _ (l .laid) (c .before .before .before .before .put-bytes .ensures) (c .if1 .taken)
+
+loop-less : tie.Need-loop-less Inv-loop μ-loop
+loop-less c =
+    let s = c .before .before .before .before .before .before .before .before .before .before .before .before .before .before .before .before .pre in
+    let l = c .before .before .before .before .before .before .before .before .before .before .before .before .loop .inv .1 (s .1 .0 .links) (s .1 .0 .chain) .read in
+    let k = counts-up _ _ (s .0) _ _ _ (l .following) _ _ _ (c .before .before .before .before .before .before .before .before .before .size .given .1) (c .before .before .before .before .before .before .before .before .before .before .before .step .ensures) in
+    omega (arith, l .following .steps, l .following .chain .some, s .1 .0 .chain .few)
+
+loop-again : tie.Need-loop-again Inv-loop μ-loop
+loop-again c = (
+  search needs,
+  λ ls d.
+      let s = c .before .before .before .before .before .before .before .before .before .before .before .before .before .before .before .before .pre in
+      let l = c .before .before .before .before .before .before .before .before .before .before .before .before .loop .inv .1 ls d in
+      copy-on _ _ (s .0) _ _ _ (l .read) _ _ _ (c .before .before .before .before .before .before .before .before .before .size .given .1) (c .before .before .before .before .before .before .before .before .before .before .before .step .ensures) _ (c .before .before .before .before .before .before .before .page-of .ensures) _ (c .before .before .before .before .before .before .data-of .ensures) _ _ _ (l .laid) (c .before .before .before .before .put-bytes .ensures) (c .if1 .left) (d .few),
+)
+
+pub copy-chain-spec : {M : Type 1} → statement M
+copy-chain-spec =
+    tie.close
+    (tie.spec Inv-loop μ-loop (λ c κs. search needs) loop-holds step-requires (λ c. search needs) (λ c. search needs) returns (λ c. search needs) page-of-requires data-of-requires put-bytes-requires (λ c. search needs) returns-2 loop-less loop-again)
