@@ -3,3 +3,5 @@ pub mod KeyLaws
 pub mod Seated
 pub mod Looking
 pub mod Places
+pub mod TokensAt
+pub mod Counting

@@ -60,14 +60,13 @@ module _ (g : Geometry) (image : List ℕ) (fit : Fit g image) where
   abbrev v : View
   v = viewOf g image
 
-  pub started : (k m start skip : ℕ) (c : Cursor) (s : Seat) (ls : List Link) → c ≡ firstStep start start → s ≡ openOf g v skip c → skip ≡ controlSize g → skip ≤ 8 → ChainStands g v start ls → m ≤ length (chainKeys g (controlSize g) ls)
+  pub started : (k m start : ℕ) (s : Seat) (ls : List Link) → s ≡ openOf g v (controlSize g) (firstStep start start) → ChainStands g v start ls → m ≤ length (chainKeys g (controlSize g) ls)
       → Looking g v k (mem k (take m (chainKeys g (controlSize g) ls))) (length ls) s m
-  started k m start skip c s [] q e i h d n = absurd (omega (arith, d .some))
-  started k m start skip c s (link p b ∷ ls) q e i h d n =
-      let f = seated-first g image fit start skip p b ls (omega arith) d in
-      let o = e ∙ ap (openOf g v skip) q ∙ open-good g v skip (firstStep start start) b (first ls) (f .0) in
-      subst (λ (x : Seat). Looking g v k (mem k (take m (chainKeys g (controlSize g) (link p b ∷ ls)))) (suc (length ls)) x m) (sym o)
-      (rw (← i) (record { bytes = b; more = ls; seated = f .1; enough = rw i n; same = rw i refl }))
+  started k m start s [] e d n = absurd (omega (arith, d .some))
+  started k m start s (link p b ∷ ls) e d n =
+      let f = seated-first g image fit start p b ls d in
+      subst (λ (x : Seat). Looking g v k (mem k (take m (chainKeys g (controlSize g) (link p b ∷ ls)))) (suc (length ls)) x m) (sym (e ∙ open-good g v (controlSize g) (firstStep start start) b (first ls) (f .0)))
+      (record { bytes = b; more = ls; seated = f .1; enough = n; same = refl })
 
   -- what is searched lies in the page
   pub searched : (s : Seat) (left j : ℕ) (page : List ℕ) → Fits g s → page ≡ pageOf g (s .page) image → j ≡ min left (s .count) → (1 + s .skip + entrySize g * j ≤ length page) × (length page ≤ 256)

@@ -14,10 +14,10 @@ use Rattle.geometry.specs.Page.{pageOf}
 use Rattle.packet.specs.Packet.{viewOf}
 use Rattle.rules.specs.declared.Entry.{Entry}
 use Rattle.rules.specs.Chain.{Link, first}
-use Rattle.rules.specs.Names.{key, entryOf}
+use Rattle.rules.specs.Names.{entryOf}
 use Rattle.rules.specs.Tree.{Token, entry, entriesIn}
 use Rattle.entries.specs.declared.Seat.{Seat}
-use Rattle.entries.specs.Seats.{keysFrom, Fits, advanced}
+use Rattle.entries.specs.Seats.{Fits, advanced}
 use Rattle.entries.proofs.KeyLaws.{entry-least}
 use Rattle.entries.proofs.Seated.{Seated}
 use Rattle.entries.proofs.Looking.{data-from}
@@ -63,13 +63,6 @@ module _ (g : Geometry) (skip i n : ℕ) (b : List ℕ) (h : i < n) where
   first-token ts =
       let s : n - i ≡ suc (n - (i + 1)) = omega arith in
       ap (λ (x : ℕ). entriesIn g x (entriesAt g skip i b) ++ ts) s ∙ ap (λ (x : List ℕ). entry (entryOf (g .width) (entriesAt g skip i b)) ∷ (entriesIn g (n - (i + 1)) x ++ ts)) after-one
-
-  pub first-key : (ks : List ℕ) → keysFrom g (n - i) (entriesAt g skip i b) ++ ks
-      ≡ key (number (take 4 (entriesAt g skip i b))) (getD (entriesAt g skip i b) 4 0) ∷ (keysFrom g (n - (i + 1)) (entriesAt g skip (i + 1) b) ++ ks)
-  first-key ks =
-      let s : n - i ≡ suc (n - (i + 1)) = omega arith in
-      ap (λ (x : ℕ). keysFrom g x (entriesAt g skip i b) ++ ks) s
-      ∙ ap (λ (x : List ℕ). key (number (take 4 (entriesAt g skip i b))) (getD (entriesAt g skip i b) 4 0) ∷ (keysFrom g (n - (i + 1)) x ++ ks)) after-one
 
 -- ---- counts that fit
 pub seat-few : (g : Geometry) (s : Seat) → Valid g → Fits g s → s .count < 256

@@ -15,9 +15,9 @@ use Rattle.chain.specs.declared.Cursor.{Cursor}
 use Rattle.chain.specs.Claims.{IsGood, Counted}
 use Rattle.chain.specs.KnownChain.{ChainStands}
 use Rattle.chain.specs.Steps.{firstStep, after}
-use Rattle.chain.proofs.Following.{small-view, follow, page-known}
+use Rattle.chain.proofs.Following.{small-view}
 use Rattle.entries.specs.declared.Seat.{Seat}
-use Rattle.entries.specs.Seats.{Fits, opened, openOf, advanced}
+use Rattle.entries.specs.Seats.{Fits, opened, openOf, atEntry, advanced}
 use Rattle.entries.proofs.SeatLaws.{seat-fits}
 
 -- a place in the page with these bytes, these pages to come, in a chain of so many
@@ -36,9 +36,9 @@ pub open-good : (g : Geometry) (v : View) (skip : ℕ) (c : Cursor) (b : List �
 unfolding openOf
 open-good g v skip c b n e = ap (opened g skip c) e
 
--- past an entry
-pub seated-past : (g : Geometry) (v : View) (total : ℕ) (s : Seat) (b : List ℕ) (ls : List Link) → Seated g v total s b ls → Seated g v total (advanced s) b ls
-seated-past g v total s b ls h = record {
+-- at another entry of the page
+pub seated-at : (g : Geometry) (v : View) (total : ℕ) (s : Seat) (b : List ℕ) (ls : List Link) (i : ℕ) → Seated g v total s b ls → Seated g v total (atEntry s i) b ls
+seated-at g v total s b ls i h = record {
   here = h .here;
   count-is = h .count-is;
   next-is = h .next-is;
@@ -49,6 +49,9 @@ seated-past g v total s b ls h = record {
   counted = h .counted;
   fits = record { inside = h .fits .inside; room = h .fits .room };
 }
+
+pub same-next : (s s′ : Seat) → s′ ≡ advanced s → s′ .next .count ≡ s .next .count
+same-next s s′ e = ap (λ (x : Seat). x .next .count) e
 
 module _ (g : Geometry) (image : List ℕ) (fit : Fit g image) where
   abbrev v : View
@@ -71,18 +74,15 @@ module _ (g : Geometry) (image : List ℕ) (fit : Fit g image) where
   }
 
   -- of a directory's first page
-  pub seated-first : (start skip p : ℕ) (b : List ℕ) (ls : List Link) → skip ≤ 31 → ChainStands g v start (link p b ∷ ls)
-      → (v start ≡ good b (first ls)) × Seated g v (suc (length ls)) (opened g skip (firstStep start start) (good b (first ls))) b ls
-  seated-first start skip p b ls i d =
+  pub seated-first : (start p : ℕ) (b : List ℕ) (ls : List Link) → ChainStands g v start (link p b ∷ ls)
+      → (v start ≡ good b (first ls)) × Seated g v (suc (length ls)) (opened g (controlSize g) (firstStep start start) (good b (first ls))) b ls
+  unfolding controlSize
+  seated-first start p b ls d =
       let e : v start ≡ good b (first ls) = ap v (sym (d .begins)) ∙ d .stand .0 in (
         e,
-        seat-at (suc (length ls)) skip (firstStep start start) b ls e (d .within start (omega (arith, ap (λ (x : ℕ). count x (p ∷ pages ls)) (sym (d .begins)), hit-same p))) i
+        seat-at (suc (length ls)) (controlSize g) (firstStep start start) b ls e (d .within start (omega (arith, ap (λ (x : ℕ). count x (p ∷ pages ls)) (sym (d .begins)), hit-same p))) (omega (arith, fit .valid .two))
             (record { few = omega arith; small = omega arith }) (omega arith) (d .stand .1) (λ x e. d .within x (omega arith)) (d .onward) (omega arith),
       )
-
-  -- the search or the walk begins
-  pub begins : (start skip : ℕ) (c : Cursor) (ls : List Link) → c ≡ firstStep start start → skip ≤ 8 → ChainStands g v start ls → Counted c × (c .page < g .pages) × IsGood (v (c .page)) × (skip ≤ 31)
-  begins start skip c ls q h d = let k = page-known g image fit (length ls) c ls (follow g v start c ls q d) in (follow g v start c ls q d .counted, k .0, k .1, omega arith)
 
   module _ (total : ℕ) (s : Seat) (bytes : List ℕ) where
     -- there is a next page

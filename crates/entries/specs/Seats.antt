@@ -40,14 +40,22 @@ opened g skip c (good b n) = record { page = c .page; skip = skip; count = lengt
 unfoldable pub openOf : Geometry → View → ℕ → Cursor → Seat
 openOf g v skip c = opened g skip c (v (c .page))
 
+-- at another entry of the page; past one entry
+abbrev pub atEntry : Seat → ℕ → Seat
+atEntry s i = record { page = s .page; skip = s .skip; count = s .count; at = i; next = s .next }
+
 abbrev pub advanced : Seat → Seat
-advanced s = record { page = s .page; skip = s .skip; count = s .count; at = s .at + 1; next = s .next }
+advanced s = atEntry s (s .at + 1)
 
 -- there is a directory's chain, and it has at least so many entries
 pub record HasEntries (g : Geometry) (v : View) (start m : ℕ) : Type 0 where
   pub links : List Link
   pub chain : ChainStands g v start links
   pub enough : m ≤ length (chainKeys g (controlSize g) links)
+
+-- how many entries the directory from `start` on has
+abbrev pub CountsEntries : Geometry → View → ℕ → ℕ → Type 0
+CountsEntries g v start n = (ls : List Link) → ChainStands g v start ls → n ≡ length (chainKeys g (controlSize g) ls)
 
 -- whether one of the first m entries of the directory from `start` on has this key
 abbrev pub Repeats : Geometry → View → ℕ → ℕ → ℕ → Bool → Type 0

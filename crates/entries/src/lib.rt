@@ -13,7 +13,9 @@ ghost use Rattle.packet.specs.Packet.{viewOf};
 ghost use Rattle.rules.specs.PageSets.{mem};
 ghost use Rattle.rules.specs.Names.{key, entryOf};
 ghost use Rattle.chain.specs.Claims.{Counted, IsGood};
-ghost use Rattle.entries.specs.Seats.{keysFrom, Fits, openOf, advanced, HasEntries, Repeats};
+ghost use Rattle.chain.specs.KnownChain.{KnownChain};
+ghost use Rattle.chain.specs.Steps.{firstStep};
+ghost use Rattle.entries.specs.Seats.{keysFrom, Fits, openOf, advanced, HasEntries, CountsEntries, Repeats};
 
 // A place in a directory: a page, the bytes before its entries, how many it has and the next of them; the position of the page after it.
 pub struct Seat {
@@ -61,6 +63,15 @@ impl Seat {
                 }
             }
         }
+    }
+
+    // At the first entry of a directory whose chain is known to stand.
+    pub fn first(image: &[u8], g: Geometry, start: usize) -> Seat
+        requires { ⌜ Fit g (now image) ⌝ }
+        requires { ⌜ KnownChain g (viewOf g (now image)) start ⌝ }
+        ensures { λ r. ⌜ r ≡ openOf g (viewOf g (now (image .entry))) (controlSize g) (firstStep start start) ⌝ }
+    {
+        Seat::begin(Cursor::new(start, start), g.control_size(), image, g)
     }
 
     // Past one entry.
@@ -118,13 +129,31 @@ fn least(a: usize, b: usize) -> usize
     b
 }
 
+// How many entries a directory has.
+pub fn count_of(image: &[u8], g: Geometry, start: usize) -> usize
+    requires { ⌜ Fit g (now image) ⌝ }
+    requires { ⌜ KnownChain g (viewOf g (now image)) start ⌝ }
+    ensures { λ r. ⌜ CountsEntries g (viewOf g (now (image .entry))) start r × (r < 16777216) ⌝ }
+{
+    let mut seat = Seat::first(image, g, start);
+    let mut n = 0;
+    loop {
+        n += seat.count;
+        let next = seat.next;
+        if next.page == 0 {
+            return n;
+        }
+        seat = Seat::begin(next, 0, image, g);
+    }
+}
+
 // Whether one of the first m entries of a directory has this key.
 pub fn is_repeated(image: &[u8], g: Geometry, start: usize, m: usize, key: u64) -> bool
     requires { ⌜ Fit g (now image) ⌝ }
     requires { ⌜ HasEntries g (viewOf g (now image)) start m ⌝ }
     ensures { λ r. ⌜ Repeats g (viewOf g (now (image .entry))) start m key r ⌝ }
 {
-    let mut seat = Seat::begin(Cursor::new(start, start), g.control_size(), image, g);
+    let mut seat = Seat::first(image, g, start);
     let mut left = m;
     loop {
         let count = seat.count;

@@ -1,5 +1,4 @@
 // The entry at a walk position of an image that is known to be accepted, found in the image alone.
-use chain::Cursor;
 use entries::Seat;
 use geometry::Geometry;
 use rules::Entry;
@@ -71,7 +70,7 @@ fn look_directory(
     requires { ⌜ (levels + level ≤ 8) × HasDirectory g (viewOf g (now image)) levels start ⌝ }
     ensures { λ r. ⌜ LooksDirectory g (viewOf g (now (image .entry))) levels level start k r ⌝ }
 {
-    let mut seat = Seat::begin(Cursor::new(start, start), g.control_size(), image, g);
+    let mut seat = Seat::first(image, g, start);
     let mut left = k;
     loop {
         if seat.at < seat.count {

@@ -21,6 +21,7 @@ use Rattle.rules.specs.OwnerLaws.{Represents, inUse}
 use Rattle.rules.specs.Check.{Part, chain, directory, judgeLabel, judgeFile, judgeEntry, judgeDirectory, judgeSub}
 use Rattle.directory.specs.Faults.{faultAt}
 use Rattle.entries.specs.Seats.{chainKeys}
+use Rattle.walk.specs.declared.Parent.{Parent}
 use Rattle.walk.specs.declared.Walk.{Walk}
 use Rattle.walk.specs.declared.Walk.the-variants as w
 use Rattle.chain.specs.KnownChain.{ChainStands}
@@ -38,6 +39,12 @@ pub record Ready (g : Geometry) (c : Totals) (owner : ℕ) (table : List ℕ) : 
   pub spare : 65532 < g .pages → c .files + c .directories + 1 ≤ c .used
   pub some : 0 < owner
   pub few : inUse table < g .pages → owner < 65536
+
+-- an entry with so many to go in its directory, itself among them
+pub record Remaining (parent : Parent) (left : ℕ) : Type 0 where
+  pub some : 0 < left
+  pub most : left ≤ parent .count
+  pub few : parent .count < 16777216
 
 -- the answer r with the table u is the rule's answer, with the totals and the table that follow from what the rule gives
 abbrev pub Answers : {A : Type 0} → (A → Totals) → (A → List ℕ) → Res A → Walk → List ℕ → Type 0

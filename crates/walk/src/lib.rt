@@ -1,6 +1,5 @@
 // The walk over a directory and all below it: every chain is claimed in the owner table, every entry judged, in the order of the check.
 use chain::Claim;
-use chain::Cursor;
 use directory::control::Kind;
 use entries::Seat;
 use geometry::Geometry;
@@ -8,18 +7,25 @@ use rules::Entry;
 use rules::Totals;
 ghost use mathlib.Core.Path.{_≡_};
 ghost use mathlib.Core.List.{List};
-ghost use Prim.Native.Nat.{_+_, _≤_, _<_};
+ghost use Prim.Native.Nat.{_+_, _-_, _≤_, _<_};
 ghost use lib.ListN.{length};
 ghost use Rattle.geometry.specs.Geometry.{Fit};
 ghost use Rattle.packet.specs.Packet.{viewOf};
 ghost use Rattle.directory.specs.Faults.{testOf};
 ghost use Rattle.entries.specs.Seats.{HasEntries};
-ghost use Rattle.walk.specs.Walks.{Good, Ready, EntryFault, BelowFault, FileWalked, EntryWalked, DirectoryWalked};
+ghost use Rattle.walk.specs.Walks.{Good, Ready, Remaining, EntryFault, BelowFault, FileWalked, EntryWalked, DirectoryWalked};
 
 // What a walk answers: the totals so far, or a number of document 01 and the page told.
 pub enum Walk {
     Done(Totals),
     Refused(u8, usize),
+}
+
+// The directory that an entry stands in: its name, its start page and how many entries it has.
+pub struct Parent {
+    pub name: u32,
+    pub start: usize,
+    pub count: usize,
 }
 
 // The fault of an entry's name or extension (9, 10), or that one of the m entries before it has them (11); 0 if there is none.
@@ -86,24 +92,23 @@ fn walk_file(
     }
 }
 
-// One entry, which m entries of its directory come before: a file, or a subdirectory with all below it.
+// One entry, with `left` entries to go in its directory, itself among them: a file, or a subdirectory with all below it.
 fn walk_entry(
     image: &[u8],
     g: Geometry,
     levels: usize,
-    name: u32,
-    start: usize,
+    parent: Parent,
     page: usize,
-    m: usize,
+    left: usize,
     e: Entry,
     totals: Totals,
     owners: &mut [u16],
 ) -> Walk
     requires { ⌜ Fit g (now image) ⌝ }
-    requires { ⌜ (length (now owners) ≡ g .pages) × HasEntries g (viewOf g (now image)) start m × Good g totals (now owners) ⌝ }
-    ensures { λ r. ⌜ EntryWalked g (viewOf g (now (image .entry))) levels name start page m e totals (now (owners .entry)) r (now (owners .exit)) ⌝ }
+    requires { ⌜ (length (now owners) ≡ g .pages) × HasEntries g (viewOf g (now image)) (parent .start) (parent .count - left) × Good g totals (now owners) × Remaining parent left ⌝ }
+    ensures { λ r. ⌜ EntryWalked g (viewOf g (now (image .entry))) levels (parent .name) (parent .start) page (parent .count - left) e totals (now (owners .entry)) r (now (owners .exit)) ⌝ }
 {
-    let fault = entry_fault(image, g, start, m, e);
+    let fault = entry_fault(image, g, parent.start, parent.count - left, e);
     if fault != 0 {
         return Walk::Refused(fault, page);
     }
@@ -124,7 +129,7 @@ fn walk_entry(
         image,
         g,
         levels - 1,
-        Kind::Sub(name, start),
+        Kind::Sub(parent.name, parent.start),
         e.name,
         page,
         e.start,
@@ -159,18 +164,20 @@ pub fn walk_directory(
                 files: totals.files,
                 directories: totals.directories,
             };
-            let mut seat = Seat::begin(Cursor::new(start, start), g.control_size(), image, g);
-            let mut m = 0;
+            let count = entries::count_of(image, g, start);
+            let parent = Parent { name, start, count };
+            let mut seat = Seat::first(image, g, start);
+            let mut left = count;
             loop {
                 if seat.at < seat.count {
                     let page = seat.page;
                     let e = seat.entry(image, g);
-                    match walk_entry(image, g, levels, name, start, page, m, e, so_far, owners) {
+                    match walk_entry(image, g, levels, parent, page, left, e, so_far, owners) {
                         Walk::Refused(number, told) => return Walk::Refused(number, told),
                         Walk::Done(d) => so_far = d,
                     }
                     seat = seat.past();
-                    m += 1;
+                    left -= 1;
                 } else {
                     let next = seat.next;
                     if next.page == 0 {

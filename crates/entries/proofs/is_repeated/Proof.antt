@@ -10,7 +10,7 @@ use Rattle.rules.specs.PageSets.{mem}
 use Rattle.rules.specs.Chain.{Link}
 use Rattle.entries.specs.Seats.{chainKeys, HasEntries}
 use Rattle.entries.proofs.KeyLaws.{entry-least}
-use Rattle.entries.proofs.Seated.{begins, counts-on}
+use Rattle.entries.proofs.Seated.{counts-on}
 use Rattle.entries.proofs.Looking.{Looking, started, searched, found, not-found, next-good, look-on}
 use borrow.Author.Needs.{needs}
 use Rattle.entries.proofs.is_repeated.Statement.{statement}
@@ -23,23 +23,21 @@ Inv-loop image g start m key seat₀ left₀ seat left = (ls : List Link) → Ch
 abbrev μ-loop : tie.MeasureT-loop
 μ-loop image g start m key seat₀ left₀ seat left = left + (g .pages - seat .next .count)
 
-begin-requires : tie.Need-begin-requires Inv-loop μ-loop
-begin-requires c κs =
-    let s = c .before .before .before .pre in
-    (s .0, begins _ _ (s .0) _ _ _ _ (c .before .new .ensures) (c .control-size .ensures .2) (s .1 .chain))
+first-requires : tie.Need-first-requires Inv-loop μ-loop
+first-requires c κs = let s = c .before .pre in (s .0, record { links = s .1 .links; chain = s .1 .chain })
 
 loop-holds : tie.Need-loop-holds Inv-loop μ-loop
-loop-holds c = λ ls d n. started _ _ (c .before .before .before .before .pre .0) _ _ _ _ _ _ ls (c .before .before .new .ensures) (c .begin .ensures) (c .before .control-size .ensures .0) (c .before .control-size .ensures .2) d n
+loop-holds c = λ ls d n. started _ _ (c .before .before .pre .0) _ _ _ _ ls (c .first .ensures) d n
 
 page-of-requires : tie.Need-page-of-requires Inv-loop μ-loop
 page-of-requires c κs =
-    let s = c .before .before .before .before .before .pre in
+    let s = c .before .before .before .pre in
     let l = c .loop .inv (s .1 .links) (s .1 .chain) (s .1 .enough) in
     (s .0, l .seated .fits .inside)
 
 add-page-has : tie.Need-add-page-has Inv-loop μ-loop
 add-page-has c =
-    let s = c .before .before .before .before .before .before .before .pre in
+    let s = c .before .before .before .before .before .pre in
     let l = c .before .before .loop .inv (s .1 .links) (s .1 .chain) (s .1 .enough) in
     let r = l .seated .fits .room in
     let k = s .0 .valid .most in
@@ -47,43 +45,43 @@ add-page-has c =
 
 page-has-requires : tie.Need-page-has-requires Inv-loop μ-loop
 page-has-requires c κs =
-    let s = c .before .before .before .before .before .before .before .before .pre in
+    let s = c .before .before .before .before .before .before .pre in
     let l = c .before .before .before .loop .inv (s .1 .links) (s .1 .chain) (s .1 .enough) in
     (s .0 .valid, searched _ _ (s .0) (c .before .before .before .loop .seat) _ _ _ (l .seated .fits) (c .before .before .page-of .ensures) (c .least .ensures))
 
 returns : tie.Need-returns Inv-loop μ-loop
 returns c = λ ls d n.
-    let s = c .before .before .before .before .before .before .before .before .before .before .pre in
+    let s = c .before .before .before .before .before .before .before .before .pre in
     found _ _ (s .0) _ _ _ _ _ (c .before .before .before .before .before .loop .inv ls d n) (entry-least _ (s .0 .valid)) _ (c .before .before .before .before .page-of .ensures) _ (c .before .before .least .ensures) _ (c .before .page-has .ensures) (c .if1 .taken)
 
 returns-2 : tie.Need-returns-2 Inv-loop μ-loop
 returns-2 c = λ ls d n.
-    let s = c .before .before .before .before .before .before .before .before .before .before .before .pre in
+    let s = c .before .before .before .before .before .before .before .before .before .pre in
     not-found _ _ (s .0) _ _ _ _ _ (c .before .before .before .before .before .before .loop .inv ls d n) (entry-least _ (s .0 .valid)) _ (c .before .before .before .before .before .page-of .ensures) _ (c .before .before .before .least .ensures) _ (c .before .before .page-has .ensures) (c .before .if1 .left) (c .if2 .taken)
 
-begin-requires-2 : tie.Need-begin-requires-2 Inv-loop μ-loop
-begin-requires-2 c κs =
-    let s = c .before .before .before .before .before .before .before .before .before .before .before .before .pre in
+begin-requires : tie.Need-begin-requires Inv-loop μ-loop
+begin-requires c κs =
+    let s = c .before .before .before .before .before .before .before .before .before .before .pre in
     let l = c .before .before .before .before .before .before .before .loop .inv (s .1 .links) (s .1 .chain) (s .1 .enough) in
     let k = next-good _ _ (s .0) _ _ _ _ _ l (entry-least _ (s .0 .valid)) _ (c .before .before .before .before .before .before .page-of .ensures) _ (c .before .before .before .before .least .ensures) _ (c .before .before .before .page-has .ensures) (c .before .before .if1 .left) (c .before .if2 .left) in
     (s .0, (l .seated .counted, k .0, k .1, omega arith))
 
 loop-less : tie.Need-loop-less Inv-loop μ-loop
 loop-less c =
-    let s = c .before .before .before .before .before .before .before .before .before .before .before .before .before .pre in
+    let s = c .before .before .before .before .before .before .before .before .before .before .before .pre in
     let l = c .before .before .before .before .before .before .before .before .loop .inv (s .1 .links) (s .1 .chain) (s .1 .enough) in
     let k = next-good _ _ (s .0) _ _ _ _ _ l (entry-least _ (s .0 .valid)) _ (c .before .before .before .before .before .before .before .page-of .ensures) _ (c .before .before .before .before .before .least .ensures) _ (c .before .before .before .before .page-has .ensures) (c .before .before .before .if1 .left) (c .before .before .if2 .left) in
-    let n = counts-on _ _ (s .0) _ _ _ (c .begin2 .ensures) (k .1) in
+    let n = counts-on _ _ (s .0) _ _ _ (c .begin .ensures) (k .1) in
     let f = s .1 .chain .few in
     omega arith
 
 loop-again : tie.Need-loop-again Inv-loop μ-loop
 loop-again c = λ ls d n.
-    let s = c .before .before .before .before .before .before .before .before .before .before .before .before .before .pre in
+    let s = c .before .before .before .before .before .before .before .before .before .before .before .pre in
     let q = c .before .before .before .before .before .before .before .before .loop in
-    look-on _ _ (s .0) _ _ _ _ _ (q .inv ls d n) (entry-least _ (s .0 .valid)) _ (c .before .before .before .before .before .before .before .page-of .ensures) _ (c .before .before .before .before .before .least .ensures) _ (c .before .before .before .before .page-has .ensures) (c .before .before .before .if1 .left) _ (c .begin2 .ensures) (c .before .before .if2 .left) (d .few)
+    look-on _ _ (s .0) _ _ _ _ _ (q .inv ls d n) (entry-least _ (s .0 .valid)) _ (c .before .before .before .before .before .before .before .page-of .ensures) _ (c .before .before .before .before .before .least .ensures) _ (c .before .before .before .before .page-has .ensures) (c .before .before .before .if1 .left) _ (c .begin .ensures) (c .before .before .if2 .left) (d .few)
 
 pub is-repeated-spec : {M : Type 1} → statement M
 is-repeated-spec =
     tie.close
-    (tie.spec Inv-loop μ-loop (λ c κs. search needs) (λ c κs. search needs) begin-requires loop-holds page-of-requires add-page-has (λ c κs. search needs) page-has-requires returns returns-2 (λ c. search needs) begin-requires-2 loop-less loop-again)
+    (tie.spec Inv-loop μ-loop first-requires loop-holds page-of-requires add-page-has (λ c κs. search needs) page-has-requires returns returns-2 (λ c. search needs) begin-requires loop-less loop-again)

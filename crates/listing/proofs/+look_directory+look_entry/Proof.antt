@@ -4,7 +4,7 @@ use native.Mathlib.Omega.{arith}
 use Rattle.packet.specs.Packet.{viewOf}
 use Rattle.rules.specs.Tree.{Items}
 use Rattle.entries.proofs.Places.{seat-few, past-less, page-less}
-use Rattle.entries.proofs.Seated.{begins, counts-on}
+use Rattle.entries.proofs.Seated.{counts-on}
 use Rattle.listing.specs.Standing.{Stands}
 use Rattle.listing.proofs.Lines.{looks-head, looks-file, some-level, has-directory, looks-below}
 use Rattle.listing.proofs.Ahead.{Ahead, ahead-first, ahead-part, ahead-found, ahead-past, ahead-done, ahead-next, ahead-page}
@@ -17,11 +17,10 @@ use Rattle.listing.proofs.+look_directory+look_entry.Lts-look_directory
 use Rattle.listing.proofs.look_entry.Reads as look-entry
 use Rattle.listing.proofs.look_entry.Kinds as look-entry-kinds
 use Rattle.listing.proofs.+look_directory+look_entry.Lts-look_entry as look-entry-lts
-use Rattle.chain.proofs.Cursor.new.Reads as new-reads
 use Rattle.entries.proofs.Seat.begin.Reads as begin-reads
+use Rattle.entries.proofs.Seat.first.Reads as first-reads
 use Rattle.entries.proofs.Seat.entry.Reads as entry-reads
 use Rattle.entries.proofs.Seat.past.Reads as past-reads
-use Rattle.geometry.proofs.Geometry.control_size.Reads as control-size-reads
 use Rattle.listing.proofs.entry_line.Reads as entry-line-reads
 use Rattle.listing.proofs.+look_directory+look_entry.{statement}
 use Rattle.listing.proofs.+look_directory+look_entry.Tie.{close}
@@ -64,44 +63,38 @@ abbrev look-directory-μ-loop : look-directory-lts.MeasureT-loop
 look-directory-μ-loop image g levels level start k seat₀ left₀ seat left = (g .pages - seat .next .count) * 256 + (seat .count - seat .at)
 
 abbrev look-directory-calls : ℕ → look-directory-lts.Claims
-look-directory-calls t = (new-reads.Asked, new-reads.Learnt, control-size-reads.Asked, control-size-reads.Learnt, begin-reads.Asked, begin-reads.Learnt, entry-reads.Asked, entry-reads.Learnt, look-entry-below t, look-entry.Post, past-reads.Asked, past-reads.Learnt)
+look-directory-calls t = (first-reads.Asked, first-reads.Learnt, entry-reads.Asked, entry-reads.Learnt, look-entry-below t, look-entry.Post, past-reads.Asked, past-reads.Learnt, begin-reads.Asked, begin-reads.Learnt)
 
 abbrev look-entry-calls : ℕ → look-entry-lts.Claims
 look-entry-calls t = (entry-line-reads.Asked, entry-line-reads.Learnt, look-directory-below t, look-directory.Post)
 
-look-directory-new-requires : (t : ℕ) → look-directory-lts.Need-new-requires (look-directory-calls t) (look-directory-at t) look-directory.Post look-directory-Inv-loop look-directory-μ-loop
-look-directory-new-requires t c κs = search needs
-
-look-directory-control-size-requires : (t : ℕ) → look-directory-lts.Need-control-size-requires (look-directory-calls t) (look-directory-at t) look-directory.Post look-directory-Inv-loop look-directory-μ-loop
-look-directory-control-size-requires t c κs = search needs
-
-look-directory-begin-requires : (t : ℕ) → look-directory-lts.Need-begin-requires (look-directory-calls t) (look-directory-at t) look-directory.Post look-directory-Inv-loop look-directory-μ-loop
-look-directory-begin-requires t c κs =
-    let s = c .before .before .before .pre .1 in
-    (s .0, begins _ _ (s .0) _ _ _ _ (c .before .new .ensures) (c .control-size .ensures .2) (s .1 .1 .stands .chained .chain))
+look-directory-first-requires : (t : ℕ) → look-directory-lts.Need-first-requires (look-directory-calls t) (look-directory-at t) look-directory.Post look-directory-Inv-loop look-directory-μ-loop
+look-directory-first-requires t c κs =
+    let s = c .before .pre .1 in
+    (s .0, record { links = s .1 .1 .stands .chained .links; chain = s .1 .1 .stands .chained .chain })
 
 look-directory-loop-holds : (t : ℕ) → look-directory-lts.Need-loop-holds (look-directory-calls t) (look-directory-at t) look-directory.Post look-directory-Inv-loop look-directory-μ-loop
 look-directory-loop-holds t c = λ tree st.
-    ahead-first _ _ (c .before .before .before .before .pre .1 .0) _ _ _ tree _ _ _ _ st (c .before .before .new .ensures) (c .begin .ensures) (c .before .control-size .ensures .0) (c .before .control-size .ensures .2)
+    ahead-first _ _ (c .before .before .pre .1 .0) _ _ _ tree _ _ st (c .first .ensures)
 
 look-directory-entry-requires : (t : ℕ) → look-directory-lts.Need-entry-requires (look-directory-calls t) (look-directory-at t) look-directory.Post look-directory-Inv-loop look-directory-μ-loop
 look-directory-entry-requires t c κs =
-    let s = c .before .before .before .before .before .before .before .pre .1 in
+    let s = c .before .before .before .before .before .pre .1 in
     let l = c .before .before .loop .inv (s .1 .1 .tree) (s .1 .1 .stands) in
-    (s .0, (l .seated .fits, c .if1 .taken))
+    (s .0, (l .ahead .seated .fits, c .if1 .taken))
 
 look-directory-look-entry-requires : (t : ℕ) → look-directory-lts.Need-look-entry-requires (look-directory-calls t) (look-directory-at t) look-directory.Post look-directory-Inv-loop look-directory-μ-loop
 look-directory-look-entry-requires t c κs =
-    let s = c .before .before .before .before .before .before .before .before .pre .1 in
+    let s = c .before .before .before .before .before .before .pre .1 in
     let l = c .before .before .before .loop .inv (s .1 .1 .tree) (s .1 .1 .stands) in
-    (omega (arith, c .before .before .before .before .before .before .before .before .pre .0), (s .0, (s .1 .0, ahead-part _ _ (s .0) _ _ _ _ _ _ l (c .before .if1 .taken) _ (c .entry .ensures .0))))
+    (omega (arith, c .before .before .before .before .before .before .pre .0), (s .0, (s .1 .0, ahead-part _ _ (s .0) _ _ _ _ _ _ l (c .before .if1 .taken) _ (c .entry .ensures .0))))
 
 look-directory-enum-known-x : (t : ℕ) → look-directory-lts.Need-enum-known-x (look-directory-calls t) (look-directory-at t) look-directory.Post look-directory-Inv-loop look-directory-μ-loop
 look-directory-enum-known-x t c = search needs
 
 look-directory-returns : (t : ℕ) → look-directory-lts.Need-returns (look-directory-calls t) (look-directory-at t) look-directory.Post look-directory-Inv-loop look-directory-μ-loop
 look-directory-returns t c = λ tree st.
-    ahead-found _ _ (c .before .before .before .before .before .before .before .before .before .before .before .before .pre .1 .0) _ _ _ tree _ _ (c .before .before .before .before .before .before .before .loop .inv tree st) (c .before .before .before .before .before .if1 .taken) _ (c .before .before .before .before .entry .ensures .0) _ (c .before .before .before .look-entry .ensures) _ (c .before .x .given .1)
+    ahead-found _ _ (c .before .before .before .before .before .before .before .before .before .before .pre .1 .0) _ _ _ tree _ _ (c .before .before .before .before .before .before .before .loop .inv tree st) (c .before .before .before .before .before .if1 .taken) _ (c .before .before .before .before .entry .ensures .0) _ (c .before .before .before .look-entry .ensures) _ (c .before .x .given .1)
 
 look-directory-enum-known-j : (t : ℕ) → look-directory-lts.Need-enum-known-j (look-directory-calls t) (look-directory-at t) look-directory.Post look-directory-Inv-loop look-directory-μ-loop
 look-directory-enum-known-j t c = search needs
@@ -110,34 +103,34 @@ look-directory-past-requires : (t : ℕ) → look-directory-lts.Need-past-requir
 look-directory-past-requires t c κs = search needs
 
 look-directory-loop-less : (t : ℕ) → look-directory-lts.Need-loop-less (look-directory-calls t) (look-directory-at t) look-directory.Post look-directory-Inv-loop look-directory-μ-loop
-look-directory-loop-less t c = past-less (c .before .before .before .before .before .before .before .before .before .before .before .before .before .args .g .pages) _ _ (c .past .ensures) (c .before .before .before .before .before .before .if1 .taken)
+look-directory-loop-less t c = past-less (c .before .before .before .before .before .before .before .before .before .before .before .args .g .pages) _ _ (c .past .ensures) (c .before .before .before .before .before .before .if1 .taken)
 
 look-directory-loop-again : (t : ℕ) → look-directory-lts.Need-loop-again (look-directory-calls t) (look-directory-at t) look-directory.Post look-directory-Inv-loop look-directory-μ-loop
 look-directory-loop-again t c = λ tree st.
-    ahead-past _ _ (c .before .before .before .before .before .before .before .before .before .before .before .before .before .pre .1 .0) _ _ _ tree _ _ (c .before .before .before .before .before .before .before .before .loop .inv tree st) (c .before .before .before .before .before .before .if1 .taken) _ (c .before .before .before .before .before .entry .ensures .0) _ (c .before .before .before .before .look-entry .ensures) _ (c .before .before .j .given .1) _ (c .past .ensures)
+    ahead-past _ _ (c .before .before .before .before .before .before .before .before .before .before .before .pre .1 .0) _ _ _ tree _ _ (c .before .before .before .before .before .before .before .before .loop .inv tree st) (c .before .before .before .before .before .before .if1 .taken) _ (c .before .before .before .before .before .entry .ensures .0) _ (c .before .before .before .before .look-entry .ensures) _ (c .before .before .j .given .1) _ (c .past .ensures)
 
 look-directory-returns-2 : (t : ℕ) → look-directory-lts.Need-returns-2 (look-directory-calls t) (look-directory-at t) look-directory.Post look-directory-Inv-loop look-directory-μ-loop
-look-directory-returns-2 t c = λ tree st. ahead-done _ _ (c .before .before .before .before .before .before .before .before .before .before .pre .1 .0) _ _ _ tree _ _ (c .before .before .before .before .before .loop .inv tree st) (c .before .before .before .if1 .left) (c .if2 .taken)
+look-directory-returns-2 t c = λ tree st. ahead-done _ _ (c .before .before .before .before .before .before .before .before .pre .1 .0) _ _ _ tree _ _ (c .before .before .before .before .before .loop .inv tree st) (c .before .before .before .if1 .left) (c .if2 .taken)
 
-look-directory-begin-requires-2 : (t : ℕ) → look-directory-lts.Need-begin-requires-2 (look-directory-calls t) (look-directory-at t) look-directory.Post look-directory-Inv-loop look-directory-μ-loop
-look-directory-begin-requires-2 t c κs =
-    let s = c .before .before .before .before .before .before .before .before .before .before .pre .1 in
+look-directory-begin-requires : (t : ℕ) → look-directory-lts.Need-begin-requires (look-directory-calls t) (look-directory-at t) look-directory.Post look-directory-Inv-loop look-directory-μ-loop
+look-directory-begin-requires t c κs =
+    let s = c .before .before .before .before .before .before .before .before .pre .1 in
     let l = c .before .before .before .before .before .loop .inv (s .1 .1 .tree) (s .1 .1 .stands) in
     let k = ahead-next _ _ (s .0) _ _ _ _ _ _ l (c .before .before .before .if1 .left) (c .if2 .left) in
-    (s .0, (l .seated .counted, k .0, k .1, omega arith))
+    (s .0, (k .0, k .1, k .2, omega arith))
 
 look-directory-loop-less-2 : (t : ℕ) → look-directory-lts.Need-loop-less-2 (look-directory-calls t) (look-directory-at t) look-directory.Post look-directory-Inv-loop look-directory-μ-loop
 look-directory-loop-less-2 t c =
-    let s = c .before .before .before .before .before .before .before .before .before .before .before .pre .1 in
+    let s = c .before .before .before .before .before .before .before .before .before .pre .1 in
     let l = c .before .before .before .before .before .before .loop .inv (s .1 .1 .tree) (s .1 .1 .stands) in
     let k = ahead-next _ _ (s .0) _ _ _ _ _ _ l (c .before .before .before .before .if1 .left) (c .before .if2 .left) in
-    let n = ahead-page _ _ (s .0) _ _ _ _ _ _ l (c .before .before .before .before .if1 .left) (c .before .if2 .left) _ (c .begin2 .ensures) in
-    let f = l .few in
-    page-less (c .before .before .before .before .before .before .before .before .before .before .before .args .g .pages) _ _ _ _ _ (counts-on _ _ (s .0) _ _ _ (c .begin2 .ensures) (k .1)) (omega arith) (seat-few _ _ (s .0 .valid) (n .seated .fits))
+    let n = ahead-page _ _ (s .0) _ _ _ _ _ _ l (c .before .before .before .before .if1 .left) (c .before .if2 .left) _ (c .begin .ensures) in
+    let f = l .ahead .few in
+    page-less (c .before .before .before .before .before .before .before .before .before .args .g .pages) _ _ _ _ _ (counts-on _ _ (s .0) _ _ _ (c .begin .ensures) (k .2)) (omega (arith, k .3)) (seat-few _ _ (s .0 .valid) (n .ahead .seated .fits))
 
 look-directory-loop-again-2 : (t : ℕ) → look-directory-lts.Need-loop-again-2 (look-directory-calls t) (look-directory-at t) look-directory.Post look-directory-Inv-loop look-directory-μ-loop
 look-directory-loop-again-2 t c = λ tree st.
-    ahead-page _ _ (c .before .before .before .before .before .before .before .before .before .before .before .pre .1 .0) _ _ _ tree _ _ (c .before .before .before .before .before .before .loop .inv tree st) (c .before .before .before .before .if1 .left) (c .before .if2 .left) _ (c .begin2 .ensures)
+    ahead-page _ _ (c .before .before .before .before .before .before .before .before .before .pre .1 .0) _ _ _ tree _ _ (c .before .before .before .before .before .before .loop .inv tree st) (c .before .before .before .before .if1 .left) (c .before .if2 .left) _ (c .begin .ensures)
 
 look-entry-entry-line-requires : (t : ℕ) → look-entry-lts.Need-entry-line-requires (look-entry-calls t) (look-entry-at t) look-entry.Post
 look-entry-entry-line-requires t c κs = let s = c .before .before .pre .1 in (s .0, s .1 .1)
@@ -181,9 +174,7 @@ pub +look-directory+look-entry-spec : {M : Type 1} → statement M
     look-directory.Post
     look-directory-Inv-loop
     look-directory-μ-loop
-    (look-directory-new-requires t)
-    (look-directory-control-size-requires t)
-    (look-directory-begin-requires t)
+    (look-directory-first-requires t)
     (look-directory-loop-holds t)
     (look-directory-entry-requires t)
     (look-directory-look-entry-requires t)
@@ -194,7 +185,7 @@ pub +look-directory+look-entry-spec : {M : Type 1} → statement M
     (look-directory-loop-less t)
     (look-directory-loop-again t)
     (look-directory-returns-2 t)
-    (look-directory-begin-requires-2 t)
+    (look-directory-begin-requires t)
     (look-directory-loop-less-2 t)
     (look-directory-loop-again-2 t))
     λ t. look-entry-lts.spec

@@ -1,19 +1,19 @@
--- Whatever answers what is left of a directory's entries answers the whole; a subdirectory has a level less.
+-- Whatever answers what is left of a directory's entries answers the whole. Levels left and entries left fall together.
 use mathlib.Core.Path.{_≡_, refl, sym, _∙_}
 use mathlib.Core.List.{List}
 use native.Mathlib.Omega.{arith}
 use lib.ListN.{length}
+use Prim.Native.Nat.{ℕ, _+_, _-_, _*_, _≤_, _<_}
 use Rattle.packet.specs.Packet.{viewOf}
 use Rattle.rules.specs.Chain.{Link}
 use Rattle.rules.specs.OwnerLaws.{Represents, taken, represents-taken}
-use Rattle.geometry.specs.Geometry.{controlSize}
-use Rattle.entries.proofs.Places.{seat-few, past-less, page-less}
-use Rattle.entries.proofs.Seated.{begins, counts-on}
+use Rattle.chain.specs.KnownChain.{ChainStands, KnownChain}
+use Rattle.entries.proofs.Seated.{counts-on, same-next}
 use Rattle.walk.proofs.Parts.{claim-few, totals-fit, below-some, below-ready, entry-refused, file-entry, entry-below, entry-directory}
-use Rattle.walk.proofs.Left.{Left, witness, few-met, left-known, left-refused, left-entry, left-done, left-next, left-page, left-first, keys-few}
+use Rattle.walk.proofs.Left.{Left, witness, one-left, left-known, left-refused, left-entry, left-done, left-next, left-page, left-first}
 use Rattle.walk.proofs.Directories.{refused-directory, whole-refused, whole-done, known-directory}
 use borrow.Author.Needs.{needs}
-use Prim.Native.Nat.{ℕ, _+_, _-_, _*_, _<_}
+use borrow.Author.Needs.{needs}
 use borrow.Fn.Kinds.{In}
 use borrow.Fn.PlainCycle.{Measures, is, falls, and}
 use Rattle.walk.proofs.walk_directory.Reads as walk-directory
@@ -22,24 +22,23 @@ use Rattle.walk.proofs.+walk_directory+walk_entry.Lts-walk_directory as
 use Rattle.walk.proofs.walk_entry.Reads as walk-entry
 use Rattle.walk.proofs.walk_entry.Kinds as walk-entry-kinds
 use Rattle.walk.proofs.+walk_directory+walk_entry.Lts-walk_entry as walk-entry-lts
-use Rattle.chain.proofs.Cursor.new.Reads as new-reads
 use Rattle.chain.proofs.claim_chain.Reads as claim-chain-reads
 use Rattle.entries.proofs.Seat.begin.Reads as begin-reads
 use Rattle.entries.proofs.Seat.entry.Reads as entry-reads
+use Rattle.entries.proofs.Seat.first.Reads as first-reads
 use Rattle.entries.proofs.Seat.past.Reads as past-reads
-use Rattle.geometry.proofs.Geometry.control_size.Reads as control-size-reads
+use Rattle.entries.proofs.count_of.Reads as count-of-reads
 use Rattle.walk.proofs.below_fault.Reads as below-fault-reads
 use Rattle.walk.proofs.entry_fault.Reads as entry-fault-reads
 use Rattle.walk.proofs.walk_file.Reads as walk-file-reads
 use Rattle.walk.proofs.+walk_directory+walk_entry.{statement}
 use Rattle.walk.proofs.+walk_directory+walk_entry.Tie.{close}
-use Rattle.chain.specs.KnownChain.{ChainStands, KnownChain}
 
 abbrev μ-walk-directory : Measures 2 walk-directory-kinds.ps ℕ
-μ-walk-directory κs a = 2 * a .1 .1 .0 + 1
+μ-walk-directory κs a = (a .1 .1 .0 + 1) * 16777216
 
 abbrev μ-walk-entry : Measures 2 walk-entry-kinds.ps ℕ
-μ-walk-entry κs a = 2 * a .1 .1 .0
+μ-walk-entry κs a = a .1 .1 .0 * 16777216 + a .1 .1 .1 .1 .1 .0
 
 abbrev walk-directory-at : ℕ → In 2 walk-directory-kinds.ps
 walk-directory-at t =
@@ -66,15 +65,16 @@ walk-entry-below t =
     and 2 walk-entry-kinds.ps (falls 2 walk-entry-kinds.ps _<_ μ-walk-entry t) walk-entry.Pre
 
 abbrev walk-directory-Inv-loop : walk-directory-lts.InvT-loop
-walk-directory-Inv-loop image g levels name from start owner owners₀ pages so-far₀ seat₀ m₀ owners so-far seat m =
-    (length owners ≡ g .pages) × KnownChain g (viewOf g image) start × ((claimed : List ℕ) (ls : List Link) → Represents owners₀ claimed → ChainStands g (viewOf g image) start ls → Left g (viewOf g image) levels name start so-far₀ owners₀ claimed ls owners so-far seat m)
+walk-directory-Inv-loop image g levels name from start owner owners₀ pages so-far₀ count parent seat₀ left₀ owners so-far seat left =
+    (length owners ≡ g .pages) × KnownChain g (viewOf g image) start × (left ≤ count)
+    × ((claimed : List ℕ) (ls : List Link) → Represents owners₀ claimed → ChainStands g (viewOf g image) start ls → Left g (viewOf g image) levels name start so-far₀ owners₀ claimed ls owners so-far seat (count - left))
 
 abbrev walk-directory-μ-loop : walk-directory-lts.MeasureT-loop
-walk-directory-μ-loop image g levels name from start owner owners₀ pages so-far₀ seat₀ m₀ owners so-far seat m =
-    (g .pages - seat .next .count) * 256 + (seat .count - seat .at)
+walk-directory-μ-loop image g levels name from start owner owners₀ pages so-far₀ count parent seat₀ left₀ owners so-far seat left =
+    left + (g .pages - seat .next .count)
 
 abbrev walk-directory-calls : ℕ → walk-directory-lts.Claims
-walk-directory-calls t = (claim-chain-reads.Asked, claim-chain-reads.Learnt, new-reads.Asked, new-reads.Learnt, control-size-reads.Asked, control-size-reads.Learnt, begin-reads.Asked, begin-reads.Learnt, entry-reads.Asked, entry-reads.Learnt, walk-entry-below t, walk-entry.Post, past-reads.Asked, past-reads.Learnt)
+walk-directory-calls t = (claim-chain-reads.Asked, claim-chain-reads.Learnt, count-of-reads.Asked, count-of-reads.Learnt, first-reads.Asked, first-reads.Learnt, entry-reads.Asked, entry-reads.Learnt, walk-entry-below t, walk-entry.Post, past-reads.Asked, past-reads.Learnt, begin-reads.Asked, begin-reads.Learnt)
 
 abbrev walk-entry-calls : ℕ → walk-entry-lts.Claims
 walk-entry-calls t = (entry-fault-reads.Asked, entry-fault-reads.Learnt, walk-file-reads.Asked, walk-file-reads.Learnt, below-fault-reads.Asked, below-fault-reads.Learnt, walk-directory-below t, walk-directory.Post)
@@ -88,45 +88,45 @@ walk-directory-enum-known-number t c = search needs
 walk-directory-enum-known-pages : (t : ℕ) → walk-directory-lts.Need-enum-known-pages (walk-directory-calls t) (walk-directory-at t) walk-directory.Post walk-directory-Inv-loop walk-directory-μ-loop
 walk-directory-enum-known-pages t c = search needs
 
-walk-directory-add-begin : (t : ℕ) → walk-directory-lts.Need-add-begin (walk-directory-calls t) (walk-directory-at t) walk-directory.Post walk-directory-Inv-loop walk-directory-μ-loop
-walk-directory-add-begin t c =
+walk-directory-add-t29 : (t : ℕ) → walk-directory-lts.Need-add-t29 (walk-directory-calls t) (walk-directory-at t) walk-directory.Post walk-directory-Inv-loop walk-directory-μ-loop
+walk-directory-add-t29 t c =
     let s = c .before .before .before .before .before .before .before .before .before .before .pre .1 in
     let n = claim-few (c .before .before .before .before .before .before .before .before .before .before .args .g) _ _ _ _ _ _ _ _ _ _ (c .before .before .before .before .before .before .claim-chain .ensures) (c .before .before .pages .given .1) (s .1 .0) in
     let f = s .0 .valid .few in
     let u = s .1 .1 .used-is in
     omega arith
 
-walk-directory-new-requires : (t : ℕ) → walk-directory-lts.Need-new-requires (walk-directory-calls t) (walk-directory-at t) walk-directory.Post walk-directory-Inv-loop walk-directory-μ-loop
-walk-directory-new-requires t c κs = search needs
+walk-directory-count-of-requires : (t : ℕ) → walk-directory-lts.Need-count-of-requires (walk-directory-calls t) (walk-directory-at t) walk-directory.Post walk-directory-Inv-loop walk-directory-μ-loop
+walk-directory-count-of-requires t c κs =
+    let s = c .before .before .before .before .before .before .before .before .before .before .pre .1 in
+    (s .0, known-directory _ _ _ _ _ _ _ _ _ _ _ (c .before .before .before .before .before .before .claim-chain .ensures) (s .1 .0) (c .before .before .pages .given .1) (c .before .before .before .before .before .before .before .before .before .before .args .totals) (s .1 .1) .0)
 
-walk-directory-control-size-requires : (t : ℕ) → walk-directory-lts.Need-control-size-requires (walk-directory-calls t) (walk-directory-at t) walk-directory.Post walk-directory-Inv-loop walk-directory-μ-loop
-walk-directory-control-size-requires t c κs = search needs
-
-walk-directory-begin-requires : (t : ℕ) → walk-directory-lts.Need-begin-requires (walk-directory-calls t) (walk-directory-at t) walk-directory.Post walk-directory-Inv-loop walk-directory-μ-loop
-walk-directory-begin-requires t c κs =
-    let s = c .before .before .before .before .before .before .before .before .before .before .before .before .pre .1 in
-    let k = known-directory _ _ _ _ _ _ _ _ _ _ _ (c .before .before .before .before .before .before .before .before .claim-chain .ensures) (s .1 .0) (c .before .before .before .before .pages .given .1) (c .before .before .before .before .before .before .before .before .before .before .before .before .args .totals) (s .1 .1) .0 in
-    (s .0, begins _ _ (s .0) _ _ _ (k .links) (c .before .new .ensures) (c .control-size .ensures .2) (k .chain))
+walk-directory-first-requires : (t : ℕ) → walk-directory-lts.Need-first-requires (walk-directory-calls t) (walk-directory-at t) walk-directory.Post walk-directory-Inv-loop walk-directory-μ-loop
+walk-directory-first-requires t c κs =
+    let s = c .before .before .before .before .before .before .before .before .before .before .before .pre .1 in
+    (s .0, known-directory _ _ _ _ _ _ _ _ _ _ _ (c .before .before .before .before .before .before .before .claim-chain .ensures) (s .1 .0) (c .before .before .before .pages .given .1) (c .before .before .before .before .before .before .before .before .before .before .before .args .totals) (s .1 .1) .0)
 
 walk-directory-loop-holds : (t : ℕ) → walk-directory-lts.Need-loop-holds (walk-directory-calls t) (walk-directory-at t) walk-directory.Post walk-directory-Inv-loop walk-directory-μ-loop
 walk-directory-loop-holds t c =
-    let s = c .before .before .before .before .before .before .before .before .before .before .before .before .before .pre .1 in
-    let k = known-directory _ _ _ _ _ _ _ _ _ _ _ (c .before .before .before .before .before .before .before .before .before .claim-chain .ensures) (s .1 .0) (c .before .before .before .before .before .pages .given .1) (c .before .before .before .before .before .before .before .before .before .before .before .before .before .args .totals) (s .1 .1) in
-    (c .before .before .before .before .before .before .before .before .before .claim-chain .kept .1 .1 .1 .1 .1 .1 .0 ∙ s .1 .0, k .0, λ claimed ls r d. left-first _ _ (s .0) _ _ _ _ _ claimed ls d _ _ _ (c .before .before .new .ensures) (c .begin .ensures) (c .before .control-size .ensures .0) (c .before .control-size .ensures .2) r (k .1))
+    let s = c .before .before .before .before .before .before .before .before .before .before .before .before .pre .1 in
+    let k = known-directory _ _ _ _ _ _ _ _ _ _ _ (c .before .before .before .before .before .before .before .before .claim-chain .ensures) (s .1 .0) (c .before .before .before .before .pages .given .1) (c .before .before .before .before .before .before .before .before .before .before .before .before .args .totals) (s .1 .1) in
+    (c .before .before .before .before .before .before .before .before .claim-chain .kept .1 .1 .1 .1 .1 .1 .0 ∙ s .1 .0, k .0, omega arith, λ claimed ls r d. left-first _ _ (s .0) _ _ _ _ _ claimed ls d _ _ (c .first .ensures) (omega arith) r (k .1))
 
 walk-directory-entry-requires : (t : ℕ) → walk-directory-lts.Need-entry-requires (walk-directory-calls t) (walk-directory-at t) walk-directory.Post walk-directory-Inv-loop walk-directory-μ-loop
 walk-directory-entry-requires t c κs =
-    let s = c .before .before .before .before .before .before .before .before .before .before .before .before .before .before .before .before .pre .1 in
     let i = c .before .before .loop .inv in
-    let l = witness _ _ _ _ _ _ _ _ _ _ _ (i .1) (i .2) in
-    (s .0, (l .seated .fits, c .if1 .taken))
+    let l = witness _ _ _ _ _ _ _ _ _ _ _ (i .1) (i .3) in
+    (c .before .before .before .before .before .before .before .before .before .before .before .before .before .before .before .pre .1 .0, (l .ahead .seated .fits, c .if1 .taken))
 
 walk-directory-walk-entry-requires : (t : ℕ) → walk-directory-lts.Need-walk-entry-requires (walk-directory-calls t) (walk-directory-at t) walk-directory.Post walk-directory-Inv-loop walk-directory-μ-loop
 walk-directory-walk-entry-requires t c κs =
-    let s = c .before .before .before .before .before .before .before .before .before .before .before .before .before .before .before .before .before .before .pre .1 in
+    let s = c .before .before .before .before .before .before .before .before .before .before .before .before .before .before .before .before .before .pre .1 in
     let i = c .before .before .before .before .loop .inv in
-    let l = witness _ _ _ _ _ _ _ _ _ _ _ (i .1) (i .2) in
-    (omega (arith, c .before .before .before .before .before .before .before .before .before .before .before .before .before .before .before .before .before .before .pre .0), (s .0, (i .0, left-known _ _ (s .0) _ _ _ _ _ _ _ (i .1 .chain) _ _ _ _ l, l .good-totals)))
+    let l = witness _ _ _ _ _ _ _ _ _ _ _ (i .1) (i .3) in
+    let n = c .before .before .before .before .before .before .count-of .ensures in
+    let o = one-left _ _ (s .0) _ _ _ _ _ _ _ (i .1 .chain) _ _ _ _ l (c .before .before .if1 .taken) _ (c .before .entry .ensures .0) in
+    let m = n .0 (i .1 .links) (i .1 .chain) in
+    (omega (arith, c .before .before .before .before .before .before .before .before .before .before .before .before .before .before .before .before .before .pre .0, i .2, n .1), (s .0, (i .0, left-known _ _ (s .0) _ _ _ _ _ _ _ (i .1 .chain) _ _ _ _ l, l .good-totals, record { some = omega (arith, i .2); most = i .2; few = n .1 })))
 
 walk-directory-enum-known-number-2 : (t : ℕ) → walk-directory-lts.Need-enum-known-number-2 (walk-directory-calls t) (walk-directory-at t) walk-directory.Post walk-directory-Inv-loop walk-directory-μ-loop
 walk-directory-enum-known-number-2 t c = search needs
@@ -134,15 +134,15 @@ walk-directory-enum-known-number-2 t c = search needs
 walk-directory-same-length : (t : ℕ) → walk-directory-lts.Need-same-length (walk-directory-calls t) (walk-directory-at t) walk-directory.Post walk-directory-Inv-loop walk-directory-μ-loop
 walk-directory-same-length t c =
     let i = c .before .before .before .before .before .before .before .before .before .before .loop .inv in
-    c .before .before .before .before .before .walk-entry .kept .1 .1 .1 .1 .1 .1 .1 .1 .1 .0 ∙ i .0 ∙ sym (c .before .before .before .before .before .before .before .before .before .before .before .before .before .before .before .before .before .before .before .before .before .before .before .before .pre .1 .1 .0)
+    c .before .before .before .before .before .walk-entry .kept .1 .1 .1 .1 .1 .1 .1 .1 .0 ∙ i .0 ∙ sym (c .before .before .before .before .before .before .before .before .before .before .before .before .before .before .before .before .before .before .before .before .before .before .before .pre .1 .1 .0)
 
 walk-directory-returns : (t : ℕ) → walk-directory-lts.Need-returns (walk-directory-calls t) (walk-directory-at t) walk-directory.Post walk-directory-Inv-loop walk-directory-μ-loop
 walk-directory-returns t c = λ claimed h.
-    let s = c .before .before .before .before .before .before .before .before .before .before .before .before .before .before .before .before .before .before .before .before .before .before .before .before .pre .1 in
-    let a = c .before .before .before .before .before .before .before .before .before .before .before .before .before .before .before .before .before .before .before .before .before .before .before .before .args in
+    let s = c .before .before .before .before .before .before .before .before .before .before .before .before .before .before .before .before .before .before .before .before .before .before .before .pre .1 in
+    let a = c .before .before .before .before .before .before .before .before .before .before .before .before .before .before .before .before .before .before .before .before .before .before .before .args in
     let i = c .before .before .before .before .before .before .before .before .before .before .loop .inv in
-    whole-refused _ _ _ _ _ _ _ _ _ _ _ (c .before .before .before .before .before .before .before .before .before .before .before .before .before .before .before .before .before .before .before .before .claim-chain .ensures) (s .1 .0) (c .before .before .before .before .before .before .before .before .before .before .before .before .before .before .before .before .pages .given .1) (a .totals) (s .1 .1) claimed h (a .levels) (a .name) _ _
-    (λ others ls r d. left-refused _ _ (s .0) _ _ _ _ _ others ls d _ _ _ _ (i .2 others ls r d) (c .before .before .before .before .before .before .before .before .if1 .taken) _ (c .before .before .before .before .before .before .before .entry .ensures .0) _ _ (c .before .before .before .before .before .walk-entry .ensures) _ _ (c .before .number2 .given .1))
+    whole-refused _ _ _ _ _ _ _ _ _ _ _ (c .before .before .before .before .before .before .before .before .before .before .before .before .before .before .before .before .before .before .before .claim-chain .ensures) (s .1 .0) (c .before .before .before .before .before .before .before .before .before .before .before .before .before .before .before .pages .given .1) (a .totals) (s .1 .1) claimed h (a .levels) (a .name) _ _
+    (λ others ls r d. left-refused _ _ (s .0) _ _ _ _ _ others ls d _ _ _ _ (i .3 others ls r d) (c .before .before .before .before .before .before .before .before .if1 .taken) _ (c .before .before .before .before .before .before .before .entry .ensures .0) _ _ (c .before .before .before .before .before .walk-entry .ensures) _ _ (c .before .number2 .given .1))
 
 walk-directory-enum-known-d : (t : ℕ) → walk-directory-lts.Need-enum-known-d (walk-directory-calls t) (walk-directory-at t) walk-directory.Post walk-directory-Inv-loop walk-directory-μ-loop
 walk-directory-enum-known-d t c = search needs
@@ -150,60 +150,69 @@ walk-directory-enum-known-d t c = search needs
 walk-directory-past-requires : (t : ℕ) → walk-directory-lts.Need-past-requires (walk-directory-calls t) (walk-directory-at t) walk-directory.Post walk-directory-Inv-loop walk-directory-μ-loop
 walk-directory-past-requires t c κs = search needs
 
-walk-directory-add-m : (t : ℕ) → walk-directory-lts.Need-add-m (walk-directory-calls t) (walk-directory-at t) walk-directory.Post walk-directory-Inv-loop walk-directory-μ-loop
-walk-directory-add-m t c =
-    let s = c .before .before .before .before .before .before .before .before .before .before .before .before .before .before .before .before .before .before .before .before .before .before .before .before .before .pre .1 in
+walk-directory-sub-left : (t : ℕ) → walk-directory-lts.Need-sub-left (walk-directory-calls t) (walk-directory-at t) walk-directory.Post walk-directory-Inv-loop walk-directory-μ-loop
+walk-directory-sub-left t c =
+    let s = c .before .before .before .before .before .before .before .before .before .before .before .before .before .before .before .before .before .before .before .before .before .before .before .before .pre .1 in
     let i = c .before .before .before .before .before .before .before .before .before .before .before .loop .inv in
-    let l = witness _ _ _ _ _ _ _ _ _ _ _ (i .1) (i .2) in
-    let k = few-met _ _ (s .0) _ _ _ _ _ _ _ (i .1 .chain) _ _ _ _ l in
-    let j = keys-few _ _ (s .0) (controlSize (c .before .before .before .before .before .before .before .before .before .before .before .before .before .before .before .before .before .before .before .before .before .before .before .before .before .args .g)) (i .1 .links) (i .1 .chain .stand) in
-    let n = i .1 .chain .few in
-    let f = s .0 .valid .few in
-    omega arith
+    let l = witness _ _ _ _ _ _ _ _ _ _ _ (i .1) (i .3) in
+    let o = one-left _ _ (s .0) _ _ _ _ _ _ _ (i .1 .chain) _ _ _ _ l (c .before .before .before .before .before .before .before .before .before .if1 .taken) _ (c .before .before .before .before .before .before .before .before .entry .ensures .0) in
+    let m = c .before .before .before .before .before .before .before .before .before .before .before .before .before .count-of .ensures .0 (i .1 .links) (i .1 .chain) in
+    omega (arith, i .2)
 
 walk-directory-loop-less : (t : ℕ) → walk-directory-lts.Need-loop-less (walk-directory-calls t) (walk-directory-at t) walk-directory.Post walk-directory-Inv-loop walk-directory-μ-loop
-walk-directory-loop-less t c = past-less (c .before .before .before .before .before .before .before .before .before .before .before .before .before .before .before .before .before .before .before .before .before .before .before .before .before .args .g .pages) _ _ (c .past .ensures) (c .before .before .before .before .before .before .before .before .before .if1 .taken)
+walk-directory-loop-less t c =
+    let s = c .before .before .before .before .before .before .before .before .before .before .before .before .before .before .before .before .before .before .before .before .before .before .before .before .pre .1 in
+    let i = c .before .before .before .before .before .before .before .before .before .before .before .loop .inv in
+    let l = witness _ _ _ _ _ _ _ _ _ _ _ (i .1) (i .3) in
+    let o = one-left _ _ (s .0) _ _ _ _ _ _ _ (i .1 .chain) _ _ _ _ l (c .before .before .before .before .before .before .before .before .before .if1 .taken) _ (c .before .before .before .before .before .before .before .before .entry .ensures .0) in
+    let m = c .before .before .before .before .before .before .before .before .before .before .before .before .before .count-of .ensures .0 (i .1 .links) (i .1 .chain) in
+    let e = same-next _ _ (c .past .ensures) in
+    omega (arith, i .2)
 
 walk-directory-loop-again : (t : ℕ) → walk-directory-lts.Need-loop-again (walk-directory-calls t) (walk-directory-at t) walk-directory.Post walk-directory-Inv-loop walk-directory-μ-loop
 walk-directory-loop-again t c =
-    let s = c .before .before .before .before .before .before .before .before .before .before .before .before .before .before .before .before .before .before .before .before .before .before .before .before .before .pre .1 in
+    let s = c .before .before .before .before .before .before .before .before .before .before .before .before .before .before .before .before .before .before .before .before .before .before .before .before .pre .1 in
     let i = c .before .before .before .before .before .before .before .before .before .before .before .loop .inv in
-    (c .before .before .before .before .before .before .walk-entry .kept .1 .1 .1 .1 .1 .1 .1 .1 .1 .0 ∙ i .0, i .1, λ claimed ls r d. left-entry _ _ (s .0) _ _ _ _ _ claimed ls d _ _ _ _ (i .2 claimed ls r d) (c .before .before .before .before .before .before .before .before .before .if1 .taken) _ (c .before .before .before .before .before .before .before .before .entry .ensures .0) _ _ (c .before .before .before .before .before .before .walk-entry .ensures) (i .0) _ (c .before .before .d .given .1) _ (c .past .ensures))
+    let l = witness _ _ _ _ _ _ _ _ _ _ _ (i .1) (i .3) in
+    let o = one-left _ _ (s .0) _ _ _ _ _ _ _ (i .1 .chain) _ _ _ _ l (c .before .before .before .before .before .before .before .before .before .if1 .taken) _ (c .before .before .before .before .before .before .before .before .entry .ensures .0) in
+    let m = c .before .before .before .before .before .before .before .before .before .before .before .before .before .count-of .ensures .0 (i .1 .links) (i .1 .chain) in
+    (c .before .before .before .before .before .before .walk-entry .kept .1 .1 .1 .1 .1 .1 .1 .1 .0 ∙ i .0, i .1, omega (arith, i .2), λ claimed ls r d. left-entry _ _ (s .0) _ _ _ _ _ claimed ls d _ _ _ _ (i .3 claimed ls r d) (c .before .before .before .before .before .before .before .before .before .if1 .taken) _ (c .before .before .before .before .before .before .before .before .entry .ensures .0) _ _ (c .before .before .before .before .before .before .walk-entry .ensures) (i .0) _ (c .before .before .d .given .1) _ _ (c .past .ensures) (omega (arith, i .2)))
 
 walk-directory-same-length-2 : (t : ℕ) → walk-directory-lts.Need-same-length-2 (walk-directory-calls t) (walk-directory-at t) walk-directory.Post walk-directory-Inv-loop walk-directory-μ-loop
-walk-directory-same-length-2 t c = c .before .before .before .before .before .loop .inv .0 ∙ sym (c .before .before .before .before .before .before .before .before .before .before .before .before .before .before .before .before .before .before .before .pre .1 .1 .0)
+walk-directory-same-length-2 t c =
+    let i = c .before .before .before .before .before .loop .inv in
+    i .0 ∙ sym (c .before .before .before .before .before .before .before .before .before .before .before .before .before .before .before .before .before .before .pre .1 .1 .0)
 
 walk-directory-returns-2 : (t : ℕ) → walk-directory-lts.Need-returns-2 (walk-directory-calls t) (walk-directory-at t) walk-directory.Post walk-directory-Inv-loop walk-directory-μ-loop
 walk-directory-returns-2 t c = λ claimed h.
-    let s = c .before .before .before .before .before .before .before .before .before .before .before .before .before .before .before .before .before .before .before .pre .1 in
-    let a = c .before .before .before .before .before .before .before .before .before .before .before .before .before .before .before .before .before .before .before .args in
+    let s = c .before .before .before .before .before .before .before .before .before .before .before .before .before .before .before .before .before .before .pre .1 in
+    let a = c .before .before .before .before .before .before .before .before .before .before .before .before .before .before .before .before .before .before .args in
     let i = c .before .before .before .before .before .loop .inv in
-    whole-done _ _ _ _ _ _ _ _ _ _ _ (c .before .before .before .before .before .before .before .before .before .before .before .before .before .before .before .claim-chain .ensures) (s .1 .0) (c .before .before .before .before .before .before .before .before .before .before .before .pages .given .1) (a .totals) (s .1 .1) claimed h (a .levels) (a .name) _ _
-    (λ others ls r d. left-done _ _ (s .0) _ _ _ _ _ others ls d _ _ _ _ (i .2 others ls r d) (c .before .before .before .if1 .left) (c .if2 .taken))
+    whole-done _ _ _ _ _ _ _ _ _ _ _ (c .before .before .before .before .before .before .before .before .before .before .before .before .before .before .claim-chain .ensures) (s .1 .0) (c .before .before .before .before .before .before .before .before .before .before .pages .given .1) (a .totals) (s .1 .1) claimed h (a .levels) (a .name) _ _
+    (λ others ls r d. left-done _ _ (s .0) _ _ _ _ _ others ls d _ _ _ _ (i .3 others ls r d) (c .before .before .before .if1 .left) (c .if2 .taken))
 
-walk-directory-begin-requires-2 : (t : ℕ) → walk-directory-lts.Need-begin-requires-2 (walk-directory-calls t) (walk-directory-at t) walk-directory.Post walk-directory-Inv-loop walk-directory-μ-loop
-walk-directory-begin-requires-2 t c κs =
-    let s = c .before .before .before .before .before .before .before .before .before .before .before .before .before .before .before .before .before .before .before .pre .1 in
+walk-directory-begin-requires : (t : ℕ) → walk-directory-lts.Need-begin-requires (walk-directory-calls t) (walk-directory-at t) walk-directory.Post walk-directory-Inv-loop walk-directory-μ-loop
+walk-directory-begin-requires t c κs =
+    let s = c .before .before .before .before .before .before .before .before .before .before .before .before .before .before .before .before .before .before .pre .1 in
     let i = c .before .before .before .before .before .loop .inv in
-    let l = witness _ _ _ _ _ _ _ _ _ _ _ (i .1) (i .2) in
+    let l = witness _ _ _ _ _ _ _ _ _ _ _ (i .1) (i .3) in
     let k = left-next _ _ (s .0) _ _ _ _ _ _ _ (i .1 .chain) _ _ _ _ l (c .before .before .before .if1 .left) (c .if2 .left) in
-    (s .0, (l .seated .counted, k .0, k .1, omega arith))
+    (s .0, (k .0, k .1, k .2, omega arith))
 
 walk-directory-loop-less-2 : (t : ℕ) → walk-directory-lts.Need-loop-less-2 (walk-directory-calls t) (walk-directory-at t) walk-directory.Post walk-directory-Inv-loop walk-directory-μ-loop
 walk-directory-loop-less-2 t c =
-    let s = c .before .before .before .before .before .before .before .before .before .before .before .before .before .before .before .before .before .before .before .before .pre .1 in
+    let s = c .before .before .before .before .before .before .before .before .before .before .before .before .before .before .before .before .before .before .before .pre .1 in
     let i = c .before .before .before .before .before .before .loop .inv in
-    let l = witness _ _ _ _ _ _ _ _ _ _ _ (i .1) (i .2) in
+    let l = witness _ _ _ _ _ _ _ _ _ _ _ (i .1) (i .3) in
     let k = left-next _ _ (s .0) _ _ _ _ _ _ _ (i .1 .chain) _ _ _ _ l (c .before .before .before .before .if1 .left) (c .before .if2 .left) in
-    let n = left-page _ _ (s .0) _ _ _ _ _ _ _ (i .1 .chain) _ _ _ _ l (c .before .before .before .before .if1 .left) (c .before .if2 .left) _ (c .begin2 .ensures) in
-    let f = i .1 .chain .few in
-    page-less (c .before .before .before .before .before .before .before .before .before .before .before .before .before .before .before .before .before .before .before .before .args .g .pages) _ _ _ _ _ (counts-on _ _ (s .0) _ _ _ (c .begin2 .ensures) (k .1)) (omega arith) (seat-few _ _ (s .0 .valid) (n .seated .fits))
+    let n = counts-on _ _ (s .0) _ _ _ (c .begin .ensures) (k .2) in
+    omega (arith, k .3, i .1 .chain .few)
 
 walk-directory-loop-again-2 : (t : ℕ) → walk-directory-lts.Need-loop-again-2 (walk-directory-calls t) (walk-directory-at t) walk-directory.Post walk-directory-Inv-loop walk-directory-μ-loop
 walk-directory-loop-again-2 t c =
-    let s = c .before .before .before .before .before .before .before .before .before .before .before .before .before .before .before .before .before .before .before .before .pre .1 in
+    let s = c .before .before .before .before .before .before .before .before .before .before .before .before .before .before .before .before .before .before .before .pre .1 in
     let i = c .before .before .before .before .before .before .loop .inv in
-    (i .0, i .1, λ claimed ls r d. left-page _ _ (s .0) _ _ _ _ _ claimed ls d _ _ _ _ (i .2 claimed ls r d) (c .before .before .before .before .if1 .left) (c .before .if2 .left) _ (c .begin2 .ensures))
+    (i .0, i .1, i .2, λ claimed ls r d. left-page _ _ (s .0) _ _ _ _ _ claimed ls d _ _ _ _ (i .3 claimed ls r d) (c .before .before .before .before .if1 .left) (c .before .if2 .left) _ (c .begin .ensures))
 
 walk-directory-same-length-3 : (t : ℕ) → walk-directory-lts.Need-same-length-3 (walk-directory-calls t) (walk-directory-at t) walk-directory.Post walk-directory-Inv-loop walk-directory-μ-loop
 walk-directory-same-length-3 t c = search needs
@@ -213,36 +222,45 @@ walk-directory-returns-3 t c = λ claimed h.
     let a = c .before .before .before .before .before .before .before .before .before .args in
     refused-directory _ _ _ _ _ _ 0 0 _ _ _ (c .before .before .before .before .before .claim-chain .ensures) (c .before .before .before .before .before .before .before .before .before .pre .1 .1 .0) (a .levels) (a .name) _ _ (c .before .number .given .1) claimed h
 
+walk-entry-sub-entry-fault : (t : ℕ) → walk-entry-lts.Need-sub-entry-fault (walk-entry-calls t) (walk-entry-at t) walk-entry.Post
+walk-entry-sub-entry-fault t c = c .before .before .before .pre .1 .1 .3 .most
+
+walk-entry-entry-fault-requires : (t : ℕ) → walk-entry-lts.Need-entry-fault-requires (walk-entry-calls t) (walk-entry-at t) walk-entry.Post
+walk-entry-entry-fault-requires t c κs = (c .before .before .before .pre .1 .0, c .before .before .before .pre .1 .1 .1)
+
 walk-entry-returns : (t : ℕ) → walk-entry-lts.Need-returns (walk-entry-calls t) (walk-entry-at t) walk-entry.Post
 walk-entry-returns t c = λ claimed seen h m.
-    let a = c .before .before .before .before .args in
-    entry-refused (a .g) (viewOf (a .g) (a .image .now)) (a .levels) (a .name) (a .start) claimed (a .page) seen (a .e) _ (c .before .entry-fault .ensures seen m (a .page)) (c .if1 .taken)
+    let a = c .before .before .before .before .before .args in
+    entry-refused (a .g) (viewOf (a .g) (a .image .now)) (a .levels) (a .parent .name) (a .parent .start) claimed (a .page) seen (a .e) _ (c .before .entry-fault .ensures seen m (a .page)) (c .if1 .taken)
+
+walk-entry-walk-file-requires : (t : ℕ) → walk-entry-lts.Need-walk-file-requires (walk-entry-calls t) (walk-entry-at t) walk-entry.Post
+walk-entry-walk-file-requires t c κs = let s = c .before .before .before .before .before .before .before .before .pre .1 in (s .0, (s .1 .0, s .1 .2))
 
 walk-entry-returns-2 : (t : ℕ) → walk-entry-lts.Need-returns-2 (walk-entry-calls t) (walk-entry-at t) walk-entry.Post
 walk-entry-returns-2 t c = λ claimed seen h m.
-    let a = c .before .before .before .before .before .before .before .before .before .before .args in
-    file-entry (a .g) (viewOf (a .g) (a .image .now)) (a .levels) (a .name) (a .start) claimed (a .page) seen (a .e) _ (c .before .before .before .before .before .before .before .entry-fault .ensures seen m (a .page)) (c .before .before .before .before .before .before .if1 .left) (c .before .before .before .before .if2 .taken) (a .totals) (a .owners .now) (c .before .before .walk-file .result) (c .before .before .walk-file .last .1 .1 .1 .1 .1 .0) (c .before .before .walk-file .ensures claimed h)
+    let a = c .before .before .before .before .before .before .before .before .before .before .before .args in
+    file-entry (a .g) (viewOf (a .g) (a .image .now)) (a .levels) (a .parent .name) (a .parent .start) claimed (a .page) seen (a .e) _ (c .before .before .before .before .before .before .before .entry-fault .ensures seen m (a .page)) (c .before .before .before .before .before .before .if1 .left) (c .before .before .before .before .if2 .taken) (a .totals) (a .owners .now) (c .before .before .walk-file .result) (c .before .before .walk-file .last .1 .1 .1 .1 .1 .0) (c .before .before .walk-file .ensures claimed h)
 
 walk-entry-returns-3 : (t : ℕ) → walk-entry-lts.Need-returns-3 (walk-entry-calls t) (walk-entry-at t) walk-entry.Post
 walk-entry-returns-3 t c = λ claimed seen h m.
-    let a = c .before .before .before .before .before .before .before .before .args in
-    entry-below (a .g) (viewOf (a .g) (a .image .now)) (a .levels) (a .name) (a .start) claimed (a .page) seen (a .e) _ (c .before .before .before .before .before .entry-fault .ensures seen m (a .page)) (c .before .before .before .before .if1 .left) (c .before .before .if2 .left) _ (c .before .below-fault .ensures (a .page)) (c .if3 .taken)
+    let a = c .before .before .before .before .before .before .before .before .before .args in
+    entry-below (a .g) (viewOf (a .g) (a .image .now)) (a .levels) (a .parent .name) (a .parent .start) claimed (a .page) seen (a .e) _ (c .before .before .before .before .before .entry-fault .ensures seen m (a .page)) (c .before .before .before .before .if1 .left) (c .before .before .if2 .left) _ (c .before .below-fault .ensures (a .page)) (c .if3 .taken)
 
 walk-entry-add-owner : (t : ℕ) → walk-entry-lts.Need-add-owner (walk-entry-calls t) (walk-entry-at t) walk-entry.Post
 walk-entry-add-owner t c =
-    let s = c .before .before .before .before .before .before .before .before .before .pre .1 in
+    let s = c .before .before .before .before .before .before .before .before .before .before .pre .1 in
     let k = totals-fit _ _ _ (s .1 .2) (s .1 .0) (s .0 .valid .few) in
     omega arith
 
 walk-entry-add-owner-2 : (t : ℕ) → walk-entry-lts.Need-add-owner-2 (walk-entry-calls t) (walk-entry-at t) walk-entry.Post
 walk-entry-add-owner-2 t c =
-    let s = c .before .before .before .before .before .before .before .before .before .pre .1 in
+    let s = c .before .before .before .before .before .before .before .before .before .before .pre .1 in
     let k = totals-fit _ _ _ (s .1 .2) (s .1 .0) (s .0 .valid .few) in
     omega arith
 
 walk-entry-add-walk-directory : (t : ℕ) → walk-entry-lts.Need-add-walk-directory (walk-entry-calls t) (walk-entry-at t) walk-entry.Post
 walk-entry-add-walk-directory t c =
-    let s = c .before .before .before .before .before .before .before .before .before .before .pre .1 in
+    let s = c .before .before .before .before .before .before .before .before .before .before .before .pre .1 in
     let k = totals-fit _ _ _ (s .1 .2) (s .1 .0) (s .0 .valid .few) in
     omega arith
 
@@ -253,14 +271,14 @@ walk-entry-sub-walk-directory t c =
 
 walk-entry-walk-directory-requires : (t : ℕ) → walk-entry-lts.Need-walk-directory-requires (walk-entry-calls t) (walk-entry-at t) walk-entry.Post
 walk-entry-walk-directory-requires t c κs =
-    let s = c .before .before .before .before .before .before .before .before .before .before .before .pre .1 in
+    let s = c .before .before .before .before .before .before .before .before .before .before .before .before .pre .1 in
     let k = below-some _ 0 _ _ (c .before .before .before .before .below-fault .ensures 0) (c .before .before .before .if3 .left) in
-    (omega arith, (s .0, (s .1 .0, below-ready _ _ _ (s .1 .2) (s .1 .0) (s .0 .valid .few))))
+    (omega (arith, c .before .before .before .before .before .before .before .before .before .before .before .before .pre .0, s .1 .3 .some), (s .0, (s .1 .0, below-ready _ _ _ (s .1 .2) (s .1 .0) (s .0 .valid .few))))
 
 walk-entry-returns-4 : (t : ℕ) → walk-entry-lts.Need-returns-4 (walk-entry-calls t) (walk-entry-at t) walk-entry.Post
 walk-entry-returns-4 t c = λ claimed seen h m.
-    let a = c .before .before .before .before .before .before .before .before .before .before .before .before .before .before .args in
-    entry-directory (a .g) (viewOf (a .g) (a .image .now)) (a .levels) (a .name) (a .start) claimed (a .page) seen (a .e) _ (c .before .before .before .before .before .before .before .before .before .before .before .entry-fault .ensures seen m (a .page)) (c .before .before .before .before .before .before .before .before .before .before .if1 .left) (c .before .before .before .before .before .before .before .before .if2 .left) _ (c .before .before .before .before .before .before .before .below-fault .ensures (a .page)) (c .before .before .before .before .before .before .if3 .left) (a .totals) _ (a .owners .now) refl (c .before .before .walk-directory .result) (c .before .before .walk-directory .last .1 .1 .1 .1 .1 .1 .1 .1 .1 .0) (c .before .before .walk-directory .ensures claimed h)
+    let a = c .before .before .before .before .before .before .before .before .before .before .before .before .before .before .before .args in
+    entry-directory (a .g) (viewOf (a .g) (a .image .now)) (a .levels) (a .parent .name) (a .parent .start) claimed (a .page) seen (a .e) _ (c .before .before .before .before .before .before .before .before .before .before .before .entry-fault .ensures seen m (a .page)) (c .before .before .before .before .before .before .before .before .before .before .if1 .left) (c .before .before .before .before .before .before .before .before .if2 .left) _ (c .before .before .before .before .before .before .before .below-fault .ensures (a .page)) (c .before .before .before .before .before .before .if3 .left) (a .totals) _ (a .owners .now) refl (c .before .before .walk-directory .result) (c .before .before .walk-directory .last .1 .1 .1 .1 .1 .1 .1 .1 .1 .0) (c .before .before .walk-directory .ensures claimed h)
 
 pub +walk-directory+walk-entry-spec : {M : Type 1} → statement M
 +walk-directory+walk-entry-spec =
@@ -271,10 +289,9 @@ pub +walk-directory+walk-entry-spec : {M : Type 1} → statement M
     (walk-directory-claim-chain-requires t)
     (walk-directory-enum-known-number t)
     (walk-directory-enum-known-pages t)
-    (walk-directory-add-begin t)
-    (walk-directory-new-requires t)
-    (walk-directory-control-size-requires t)
-    (walk-directory-begin-requires t)
+    (walk-directory-add-t29 t)
+    (walk-directory-count-of-requires t)
+    (walk-directory-first-requires t)
     (walk-directory-loop-holds t)
     (walk-directory-entry-requires t)
     (walk-directory-walk-entry-requires t)
@@ -283,21 +300,22 @@ pub +walk-directory+walk-entry-spec : {M : Type 1} → statement M
     (walk-directory-returns t)
     (walk-directory-enum-known-d t)
     (walk-directory-past-requires t)
-    (walk-directory-add-m t)
+    (walk-directory-sub-left t)
     (walk-directory-loop-less t)
     (walk-directory-loop-again t)
     (walk-directory-same-length-2 t)
     (walk-directory-returns-2 t)
-    (walk-directory-begin-requires-2 t)
+    (walk-directory-begin-requires t)
     (walk-directory-loop-less-2 t)
     (walk-directory-loop-again-2 t)
     (walk-directory-same-length-3 t)
     (walk-directory-returns-3 t))
     λ t. walk-entry-lts.spec (walk-entry-calls t) (walk-entry-at t)
     walk-entry.Post
-    (λ c κs. search needs)
+    (walk-entry-sub-entry-fault t)
+    (walk-entry-entry-fault-requires t)
     (walk-entry-returns t)
-    (λ c κs. search needs)
+    (walk-entry-walk-file-requires t)
     (λ c. search needs)
     (walk-entry-returns-2 t)
     (λ c κs. search needs)

@@ -1,0 +1,25 @@
+use mathlib.Core.Path.{_∙_, ap₂}
+use Prim.Native.Nat.{ℕ}
+use native.Mathlib.Omega.{arith}
+use Rattle.packet.specs.Packet.{viewOf}
+use Rattle.chain.specs.declared.Cursor.{Cursor}
+use Rattle.chain.proofs.Following.{follow, page-known}
+use Rattle.entries.specs.Seats.{openOf}
+use borrow.Author.Needs.{needs}
+use Rattle.entries.proofs.Seat.first.Statement.{statement}
+use Rattle.entries.proofs.Seat.first.Tie as tie
+
+begin-requires : tie.Need-begin-requires
+begin-requires c κs =
+    let s = c .before .before .before .pre in
+    let f = follow _ _ _ _ _ (c .before .new .ensures) (s .1 .chain) in
+    let k = page-known _ _ (s .0) _ _ _ f in
+    (s .0, (f .counted, k .0, k .1, omega (arith, c .control-size .ensures .2)))
+
+returns : tie.Need-returns
+returns c = c .begin .ensures ∙ ap₂ (λ (n : ℕ) (x : Cursor). openOf (c .before .before .before .before .args .g) (viewOf (c .before .before .before .before .args .g) (c .before .before .before .before .args .image .now)) n x) (c .before .control-size .ensures .0) (c .before .before .new .ensures)
+
+pub first-spec : {M : Type 1} → statement M
+first-spec =
+    tie.close
+    (tie.spec (λ c κs. search needs) (λ c κs. search needs) begin-requires returns)
