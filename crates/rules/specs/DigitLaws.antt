@@ -18,10 +18,12 @@ pub value-append : (a : ℕ) (cs : List ℕ) (c : ℕ) → valueOf a (cs ++ (c �
 value-append a [] c = refl
 value-append a (d ∷ cs) c = value-append (10 * a + (d - 48)) cs c
 
-digits-one : (k x : ℕ) → x < 10 → digits (suc k) x ≡ (48 + x % 10) ∷ []
+pub digits-one : (k x : ℕ) → x < 10 → digits (suc k) x ≡ (48 + x % 10) ∷ []
+unfolding digits
 digits-one k x h = simp (lt-ltb x 10 h, choose-true)
 
-digits-more : (k x : ℕ) → 10 ≤ x → digits (suc k) x ≡ digits k (x / 10) ++ ((48 + x % 10) ∷ [])
+pub digits-more : (k x : ℕ) → 10 ≤ x → digits (suc k) x ≡ digits k (x / 10) ++ ((48 + x % 10) ∷ [])
+unfolding digits
 digits-more k x h = simp (le-ltb x 10 h, choose-false)
 
 pub digits-value : (k x : ℕ) → x < 10 ^ suc k → valueOf 0 (digits (suc k) x) ≡ x
@@ -33,6 +35,7 @@ digits-value (suc k) x h = elim (decLt x 10) [
 
 -- there is a digit, and the first is no 0 unless it is the only one
 pub digits-some : (k x : ℕ) → 0 < length (digits (suc k) x)
+unfolding digits
 digits-some k x = simp length-append (omega arith)
 
 pub first-digit : (k x : ℕ) → 0 < x → x < 10 ^ suc k → 48 < getD (digits (suc k) x) 0 0
@@ -52,6 +55,7 @@ are-append [] c h p q = (p, q, tt)
 are-append (d ∷ cs) c h p q = (h .0, h .1, are-append cs c (h .2) p q)
 
 pub are-digits : (k x : ℕ) → AreDigits (digits k x)
+unfolding digits
 are-digits zero x = tt
 are-digits (suc k) x = elim (decLt x 10) [
   | yes q ↦ rw (digits-one k x q) (omega arith, omega arith, tt)

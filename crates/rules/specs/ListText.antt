@@ -18,10 +18,10 @@ use Rattle.rules.specs.Tree.{Image}
 use Rattle.rules.specs.Check.{check}
 use Rattle.rules.specs.Owners.{totals}
 use Rattle.rules.specs.Listing.{linesOf}
-use Rattle.rules.specs.Calls.{inGeometry}
+use Rattle.rules.specs.Calls.{inGeometry, lengthOf, filled}
 
 -- a number in decimal, of at most so many digits
-abbrev pub digits : ℕ → ℕ → List ℕ
+unfoldable pub digits : ℕ → ℕ → List ℕ
 digits zero x = []
 digits (suc k) x = choose (ltb x 10) [] (digits k (x / 10)) ++ ((48 + x % 10) ∷ [])
 
@@ -60,7 +60,7 @@ totalsText g t =
     ++ (filesWord ++ (decimal (t .files) ++ (directoriesWord ++ (decimal (t .directories) ++ lineEnd)))))))))
 
 -- a name without blanks
-abbrev pub withoutBlanks : List ℕ → List ℕ
+unfoldable pub withoutBlanks : List ℕ → List ℕ
 withoutBlanks [] = []
 withoutBlanks (c ∷ cs) = choose (eqb c 32) (withoutBlanks cs) (c ∷ withoutBlanks cs)
 
@@ -111,3 +111,9 @@ unfoldable pub listText : List ℕ → List ℕ
 listText dump = refusalText (do
   refuse-unless (dumpRight dump) 19 0
   dumpText dump (drop (dumpOffset dump) dump))
+
+-- the text laid into an output: its length; where the output is too short 18, and the output stays (the papers leave this answer free)
+unfoldable pub textCall : List ℕ → List ℕ → Res ℕ × List ℕ
+textCall dump out = let r = (do
+  refuse-unless (leb (length (listText dump)) (length out)) 18 0
+  ok (listText dump)) in (lengthOf r, filled out r)

@@ -121,8 +121,8 @@ fn compare(image: &[u8], g: Geometry, root: Root, owners: &[u16]) -> Bits
     }
 }
 
-// Checks an image and fills the table, or leaves it empty.
-fn check_table(image: &[u8], g: Geometry, owners: &mut [u16]) -> Walk
+// Checks an image whose geometry is known and fills the table, or leaves it empty.
+pub fn check_table(image: &[u8], g: Geometry, owners: &mut [u16]) -> Walk
     requires { ⌜ Fit g (now image) ⌝ }
     requires { ⌜ length (now owners) ≡ g .pages ⌝ }
     ensures { λ r. ⌜ TableChecked g (viewOf g (now (image .entry))) r (now (owners .exit)) ⌝ }

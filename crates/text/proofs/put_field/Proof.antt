@@ -1,0 +1,12 @@
+use Rattle.text.proofs.Steps.{and-then}
+use borrow.Author.Needs.{needs}
+use Rattle.text.proofs.put_field.Statement.{statement}
+use Rattle.text.proofs.put_field.Tie as tie
+
+returns : tie.Need-returns
+returns c = (and-then (c .before .before .before .before .before .before .put-bytes .ensures) (c .before .before .put-digits .ensures .0), search needs)
+
+pub put-field-spec : {M : Type 1} → statement M
+put-field-spec =
+    tie.close
+    (tie.spec (λ c κs. search needs) (λ c κs. search needs) (λ c. search needs) returns)

@@ -1,0 +1,14 @@
+use Rattle.rules.specs.ListText.{refusalText}
+use Rattle.text.proofs.Steps.{and-then}
+use borrow.Author.Needs.{needs}
+use Rattle.text.proofs.put_refusal.Statement.{statement}
+use Rattle.text.proofs.put_refusal.Tie as tie
+
+returns : tie.Need-returns
+unfolding refusalText
+returns c = and-then (c .before .before .before .before .before .before .before .before .before .before .before .put-field .ensures .0) (and-then (c .before .before .before .before .before .before .put-field2 .ensures .0) (c .before .before .put-byte .ensures))
+
+pub put-refusal-spec : {M : Type 1} → statement M
+put-refusal-spec =
+    tie.close
+    (tie.spec (λ c. search needs) (λ c κs. search needs) (λ c. search needs) (λ c κs. search needs) (λ c κs. search needs) (λ c. search needs) returns)
