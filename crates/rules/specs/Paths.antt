@@ -66,15 +66,16 @@ pub record Place : Type 0 where
   pub site : Site
   pub items : Items
 
+-- what follows in the directory found; 15 if there is none
+abbrev pub inDirectory : Found → (Items → Res Place) → Res Place
+inDirectory nothing go = err 15 0
+inDirectory (aFile l ls) go = err 15 0
+inDirectory (aDirectory l d) go = go d
+
 -- the directory that the names lead to from the directory `here`, which stands at a site with the items t; 15 if one is missing
 unfoldable pub directoryAt : List ℕ → Site → Above → Items → Res Place
 directoryAt [] site here t = ok (record { site = site; items = t })
-directoryAt (x ∷ xs) site here t = into (find (directoryKey x) t) (λ d. directoryAt xs (below here) (record { name = x; start = startOf d }) d)
-  where
-    into : Found → (Items → Res Place) → Res Place
-    into nothing go = err 15 0
-    into (aFile l ls) go = err 15 0
-    into (aDirectory l d) go = go d
+directoryAt (x ∷ xs) site here t = inDirectory (find (directoryKey x) t) (λ d. directoryAt xs (below here) (record { name = x; start = startOf d }) d)
 
 -- a change of the directory that the names lead to
 abbrev pub changeIn : ℕ → (Items → Items) → Items → Items

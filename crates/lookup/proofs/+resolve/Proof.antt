@@ -1,0 +1,72 @@
+-- Whatever the names left lead to is what all lead to; a name less is left each time.
+use mathlib.Core.Path.{sym, _∙_}
+use native.Mathlib.Omega.{arith}
+use Prim.Native.Nat.{ℕ, _<_}
+use Rattle.packet.specs.Packet.{viewOf}
+use Rattle.lookup.proofs.Resolving.{lead-here, lead-absent, Next, lead-next, lead-on}
+use borrow.Author.Needs.{needs}
+use borrow.Fn.Kinds.{In}
+use borrow.Fn.PlainCycle.{Measures, is, falls, and}
+use Rattle.lookup.proofs.resolve.Reads as resolve
+use Rattle.lookup.proofs.resolve.Kinds as resolve-kinds
+use Rattle.lookup.proofs.+resolve.Lts-resolve as resolve-lts
+use Rattle.entries.proofs.key_of.Reads as key-of-reads
+use Rattle.geometry.proofs.number_at.Reads as number-at-reads
+use Rattle.lookup.proofs.find_entry.Reads as find-entry-reads
+use Rattle.lookup.proofs.+resolve.{statement}
+use Rattle.lookup.proofs.+resolve.Tie.{close}
+
+abbrev μ-resolve : Measures 2 resolve-kinds.ps ℕ
+μ-resolve κs a = a .1 .1 .1 .1 .1 .0
+
+abbrev resolve-at : ℕ → In 2 resolve-kinds.ps
+resolve-at t = and 2 resolve-kinds.ps (is 2 resolve-kinds.ps μ-resolve t) resolve.Pre
+
+abbrev resolve-below : ℕ → In 2 resolve-kinds.ps
+resolve-below t = and 2 resolve-kinds.ps (falls 2 resolve-kinds.ps _<_ μ-resolve t) resolve.Pre
+
+abbrev resolve-calls : ℕ → resolve-lts.Claims
+resolve-calls t = (number-at-reads.Asked, number-at-reads.Learnt, key-of-reads.Asked, key-of-reads.Learnt, find-entry-reads.Asked, find-entry-reads.Learnt, resolve-below t, resolve.Post)
+
+resolve-returns : (t : ℕ) → resolve-lts.Need-returns (resolve-calls t) (resolve-at t) resolve.Post
+resolve-returns t c = λ tree T site here.
+    let a = c .before .before .before .args in
+    lead-here (a .g) (viewOf (a .g) (a .image .now)) (a .start) (a .path .now) (a .at) (a .names) (c .if1 .taken) tree T site here
+
+resolve-find-entry-requires : (t : ℕ) → resolve-lts.Need-find-entry-requires (resolve-calls t) (resolve-at t) resolve.Post
+resolve-find-entry-requires t c κs = let s = c .before .before .before .before .before .pre .1 in (s .0, s .1 .0)
+
+resolve-resolve-requires : (t : ℕ) → resolve-lts.Need-resolve-requires (resolve-calls t) (resolve-at t) resolve.Post
+resolve-resolve-requires t c κs =
+    let s = c .before .before .before .before .before .before .before .before .before .pre .1 in
+    let h = s .1 .0 in
+    let a = c .before .before .before .before .before .before .before .before .before .args in
+    let n = lead-next (a .g) (viewOf (a .g) (a .image .now)) (a .start) (a .path .now) (a .at) (a .names) (c .before .before .before .before .before .before .if1 .left) _ _ (c .before .before .before .before .before .number-at .ensures .0) (c .before .before .before .before .key-of .ensures) (h .tree) (h .at) _ (sym (c .before .e .given .1) ∙ c .before .before .before .find-entry .ensures (h .tree) (h .at)) in
+    (omega (arith, c .before .before .before .before .before .before .before .before .before .pre .0, c .before .before .before .before .before .before .if1 .left), (s .0, (record { tree = n .items; at = n .tree }, omega (arith, s .1 .1))))
+
+resolve-returns-2 : (t : ℕ) → resolve-lts.Need-returns-2 (resolve-calls t) (resolve-at t) resolve.Post
+resolve-returns-2 t c = λ tree T site here.
+    let a = c .before .before .before .before .before .before .before .before .args in
+    lead-absent (a .g) (viewOf (a .g) (a .image .now)) (a .start) (a .path .now) (a .at) (a .names) (c .before .before .before .before .before .if1 .left) _ _ (c .before .before .before .before .number-at .ensures .0) (c .before .before .before .key-of .ensures) tree (sym (c .enum-told .given .1) ∙ c .before .before .find-entry .ensures tree T) site here
+
+resolve-returns-3 : (t : ℕ) → resolve-lts.Need-returns-3 (resolve-calls t) (resolve-at t) resolve.Post
+resolve-returns-3 t c = λ tree T site here.
+    let a = c .before .before .before .before .before .before .before .before .before .before .args in
+    let n = lead-next (a .g) (viewOf (a .g) (a .image .now)) (a .start) (a .path .now) (a .at) (a .names) (c .before .before .before .before .before .before .before .if1 .left) _ _ (c .before .before .before .before .before .before .number-at .ensures .0) (c .before .before .before .before .before .key-of .ensures) tree T _ (sym (c .before .before .e .given .1) ∙ c .before .before .before .before .find-entry .ensures tree T) in
+    lead-on (a .g) (viewOf (a .g) (a .image .now)) (a .start) (a .path .now) (a .at) (a .names) (c .before .before .before .before .before .before .before .if1 .left) _ _ (c .before .before .before .before .before .before .number-at .ensures .0) (c .before .before .before .before .before .key-of .ensures) tree _ n site here (c .resolve .result) (c .resolve .ensures (n .items) (n .tree))
+
+pub +resolve-spec : {M : Type 1} → statement M
++resolve-spec = close μ-resolve λ t. resolve-lts.spec (resolve-calls t) (resolve-at t)
+    resolve.Post
+    (resolve-returns t)
+    (λ c κs. search needs)
+    (λ c. search needs)
+    (λ c κs. search needs)
+    (resolve-find-entry-requires t)
+    (λ c. search needs)
+    (λ c. search needs)
+    (λ c. search needs)
+    (λ c. search needs)
+    (resolve-resolve-requires t)
+    (resolve-returns-2 t)
+    (resolve-returns-3 t)

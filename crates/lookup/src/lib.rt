@@ -1,0 +1,69 @@
+// Entries found by name in an image that is known to be accepted: in a directory, and along the directories of a path.
+use entries::Seat;
+use geometry::Geometry;
+use rules::Entry;
+ghost use mathlib.Core.List.{List};
+ghost use Prim.Native.Nat.{_+_, _*_, _≤_};
+ghost use lib.ListN.{length};
+ghost use Rattle.geometry.specs.Geometry.{Fit};
+ghost use Rattle.packet.specs.Packet.{viewOf};
+ghost use Rattle.lookup.specs.Searches.{HasTree, Finds, Resolves};
+
+// The entry that was looked for.
+pub enum Search {
+    Found(Entry),
+    Absent,
+}
+
+// The start page of the directory that was looked for.
+pub enum Resolved {
+    Directory(usize),
+    Absent,
+}
+
+// The entry of a directory with this key.
+pub fn find_entry(image: &[u8], g: Geometry, start: usize, key: u64) -> Search
+    requires { ⌜ Fit g (now image) ⌝ }
+    requires { ⌜ HasTree g (viewOf g (now image)) start ⌝ }
+    ensures { λ r. ⌜ Finds g (viewOf g (now (image .entry))) start key r ⌝ }
+{
+    let mut seat = Seat::first(image, g, start);
+    loop {
+        if seat.at < seat.count {
+            let e = seat.entry(image, g);
+            if entries::key_of(e.name, e.extension) == key {
+                return Search::Found(e);
+            }
+            seat = seat.past();
+        } else {
+            let next = seat.next;
+            if next.page == 0 {
+                return Search::Absent;
+            }
+            seat = Seat::begin(next, 0, image, g);
+        }
+    }
+}
+
+// The directory that so many names of a path lead to, the first of them at a place of the path, from the directory at `start` on.
+pub fn resolve(
+    image: &[u8],
+    g: Geometry,
+    start: usize,
+    path: &[u8],
+    at: usize,
+    names: usize,
+) -> Resolved
+    requires { ⌜ Fit g (now image) ⌝ }
+    requires { ⌜ HasTree g (viewOf g (now image)) start × (at + 4 * names ≤ length (now path)) ⌝ }
+    ensures { λ r. ⌜ Resolves g (viewOf g (now (image .entry))) start (now (path .entry)) at names r ⌝ }
+{
+    if names == 0 {
+        return Resolved::Directory(start);
+    }
+    let name = geometry::number_at(path, at, 4);
+    match find_entry(image, g, start, entries::key_of(name as u32, 127)) {
+        Search::Absent => Resolved::Absent,
+        Search::Found(e) => resolve(image, g, e.start, path, at + 4, names - 1),
+    }
+}
