@@ -1,4 +1,4 @@
--- The call: check answers 0 exactly when the image is well formed in its geometry.
+-- The calls: check answers 0 exactly when the image is well formed in its geometry; list and read are answered from its tree.
 use mathlib.Core.Path.{_≡_, refl, ap, sym, _∙_, subst}
 use mathlib.Core.Logic.{_↔_}
 use mathlib.Core.List.{List, [], _∷_}
@@ -19,7 +19,8 @@ use Rattle.rules.specs.Tree.{Image}
 use Rattle.rules.specs.Owners.{totals}
 use Rattle.rules.specs.WellFormed.{WellFormed}
 use Rattle.rules.specs.Check.{check}
-use Rattle.rules.specs.Calls.{inGeometry, shape, tableFor, asked, checkCall}
+use Rattle.rules.specs.Calls.{asked, checkCall}
+use Rattle.rules.specs.CallLaws.{asked-fits, asked-wrong}
 use Rattle.reading.specs.Accepted.{accepted-iff}
 
 -- the image is well formed in the geometry that the sizes give
@@ -30,22 +31,26 @@ pub record WellFormedAt (P N : ℕ) (image table : List ℕ) : Type 0 where
   pub formed : WellFormed geometry image reading
 
 module _ (P N : ℕ) (image table : List ℕ) (bytes : Bytes image) where
-  abbrev answer : Shape → Res Totals
-  answer s = inGeometry {A = Res Totals × List ℕ} s (err 1 0, table) (λ g. (andThen (check g (viewOf g image)) (λ i. ok (totals i)), tableFor P N image table g image)) .0
+  module _ {A : Type 0} (question : Image → Res A) where
+    -- a question about a well-formed image is answered from its tree
+    pub asked-formed : (w : WellFormedAt P N image table) → asked P N image table question .0 ≡ question (w .reading)
+    asked-formed w =
+        let a = accepted-iff (w .geometry) image (fit-of P N image table (w .geometry) (w .right)) bytes (w .reading) .1 (w .formed) in
+        ap (λ (x : Res A × List ℕ). x .0) (asked-fits P N image table (w .geometry) (w .right) question) ∙ ap (λ (x : Res Image). andThen x question) a ∙ then-ok (w .reading) question
 
-  found : (s : Shape) → shape P N image table ≡ s → (t : Totals) → answer s ≡ ok t → WellFormedAt P N image table
-  found Wrong e t q = clash q
-  found (Fits g) e t q = on-then _ _ _ q λ i a q. record { geometry = g; right = e; reading = i; formed = accepted-iff g image (fit-of P N image table g e) bytes i .0 a }
+    -- and only a well-formed image's is
+    pub asked-answered : (x : A) → asked P N image table question .0 ≡ ok x → WellFormedAt P N image table
+    asked-answered x q = go (geometryOf P N (length image) (length table)) refl
+      where
+        go : (s : Shape) → geometryOf P N (length image) (length table) ≡ s → WellFormedAt P N image table
+        go Wrong e = clash (sym (ap (λ (y : Res A × List ℕ). y .0) (asked-wrong P N image table e question)) ∙ q)
+        go (Fits g) e = on-then _ _ _ (sym (ap (λ (y : Res A × List ℕ). y .0) (asked-fits P N image table g e question)) ∙ q) λ i a _.
+            record { geometry = g; right = e; reading = i; formed = accepted-iff g image (fit-of P N image table g e) bytes i .0 a }
 
-  -- 0 exactly when well formed
+  -- check: 0 exactly when well formed
   pub check-accepts : ((t : Totals) × (checkCall P N image table .0 ≡ ok t)) ↔ WellFormedAt P N image table
   unfolding checkCall
-  check-accepts = (
-    λ x. found (shape P N image table) refl (x .0) (x .1),
-    λ w.
-        let a = accepted-iff (w .geometry) image (fit-of P N image table (w .geometry) (w .right)) bytes (w .reading) .1 (w .formed) in
-        (totals (w .reading), ap answer (w .right) ∙ ap (λ (x : Res Image). andThen x (λ i. ok (totals i))) a ∙ then-ok (w .reading) (λ i. ok (totals i))),
-  )
+  check-accepts = (λ x. asked-answered (λ i. ok (totals i)) (x .0) (x .1), λ w. (totals (w .reading), asked-formed (λ i. ok (totals i)) w))
 
 -- bytes, from what is known of a lent slice
 pub bytes-known : (xs : List ℕ) → ((i : ℕ) → getD xs i 0 < 256) → Bytes xs

@@ -13,7 +13,7 @@ use Rattle.rules.specs.ResultLaws.{clash}
 use Rattle.rules.specs.RefusalLaws.{Between, between-ok, between-then, between-wider, check-faults, line-faults, read-faults, format-faults, put-faults, delete-faults}
 use Rattle.rules.specs.Tree.{Image}
 use Rattle.rules.specs.Check.{check}
-use Rattle.rules.specs.Owners.{totals}
+use Rattle.rules.specs.Owners.{totals, tableAfter}
 use Rattle.rules.specs.Listing.{linesOf, lineAt}
 use Rattle.rules.specs.Format.{format}
 use Rattle.rules.specs.Put.{put}
@@ -55,6 +55,14 @@ module _ (P N : ℕ) (image table : List ℕ) where
   pub read-refused : (path out : List ℕ) (n p : ℕ) → readCall P N image table path out .0 ≡ err n p → readCall P N image table path out .1 ≡ out
   unfolding readCall
   read-refused path out n p e = filled-refused out (asked P N image table (readBytes path out) .0) n p e
+
+  -- ---- a question about an image in its geometry
+  pub asked-fits : {A : Type 0} (g : Geometry) → shape P N image table ≡ Fits g → (question : Image → Res A)
+      → asked P N image table question ≡ (andThen (check g (viewOf g image)) question, tableAfter (g .pages) (check g (viewOf g image)) table)
+  asked-fits g e question = rw e refl
+
+  pub asked-wrong : {A : Type 0} → shape P N image table ≡ Wrong → (question : Image → Res A) → asked P N image table question ≡ (err 1 0, table)
+  asked-wrong e question = rw e refl
 
   -- ---- refusal 1: the sizes are not those of an image, or the table is too short
   module _ (wrong : shape P N image table ≡ Wrong) where

@@ -17,7 +17,8 @@ use Rattle.rules.specs.Tree.{Image, used}
 use Rattle.rules.specs.Owners.{owners, totals, tableAfter}
 use Rattle.rules.specs.OwnerLaws.{Represents}
 use Rattle.rules.specs.Check.{Scan, judgeBits, scan, check}
-use Rattle.rules.specs.Calls.{shape, asked, inGeometry, checkCall}
+use Rattle.rules.specs.Calls.{asked, checkCall}
+use Rattle.rules.specs.CallLaws.{asked-fits}
 use Rattle.reading.specs.CheckCall.{check-accepts, bytes-known}
 use Rattle.directory.specs.declared.control.Root.{Root}
 use Rattle.directory.specs.declared.control.Root.the-variants as root
@@ -79,18 +80,23 @@ module _ (g : Geometry) (v : View) (d : Totals) (u : List ℕ) (a : Done g v d u
       (a .scanned .image, check-same g v (a .scanned) (a .scan-is) (subst (λ (x : Bits). Compares (judgeBits (a .scanned .raw) (used (a .scanned .image))) x) i judged), a .totals-are, a .table-is)
 
 -- ---- the call
-in-shape : (P N : ℕ) (image table : List ℕ) (g : Geometry) → geometryOf P N (length image) (length table) ≡ Fits g
-    → checkCall P N image table ≡ (andThen (check g (viewOf g image)) (λ i. ok (totals i)), tableAfter (g .pages) (check g (viewOf g image)) table)
-unfolding checkCall
-in-shape P N image table g e = rw e refl
+module _ {A : Type 0} (P N : ℕ) (image table : List ℕ) (g : Geometry) (e : geometryOf P N (length image) (length table) ≡ Fits g) (question : Image → Res A) where
+  pub asked-done : (d : Totals) (u : List ℕ) (k : TableChecked g (viewOf g image) (w.Done d) u) → asked P N image table question ≡ (question (k .0), u ++ drop (g .pages) table)
+  unfolding tableAfter
+  asked-done d u k = asked-fits P N image table g e question ∙ ap (λ (x : Res Image). (andThen x question, tableAfter (g .pages) x table)) (k .1)
+      ∙ ap₂ (λ (x : Res A) (y : List ℕ). (x, y ++ drop (g .pages) table)) (then-ok (k .0) question) (sym (k .3))
+
+  pub asked-refused : (n p : ℕ) (u : List ℕ) → TableChecked g (viewOf g image) (w.Refused n p) u → asked P N image table question ≡ (err n p, u ++ drop (g .pages) table)
+  unfolding tableAfter
+  asked-refused n p u k = asked-fits P N image table g e question ∙ ap (λ (x : Res Image). (andThen x question, tableAfter (g .pages) x table)) (k .0)
+      ∙ ap₂ (λ (x : Res A) (y : List ℕ). (x, y ++ drop (g .pages) table)) (then-err n p question) (sym (k .1))
 
 pub checked : (P N : ℕ) (image table : List ℕ) (g : Geometry) → geometryOf P N (length image) (length table) ≡ Fits g → (r : Walk) (u : List ℕ) → TableChecked g (viewOf g image) r u
     → (told r, u ++ drop (g .pages) table) ≡ checkCall P N image table
-unfolding tableAfter
-checked P N image table g e (w.Done d) u k = sym (in-shape P N image table g e ∙ ap (λ (x : Res Image). (andThen x (λ i. ok (totals i)), tableAfter (g .pages) x table)) (k .1)
-    ∙ ap₂ (λ (x : Res Totals) (y : List ℕ). (x, y ++ drop (g .pages) table)) (then-ok (k .0) (λ i. ok (totals i)) ∙ ap ok (sym (k .2))) (sym (k .3)))
-checked P N image table g e (w.Refused n p) u k = sym (in-shape P N image table g e ∙ ap (λ (x : Res Image). (andThen x (λ i. ok (totals i)), tableAfter (g .pages) x table)) (k .0)
-    ∙ ap₂ (λ (x : Res Totals) (y : List ℕ). (x, y ++ drop (g .pages) table)) (then-err n p (λ i. ok (totals i))) (sym (k .1)))
+unfolding checkCall
+checked P N image table g e (w.Done d) u k =
+    ap (λ (x : Totals). (ok x, u ++ drop (g .pages) table)) (k .2) ∙ sym (asked-done P N image table g e (λ i. ok (totals i)) d u k)
+checked P N image table g e (w.Refused n p) u k = sym (asked-refused P N image table g e (λ i. ok (totals i)) n p u k)
 
 -- what a call that answers so accepts
 pub accepts : (P N : ℕ) (image table : List ℕ) → ((i : ℕ) → getD image i 0 < 256) → (r : Walk) (u : List ℕ) → (told r, u) ≡ checkCall P N image table → Accepts P N image table r

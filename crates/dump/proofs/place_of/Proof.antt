@@ -1,0 +1,28 @@
+use native.Mathlib.Omega.{arith}
+use Rattle.dump.proofs.Judging.{place-wrong, place-right}
+use borrow.Author.Needs.{needs}
+use Rattle.dump.proofs.place_of.Statement.{statement}
+use Rattle.dump.proofs.place_of.Tie as tie
+
+returns : tie.Need-returns
+returns c = place-wrong _ (λ r. omega (arith, r .header, c .if1 .taken))
+
+returns-2 : tie.Need-returns-2
+returns-2 c = place-wrong _ (λ r. omega (arith, r .least, c .before .number-at .ensures .0, c .if2 .taken))
+
+returns-3 : tie.Need-returns-3
+returns-3 c = place-wrong _ (λ r. omega (arith, r .most, c .before .before .number-at .ensures .0, c .if3 .taken))
+
+returns-4 : tie.Need-returns-4
+returns-4 c = place-wrong _ (λ r. omega (arith, r .inside, c .before .before .before .number-at .ensures .0, c .if4 .taken))
+
+returns-5 : tie.Need-returns-5
+returns-5 c = place-wrong _ (λ r. omega (arith, r .short, c .before .before .before .before .number-at .ensures .0, c .if5 .taken))
+
+returns-6 : tie.Need-returns-6
+returns-6 c = place-right _ _ (c .before .before .before .before .number-at .ensures .0) (record { header = c .before .before .before .before .before .if1 .left; least = c .before .before .before .if2 .left; most = c .before .before .if3 .left; inside = c .before .if4 .left; short = c .if5 .left })
+
+pub place-of-spec : {M : Type 1} → statement M
+place-of-spec =
+    tie.close
+    (tie.spec returns (λ c κs. search needs) returns-2 returns-3 returns-4 (λ c. search needs) returns-5 returns-6)

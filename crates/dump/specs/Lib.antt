@@ -1,0 +1,4 @@
+pub mod Prints
+pub mod LineLaws
+pub mod DumpLaws
+pub mod TextFits

@@ -1,0 +1,82 @@
+-- The calls list and read: the check's refusal, or the answer of the accepted image.
+use mathlib.Core.Path.{_≡_, refl, ap, sym, _∙_, subst}
+use mathlib.Core.List.{List, _++_}
+use Prim.Native.Nat.{ℕ, _<_}
+use lib.ListN.{length, getD, drop}
+use Rattle.geometry.specs.declared.Geometry.{Geometry}
+use Rattle.geometry.specs.declared.Shape.the-variants.{Fits}
+use Rattle.geometry.specs.Geometry.{geometryOf}
+use Rattle.packet.specs.Packet.{viewOf}
+use Rattle.rules.specs.declared.Totals.{Totals}
+use Rattle.rules.specs.declared.Line.{Line}
+use Rattle.rules.specs.Result.{Res, ok, err}
+use Rattle.rules.specs.ResultLaws.{clash}
+use Rattle.rules.specs.Tree.{Image}
+use Rattle.rules.specs.Check.{check}
+use Rattle.rules.specs.Listing.{linesOf, lineAt}
+use Rattle.rules.specs.Calls.{readBytes, lengthOf, filled, asked, listCall, readCall}
+use Rattle.reading.specs.CheckCall.{WellFormedAt, asked-formed, asked-answered, bytes-known}
+use Rattle.listing.specs.Standing.{Accepted}
+use Rattle.walk.specs.declared.Walk.{Walk}
+use Rattle.walk.specs.declared.Walk.the-variants as w
+use Rattle.volume.specs.Scans.{TableChecked}
+use Rattle.volume.proofs.CheckLaws.{asked-done, asked-refused}
+use Rattle.query.specs.declared.Listed.{Listed}
+use Rattle.query.specs.declared.Listed.the-variants as listed
+use Rattle.query.specs.declared.Length.{Length}
+use Rattle.query.specs.declared.Length.the-variants as length′
+use Rattle.query.specs.Questions.{lineTold, lengthTold, Gives, LineOf, PathRead, ListsTree, ReadsTree}
+
+-- what the length told and the output come from
+length-ok : (r : Res (List ℕ)) (n : ℕ) → lengthOf r ≡ ok n → (bytes : List ℕ) × (r ≡ ok bytes)
+length-ok (ok bytes) n e = (bytes, refl)
+length-ok (err m p) n e = clash e
+
+-- ---- an image in its geometry, checked
+module _ (P N : ℕ) (image table : List ℕ) (g : Geometry) (e : geometryOf P N (length image) (length table) ≡ Fits g) (c : Walk) (u : List ℕ) (K : TableChecked g (viewOf g image) c u) where
+  module _ (n p : ℕ) (q : c ≡ w.Refused n p) where
+    fault : TableChecked g (viewOf g image) (w.Refused n p) u
+    fault = subst (λ (x : Walk). TableChecked g (viewOf g image) x u) q K
+
+    pub list-fault : (k : ℕ) → (lineTold (listed.Refused n p), u ++ drop (g .pages) table) ≡ listCall P N image table k
+    unfolding listCall
+    list-fault k = sym (asked-refused P N image table g e (λ i. lineAt k (linesOf 0 (i .tree))) n p u fault)
+
+    pub read-fault : (path out : List ℕ) → (lengthTold (length′.Refused n p), out, u ++ drop (g .pages) table) ≡ readCall P N image table path out
+    unfolding readCall
+    read-fault path out = sym (ap (λ (x : Res (List ℕ) × List ℕ). (lengthOf (x .0), filled out (x .0), x .1)) (asked-refused P N image table g e (readBytes path out) n p u fault))
+
+  module _ (d : Totals) (q : c ≡ w.Done d) where
+    done : TableChecked g (viewOf g image) (w.Done d) u
+    done = subst (λ (x : Walk). TableChecked g (viewOf g image) x u) q K
+
+    pub is-accepted : Accepted g (viewOf g image)
+    is-accepted = record { image = done .0; accepted = done .1 }
+
+    pub list-done : (k : ℕ) (r : Listed) → LineOf g (viewOf g image) k r → (lineTold r, u ++ drop (g .pages) table) ≡ listCall P N image table k
+    unfolding listCall
+    list-done k r h = ap (λ (x : Res Line). (x, u ++ drop (g .pages) table)) (h (done .0) (done .1)) ∙ sym (asked-done P N image table g e (λ i. lineAt k (linesOf 0 (i .tree))) d u done)
+
+    pub read-done : (path out : List ℕ) (r : Length) (after : List ℕ) → PathRead g (viewOf g image) path out r after → (lengthTold r, after, u ++ drop (g .pages) table) ≡ readCall P N image table path out
+    unfolding readCall
+    read-done path out r after h = ap (λ (x : Res ℕ × List ℕ). (x .0, x .1, u ++ drop (g .pages) table)) (h (done .0) (done .1))
+        ∙ sym (ap (λ (x : Res (List ℕ) × List ℕ). (lengthOf (x .0), filled out (x .0), x .1)) (asked-done P N image table g e (readBytes path out) d u done))
+
+-- ---- the tree of the well-formed image
+module _ (P N : ℕ) (image table : List ℕ) (h : (i : ℕ) → getD image i 0 < 256) where
+  pub lists-tree : (k : ℕ) (r : Listed) (u : List ℕ) → (lineTold r, u) ≡ listCall P N image table k → ListsTree P N image table k r
+  unfolding listCall
+  lists-tree k r u e =
+      let q = ap (λ (x : Res Line × List ℕ). x .0) e in
+      let f : Image → Res Line = λ i. lineAt k (linesOf 0 (i .tree)) in
+      record { lists = λ x. q ∙ asked-formed P N image table (bytes-known image h) f x; formed = λ x y. asked-answered P N image table (bytes-known image h) f x (sym q ∙ y) }
+
+  pub reads-tree : (path out : List ℕ) (r : Length) (after u : List ℕ) → (lengthTold r, after, u) ≡ readCall P N image table path out → ReadsTree P N image table path out r after
+  unfolding readCall
+  reads-tree path out r after u e =
+      let b = bytes-known image h in
+      let q : Gives out (asked P N image table (readBytes path out) .0) r after = ap (λ (x : Res ℕ × List ℕ × List ℕ). (x .0, x .1)) e in
+      record {
+        reads = λ x. q ∙ ap (λ (y : Res (List ℕ)). (lengthOf y, filled out y)) (asked-formed P N image table b (readBytes path out) x);
+        formed = λ n y. let l = length-ok (asked P N image table (readBytes path out) .0) n (sym (ap (λ (x : Res ℕ × List ℕ). x .0) q) ∙ y) in asked-answered P N image table b (readBytes path out) (l .0) (l .1);
+      }

@@ -1,0 +1,18 @@
+use mathlib.Core.Path.{sym, _∙_, subst}
+use Rattle.rules.specs.Listing.{linesOf}
+use Rattle.listing.specs.declared.Look.{Look}
+use Rattle.listing.specs.Standing.{Tells}
+use borrow.Author.Needs.{needs}
+use Rattle.query.proofs.entry_of.Statement.{statement}
+use Rattle.query.proofs.entry_of.Tie as tie
+
+returns : tie.Need-returns
+returns c = λ i e. sym (subst (Tells (c .before .before .before .before .before .args .position) (linesOf 0 (i .tree))) (c .before .line .given .1) (c .before .before .before .line-at .ensures i e))
+
+returns-2 : tie.Need-returns-2
+returns-2 c = λ i e. sym (subst (Tells (c .before .before .before .before .args .position) (linesOf 0 (i .tree))) (c .enum-told .given .1) (c .before .before .line-at .ensures i e))
+
+pub entry-of-spec : {M : Type 1} → statement M
+entry-of-spec =
+    tie.close
+    (tie.spec (λ c κs. search needs) (λ c. search needs) (λ c. search needs) returns returns-2)

@@ -1,0 +1,54 @@
+use mathlib.Core.Path.{sym, _∙_}
+use lib.Seq.{length-take-le}
+use Rattle.geometry.specs.ShapeLaws.{sized-of, fit-of}
+use Rattle.rules.specs.CallLaws.{list-wrong}
+use Rattle.query.specs.declared.Listed.the-variants as listed
+use Rattle.query.proofs.Calling.{list-fault, is-accepted, list-done, lists-tree}
+use borrow.Author.Needs.{needs}
+use Rattle.query.proofs.list.Statement.{statement}
+use Rattle.query.proofs.list.Tie as tie
+
+slice-relend-prefix-check-table : tie.Need-slice-relend-prefix-check-table
+slice-relend-prefix-check-table c =
+    let a = c .before .before .before .before .before .before .args in
+    sized-of (a .size) (a .pages) _ _ _ (sym (c .before .before .before .new .ensures) ∙ c .before .g .given .1) .room
+
+slice-aggregate-check-table : tie.Need-slice-aggregate-check-table
+slice-aggregate-check-table c =
+    let a = c .before .before .before .before .before .before .before .args in
+    sym (length-take-le _ _ (sized-of (a .size) (a .pages) _ _ _ (sym (c .before .before .before .before .new .ensures) ∙ c .before .before .g .given .1) .room))
+
+check-table-requires : tie.Need-check-table-requires
+check-table-requires c κs =
+    let a = c .before .before .before .before .before .before .before .args in
+    let e = sym (c .before .before .before .before .new .ensures) ∙ c .before .before .g .given .1 in
+    (fit-of (a .size) (a .pages) (a .image .now) (a .owners .now) _ e, length-take-le _ (a .owners .now) (sized-of (a .size) (a .pages) _ _ _ e .room))
+
+entry-of-requires : tie.Need-entry-of-requires
+entry-of-requires c κs =
+    let a = c .before .before .before .before .before .before .before .before .before .before .before .before .args in
+    let e = sym (c .before .before .before .before .before .before .before .before .before .new .ensures) ∙ c .before .before .before .before .before .before .before .g .given .1 in
+    (fit-of (a .size) (a .pages) (a .image .now) (a .owners .now) _ e, is-accepted (a .size) (a .pages) (a .image .now) (a .owners .now) _ e (c .before .before .before .before .check-table .result) (c .before .before .before .before .check-table .last .1 .1 .0) (c .before .before .before .before .check-table .ensures) _ (c .enum-told2 .given .1))
+
+returns : tie.Need-returns
+returns c =
+    let a = c .before .before .before .before .before .args in
+    let e = sym (list-wrong (a .size) (a .pages) (a .image .now) (a .owners .now) (sym (c .before .before .new .ensures) ∙ c .enum-told .given .1) (a .position)) in
+    (e, lists-tree (a .size) (a .pages) (a .image .now) (a .owners .now) (λ i. c .before .before .before .before .shared-slice-known .given i .fits) (a .position) (listed.Refused 1 0) (a .owners .now) e)
+
+returns-2 : tie.Need-returns-2
+returns-2 c =
+    let a = c .before .before .before .before .before .before .before .before .before .before .before .before .before .args in
+    let e = list-fault (a .size) (a .pages) (a .image .now) (a .owners .now) _ (sym (c .before .before .before .before .before .before .before .before .before .before .new .ensures) ∙ c .before .before .before .before .before .before .before .before .g .given .1) (c .before .before .before .before .before .check-table .result) (c .before .before .before .before .before .check-table .last .1 .1 .0) (c .before .before .before .before .before .check-table .ensures) _ _ (c .before .number .given .1) (a .position) in
+    (e, lists-tree (a .size) (a .pages) (a .image .now) (a .owners .now) (λ i. c .before .before .before .before .before .before .before .before .before .before .before .before .shared-slice-known .given i .fits) (a .position) _ _ e)
+
+returns-3 : tie.Need-returns-3
+returns-3 c =
+    let a = c .before .before .before .before .before .before .before .before .before .before .before .before .before .args in
+    let e = list-done (a .size) (a .pages) (a .image .now) (a .owners .now) _ (sym (c .before .before .before .before .before .before .before .before .before .before .new .ensures) ∙ c .before .before .before .before .before .before .before .before .g .given .1) (c .before .before .before .before .before .check-table .result) (c .before .before .before .before .before .check-table .last .1 .1 .0) (c .before .before .before .before .before .check-table .ensures) _ (c .before .enum-told2 .given .1) (a .position) (c .entry-of .result) (c .entry-of .ensures) in
+    (e, lists-tree (a .size) (a .pages) (a .image .now) (a .owners .now) (λ i. c .before .before .before .before .before .before .before .before .before .before .before .before .shared-slice-known .given i .fits) (a .position) (c .entry-of .result) _ e)
+
+pub list-spec : {M : Type 1} → statement M
+list-spec =
+    tie.close
+    (tie.spec (λ c κs. search needs) (λ c. search needs) (λ c. search needs) slice-relend-prefix-check-table slice-aggregate-check-table check-table-requires (λ c. search needs) (λ c. search needs) entry-of-requires returns (λ c. search needs) returns-2 (λ c. search needs) returns-3)

@@ -1,0 +1,117 @@
+// Questions about an image: the entry at a walk position, and the bytes of a file.
+use geometry::Geometry;
+use geometry::Shape;
+use listing::Look;
+use lookup::Resolved;
+use lookup::Search;
+use path::Parsed;
+use rules::Line;
+use walk::Walk;
+ghost use mathlib.Core.Path.{_≡_};
+ghost use mathlib.Core.List.{List};
+ghost use Rattle.geometry.specs.Geometry.{Fit};
+ghost use Rattle.packet.specs.Packet.{viewOf};
+ghost use Rattle.chain.specs.KnownChain.{KnownChain};
+ghost use Rattle.listing.specs.Standing.{Accepted};
+ghost use Rattle.rules.specs.Calls.{listCall, readCall};
+ghost use Rattle.query.specs.Questions.{lineTold, lengthTold, LineOf, ChainRead, PathRead, ListsTree, ReadsTree};
+
+// What listing answers: a line, or a number of document 01 and the page told.
+pub enum Listed {
+    Entry(Line),
+    Refused(u8, usize),
+}
+
+// What reading answers: the bytes read, or a number of document 01 and the page told.
+pub enum Length {
+    Done(usize),
+    Refused(u8, usize),
+}
+
+// The entry at a walk position of an accepted image, or 15.
+fn entry_of(image: &[u8], g: Geometry, position: usize) -> Listed
+    requires { ⌜ Fit g (now image) ⌝ }
+    requires { ⌜ Accepted g (viewOf g (now image)) ⌝ }
+    ensures { λ r. ⌜ LineOf g (viewOf g (now (image .entry))) position r ⌝ }
+{
+    match listing::line_at(image, g, position) {
+        Look::Found(line) => Listed::Entry(line),
+        Look::Left(_) => Listed::Refused(15, 0),
+    }
+}
+
+// Lists the entry at a walk position from 0: 15 at or past the end. Fills the owner table as a check does.
+pub fn list(image: &[u8], size: u32, pages: u32, owners: &mut [u16], position: usize) -> Listed
+    ensures { λ r. ⌜ (lineTold r, now (owners .exit)) ≡ listCall size pages (now (image .entry)) (now (owners .entry)) position ⌝ }
+    ensures { λ r. ⌜ ListsTree size pages (now (image .entry)) (now (owners .entry)) position r ⌝ }
+{
+    match Geometry::new(size, pages, image.len(), owners.len()) {
+        Shape::Wrong => Listed::Refused(1, 0),
+        Shape::Fits(g) => {
+            let n = g.pages;
+            match volume::check_table(image, g, &mut owners[..n]) {
+                Walk::Refused(number, page) => Listed::Refused(number, page),
+                Walk::Done(_) => entry_of(image, g, position),
+            }
+        }
+    }
+}
+
+// Reads a chain that is known to be right to the front of the output: 18 if it is too short.
+fn read_chain(image: &[u8], g: Geometry, start: usize, out: &mut [u8]) -> Length
+    requires { ⌜ Fit g (now image) ⌝ }
+    requires { ⌜ KnownChain g (viewOf g (now image)) start ⌝ }
+    ensures { λ r. ⌜ ChainRead g (viewOf g (now (image .entry))) start (now (out .entry)) r (now (out .exit)) ⌝ }
+{
+    let length = content::chain_bytes(image, g, start);
+    if out.len() < length {
+        return Length::Refused(18, 0);
+    }
+    content::copy_chain(image, g, start, out);
+    Length::Done(length)
+}
+
+// Reads the file at a path of an accepted image: 14, 15, 18.
+fn read_path(image: &[u8], g: Geometry, path: &[u8], out: &mut [u8]) -> Length
+    requires { ⌜ Fit g (now image) ⌝ }
+    requires { ⌜ Accepted g (viewOf g (now image)) ⌝ }
+    ensures { λ r. ⌜ PathRead g (viewOf g (now (image .entry))) (now (path .entry)) (now (out .entry)) r (now (out .exit)) ⌝ }
+{
+    match path::parse(path) {
+        Parsed::Malformed => Length::Refused(14, 0),
+        Parsed::Path(names, name, extension) => match lookup::resolve(image, g, 0, path, 0, names) {
+            Resolved::Absent => Length::Refused(15, 0),
+            Resolved::Directory(start) => {
+                let key = entries::key_of(name, extension);
+                match lookup::find_entry(image, g, start, key) {
+                    Search::Absent => Length::Refused(15, 0),
+                    Search::Found(e) => read_chain(image, g, e.start, out),
+                }
+            }
+        },
+    }
+}
+
+// Reads the file at a path to the front of the output; the rest of it stays. Fills the owner table as a check does.
+pub fn read(
+    image: &[u8],
+    size: u32,
+    pages: u32,
+    path: &[u8],
+    out: &mut [u8],
+    owners: &mut [u16],
+) -> Length
+    ensures { λ r. ⌜ (lengthTold r, now (out .exit), now (owners .exit)) ≡ readCall size pages (now (image .entry)) (now (owners .entry)) (now (path .entry)) (now (out .entry)) ⌝ }
+    ensures { λ r. ⌜ ReadsTree size pages (now (image .entry)) (now (owners .entry)) (now (path .entry)) (now (out .entry)) r (now (out .exit)) ⌝ }
+{
+    match Geometry::new(size, pages, image.len(), owners.len()) {
+        Shape::Wrong => Length::Refused(1, 0),
+        Shape::Fits(g) => {
+            let n = g.pages;
+            match volume::check_table(image, g, &mut owners[..n]) {
+                Walk::Refused(number, page) => Length::Refused(number, page),
+                Walk::Done(_) => read_path(image, g, path, out),
+            }
+        }
+    }
+}
