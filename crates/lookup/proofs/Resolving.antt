@@ -1,7 +1,7 @@
 -- What stands under a key, and the names of a path followed one by one.
 use mathlib.Core.Path.{_≡_, refl, ap, ap₂, sym, _∙_, subst}
 use mathlib.Core.Bool.{true, false}
-use mathlib.Core.List.{List, _∷_}
+use mathlib.Core.List.{List, [], _∷_}
 use Prim.Native.Nat.{ℕ, zero, suc, _+_, _-_, _*_, _%_, _≤_}
 use native.Mathlib.Omega.{arith}
 use lib.Dec.{eqb}
@@ -16,6 +16,7 @@ use Rattle.packet.specs.Packet.{View}
 use Rattle.rules.specs.declared.Entry.{Entry}
 use Rattle.rules.specs.PageSetLaws.{hits, Hit, same, other}
 use Rattle.rules.specs.Result.{Res, ok, err}
+use Rattle.rules.specs.ResultLaws.{clash, ok-inj}
 use Rattle.rules.specs.Chain.{Link, first}
 use Rattle.rules.specs.Names.{key, directoryNumber}
 use Rattle.rules.specs.Tree.{Label, keyOf, Items, end, page, file, dir, startOf, fileEntry, directoryEntry}
@@ -59,6 +60,33 @@ unfolding directoryNumber
 no-directory k x y l e b i h = let j = eqb-true (l .extension % 128) 127 h in omega arith
 
 -- ---- the names of a path
+pub at-first : (site : Site) (here : Above) (t : Items) (p : Place) → directoryAt [] site here t ≡ ok p → t ≡ p .items
+unfolding directoryAt
+at-first site here t p e = ap (λ (x : Place). x .items) (ok-inj e)
+
+pub at-next : (x : ℕ) (xs : List ℕ) (site : Site) (here : Above) (t : Items)
+    → directoryAt (x ∷ xs) site here t ≡ inDirectory (find (directoryKey x) t) (λ d. directoryAt xs (below here) (record { name = x; start = startOf d }) d)
+unfolding directoryAt
+at-next x xs site here t = refl
+
+-- from a directory that stands to one that stands
+pub place-below : (g : Geometry) (v : View) (names : List ℕ) (site : Site) (here : Above) (t : Items) (levels : ℕ) → Below g v levels t → (p : Place) → directoryAt names site here t ≡ ok p
+    → (n : ℕ) × Below g v n (p .items)
+place-below g v [] site here t levels b p e = (levels, subst (Below g v levels) (at-first site here t p e) b)
+place-below g v (x ∷ xs) site here t levels b p e =
+    go (find (directoryKey x) t) (find-stands g v levels (directoryKey x) t b) (λ d n u q. place-below g v xs (below here) (record { name = x; start = startOf d }) d n u p q) (sym (at-next x xs site here t) ∙ e)
+  where
+    under : (d : Items) → ((n : ℕ) → Below g v n d → (n : ℕ) × Below g v n (p .items)) → (n : ℕ) → Under n (λ less. Below g v less d) → (n : ℕ) × Below g v n (p .items)
+    under d k zero u = absurd u
+    under d k (suc n) u = k n u
+
+    go : (f : Found) → FoundStands g v levels (directoryKey x) f
+        → ((d : Items) (n : ℕ) → Below g v n d → directoryAt xs (below here) (record { name = x; start = startOf d }) d ≡ ok p → (n : ℕ) × Below g v n (p .items))
+        → inDirectory f (λ d. directoryAt xs (below here) (record { name = x; start = startOf d }) d) ≡ ok p → (n : ℕ) × Below g v n (p .items)
+    go nothing s k e = clash e
+    go (aFile l ls) s k e = clash e
+    go (aDirectory l d) s k e = under d (λ n u. k d n u e) levels (s .3)
+
 module _ (g : Geometry) (v : View) (start : ℕ) (path : List ℕ) (at names : ℕ) where
   -- none is left
   pub lead-here : names ≡ 0 → (t : Items) → TreeAt g v start t → (site : Site) (here : Above) → Leads g v (directoryAt (namesIn names (drop at path)) site here t) (resolved.Directory start)
@@ -76,8 +104,7 @@ module _ (g : Geometry) (v : View) (start : ℕ) (path : List ℕ) (at names : �
 
     one-name : (site : Site) (here : Above) (t : Items) → directoryAt (namesIn names (drop at path)) site here t
         ≡ inDirectory (find k t) (λ d. directoryAt (namesIn (names - 1) (drop (at + 4) path)) (below here) (record { name = x; start = startOf d }) d)
-    unfolding directoryAt
-    one-name site here t = ap (λ (l : List ℕ). directoryAt l site here t) (first-name names some)
+    one-name site here t = ap (λ (l : List ℕ). directoryAt l site here t) (first-name names some) ∙ at-next x (namesIn (names - 1) (drop (at + 4) path)) site here t
         ∙ ap (λ (n : ℕ). inDirectory (find n t) (λ d. directoryAt (namesIn (names - 1) (drop (at + 4) path)) (below here) (record { name = x; start = startOf d }) d)) (sym k-is)
 
     -- it is absent

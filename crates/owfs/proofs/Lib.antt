@@ -1,2 +1,5 @@
-mod ToldLaws
-mod CheckLaws
+pub mod ToldLaws
+pub mod SmallLaws
+pub mod CallLaws
+pub mod TreeLaws
+mod Telling

@@ -1,4 +1,4 @@
--- The numbers of check's answers are small: a page told is a page of the image or a bit of its bitmap, and no total is above the page count.
+-- The page that a refusal of the check tells is small: a page of the image or a bit of its bitmap.
 use mathlib.Core.Path.{_≡_, refl, ap, sym, subst}
 use mathlib.Core.Bool.{Bool, true, false}
 use mathlib.Core.List.{List, [], _∷_, _++_}
@@ -18,13 +18,14 @@ use Rattle.rules.specs.PageSets.{count, Within}
 use Rattle.rules.specs.PageSetLaws.{hit-same, count-append, range-of, within-length, within-cons, free-test}
 use Rattle.rules.specs.Chain.{Link, link, pages, first, content, packetAt, Test, anyPage, walk}
 use Rattle.rules.specs.ChainLaws.{walk-sound}
-use Rattle.rules.specs.Tree.{Token, newPage, entry, linkTokens, Map, mapPages, Image, used}
+use Rattle.rules.specs.Tree.{Items, startOf, Token, newPage, entry, linkTokens, Map, mapPages, Image}
 use Rattle.rules.specs.Control.{Above, theRoot, Head, headOf, wholeEntries, rootPage, subPage}
 use Rattle.rules.specs.Check.{Judge, Scan, rawBits, partPages, judgeBits, judgeLabel, judgeFile, judgeEntry, judgeEntries, judgeDirectory, judgeSub, judgeMap, scan, check}
 use Rattle.rules.specs.BitmapLaws.{lowest}
-use Rattle.rules.specs.Soundness.{tokenPages, pages-tokens, JudgeSound, entry-sound, sub-sound, map-sound, check-sound}
-use Rattle.rules.specs.Owners.{totals}
-use Rattle.owfs.specs.Answers.{Small}
+use Rattle.rules.specs.Paths.{pathOf, directoryKey, Found, nothing, aFile, aDirectory, find, Site, atRoot, below, inDirectory, directoryAt}
+use Rattle.rules.specs.Calls.{bytesOf, fileAt, readBytes}
+use Rattle.lookup.proofs.Resolving.{at-next}
+use Rattle.rules.specs.Soundness.{tokenPages, pages-tokens, JudgeSound, entry-sound, sub-sound, map-sound}
 
 abbrev Low : ℕ → Type 0
 Low p = p < 131072
@@ -33,18 +34,18 @@ Low p = p < 131072
 pub record Tells {A : Type 0} (r : Res A) : Type 0 where
   pub page : (n p : ℕ) → r ≡ err n p → Low p
 
-tells-ok : {A : Type 0} {a : A} → Tells (ok a)
+pub tells-ok : {A : Type 0} {a : A} → Tells (ok a)
 tells-ok = record { page = λ n p e. clash (sym e) }
 
-tells-err : {A : Type 0} {n p : ℕ} → Low p → Tells {A = A} (err n p)
+pub tells-err : {A : Type 0} {n p : ℕ} → Low p → Tells {A = A} (err n p)
 tells-err {p = p} h = record { page = λ m q e. let i : p ≡ q = cc in subst Low i h }
 
-tells-then : {A B : Type 0} (r : Res A) (f : A → Res B) → Tells r → ((a : A) → r ≡ ok a → Tells (f a)) → Tells (andThen r f)
+pub tells-then : {A B : Type 0} (r : Res A) (f : A → Res B) → Tells r → ((a : A) → r ≡ ok a → Tells (f a)) → Tells (andThen r f)
 unfolding andThen
 tells-then (ok a) f h k = k a refl
 tells-then (err n p) f h k = tells-err (h .page n p refl)
 
-tells-test : {A : Type 0} (t : Bool) (n p : ℕ) (r : Res A) → Low p → (t ≡ true → Tells r) → Tells (andAfter (refuse-unless t n p) r)
+pub tells-test : {A : Type 0} (t : Bool) (n p : ℕ) (r : Res A) → Low p → (t ≡ true → Tells r) → Tells (andAfter (refuse-unless t n p) r)
 unfolding andThen refuse-unless
 tells-test true n p r h k = k refl
 tells-test false n p r h k = tells-err h
@@ -201,18 +202,35 @@ module _ (g : Geometry) (few : g .pages ≤ 65535) (v : View) where
   unfolding judgeBits
   bits-tells raw used h = tells-refuse _ 13 _ (omega (arith, lowest raw used 0 (8 * length raw) .high, h))
 
-  check-tells : Tells (check g v)
+  pub check-tells : Tells (check g v)
   unfolding check
   check-tells = tells-then _ _ scan-tells λ s e. tells-then _ _ (bits-tells (s .raw) _ (raw-short s e)) λ _ _. tells-ok
 
-  -- ---- the answer
-  small : (r : Res Image) → check g v ≡ r → Small (andThen r (λ i. ok (totals i)))
-  unfolding andThen
-  small (ok i) e =
-      let c = check-sound g v i e in
-      let l = within-length (g .pages) (used i) (c .clear) in
-      (omega (arith, l, few), omega (arith, l, few, c .room), omega (arith, l, few, c .room))
-  small (err n p) e = check-tells .page n p e
+-- ---- a path and what stands there
+path-tells : (b : List ℕ) → Tells (pathOf b)
+unfolding pathOf
+path-tells b = let z : Low 0 = omega arith in tells-test _ 14 _ _ z λ _. tells-test _ 14 _ _ z λ _. tells-test _ 14 _ _ z λ _. tells-ok
 
-  pub small-check : Small (andThen (check g v) (λ i. ok (totals i)))
-  small-check = small (check g v) refl
+none-tells : (site : Site) (here : Above) (t : Items) → Tells (directoryAt [] site here t)
+unfolding directoryAt
+none-tells site here t = tells-ok
+
+place-tells : (xs : List ℕ) (site : Site) (here : Above) (t : Items) → Tells (directoryAt xs site here t)
+place-tells [] site here t = none-tells site here t
+place-tells (x ∷ xs) site here t = subst Tells (sym (at-next x xs site here t)) (go (find (directoryKey x) t) (λ d. place-tells xs (below here) (record { name = x; start = startOf d }) d))
+  where
+    go : (f : Found) → ((d : Items) → Tells (directoryAt xs (below here) (record { name = x; start = startOf d }) d)) → Tells (inDirectory f (λ d. directoryAt xs (below here) (record { name = x; start = startOf d }) d))
+    go nothing k = tells-err (omega arith)
+    go (aFile l ls) k = tells-err (omega arith)
+    go (aDirectory l d) k = k d
+
+bytes-tells : (f : Found) → Tells (bytesOf f)
+unfolding bytesOf
+bytes-tells nothing = tells-err (omega arith)
+bytes-tells (aFile l ls) = tells-ok
+bytes-tells (aDirectory l d) = tells-err (omega arith)
+
+pub read-tells : (path out : List ℕ) (i : Image) → Tells (readBytes path out i)
+unfolding readBytes fileAt
+read-tells path out i =
+    tells-then _ _ (tells-then _ _ (path-tells path) λ q _. tells-then _ _ (place-tells (q .directories) atRoot theRoot (i .tree)) λ d _. bytes-tells _) λ bytes _. tells-test _ 18 _ _ (omega arith) λ _. tells-ok

@@ -1,22 +1,45 @@
 -- What the exported calls answer: a call of the rules, its answer as plain numbers and its owner table as bytes.
 use mathlib.Core.List.{List}
-use Prim.Native.Nat.{ℕ, _<_}
+use Prim.Native.Nat.{ℕ}
 use Rattle.rules.specs.declared.Totals.{Totals}
+use Rattle.rules.specs.declared.Line.{Line}
 use Rattle.rules.specs.Result.{Res, ok, err}
-use Rattle.rules.specs.Calls.{checkCall}
+use Rattle.rules.specs.Calls.{checkCall, listCall, readCall}
 use Rattle.table.specs.Table.{numbersOf, bytesWith}
 use Rattle.owfs.specs.declared.OwfsTotals.{OwfsTotals}
+use Rattle.owfs.specs.declared.OwfsEntry.{OwfsEntry}
+use Rattle.owfs.specs.declared.OwfsLength.{OwfsLength}
 
--- 0 and the totals, or the number and page of a refusal; every other field is 0
-abbrev pub totalsOf : Res Totals → OwfsTotals
-totalsOf (ok t) = record { number = 0; page = 0; used = t .used; files = t .files; directories = t .directories }
-totalsOf (err n p) = record { number = n; page = p; used = 0; files = 0; directories = 0 }
+-- 0 and what is told, or the number and page of a refusal; every other field is 0
+abbrev pub totalsFor : Res Totals → OwfsTotals
+totalsFor (ok t) = record { number = 0; page = 0; used = t .used; files = t .files; directories = t .directories }
+totalsFor (err n p) = record { number = n; page = p; used = 0; files = 0; directories = 0 }
 
--- check over an owner table of bytes: the answer, and every byte of the table
-unfoldable pub checkAnswer : ℕ → ℕ → List ℕ → List ℕ → OwfsTotals × List ℕ
-checkAnswer P N image owners = let r = checkCall P N image (numbersOf owners) in (totalsOf (r .0), bytesWith (r .1) owners)
+abbrev pub entryFor : Res Line → OwfsEntry
+entryFor (ok x) = record {
+  number = 0;
+  page = 0;
+  level = x .level;
+  name = x .name;
+  extension = x .extension;
+  attribute = x .attribute;
+  start = x .start;
+  pages = x .pages;
+  length = x .length;
+}
+entryFor (err n p) = record { number = n; page = p; level = 0; name = 0; extension = 0; attribute = 0; start = 0; pages = 0; length = 0 }
 
--- for a contract: the numbers of an answer fit 32 bits
-abbrev pub Small : Res Totals → Type 0
-Small (ok t) = (t .used < 65536) × (t .files < 65536) × (t .directories < 65536)
-Small (err n p) = p < 131072
+abbrev pub lengthFor : Res ℕ → OwfsLength
+lengthFor (ok n) = record { number = 0; page = 0; length = n }
+lengthFor (err n p) = record { number = n; page = p; length = 0 }
+
+-- a call over an owner table of bytes: the answer, what is read, and every byte of the table
+module _ (P N : ℕ) (image owners : List ℕ) where
+  unfoldable pub checkAnswer : OwfsTotals × List ℕ
+  checkAnswer = let r = checkCall P N image (numbersOf owners) in (totalsFor (r .0), bytesWith (r .1) owners)
+
+  unfoldable pub listAnswer : ℕ → OwfsEntry × List ℕ
+  listAnswer k = let r = listCall P N image (numbersOf owners) k in (entryFor (r .0), bytesWith (r .1) owners)
+
+  unfoldable pub readAnswer : List ℕ → List ℕ → OwfsLength × List ℕ × List ℕ
+  readAnswer path out = let r = readCall P N image (numbersOf owners) path out in (lengthFor (r .0), r .1, bytesWith (r .2) owners)

@@ -1,32 +1,20 @@
-use mathlib.Core.Path.{_≡_, subst}
-use Prim.Native.Nat.{ℕ, _<_}
 use native.Mathlib.Omega.{arith}
-use Rattle.rules.specs.declared.Totals.{Totals}
-use Rattle.walk.specs.declared.Walk.{Walk}
-use Rattle.walk.specs.declared.Walk.the-variants as w
-use Rattle.volume.specs.Scans.{told}
-use Rattle.owfs.specs.Answers.{Small}
+use Rattle.owfs.proofs.Telling.{totals-told, fault-told}
 use borrow.Author.Needs.{needs}
 use Rattle.owfs.proofs.tell.Statement.{statement}
 use Rattle.owfs.proofs.tell.Tie as tie
 
-done-small : (a : Walk) (d : Totals) → Small (told a) → a ≡ w.Done d → Small (told (w.Done d))
-done-small a d h e = subst (λ (x : Walk). Small (told x)) e h
-
-refused-small : (a : Walk) (n p : ℕ) → Small (told a) → a ≡ w.Refused n p → p < 131072
-refused-small a n p h e = subst (λ (x : Walk). Small (told x)) e h
-
 cast-t6 : tie.Need-cast-t6
-cast-t6 c = omega (arith, done-small _ _ (c .before .before .before .before .pre) (c .before .before .answer .given .1) .0)
+cast-t6 c = omega (arith, totals-told _ _ (c .before .before .before .before .pre) (c .before .before .answer .given .1) .0)
 
 cast-t7 : tie.Need-cast-t7
-cast-t7 c = omega (arith, done-small _ _ (c .before .before .before .before .before .pre) (c .before .before .before .answer .given .1) .1)
+cast-t7 c = omega (arith, totals-told _ _ (c .before .before .before .before .before .pre) (c .before .before .before .answer .given .1) .1)
 
 cast-t8 : tie.Need-cast-t8
-cast-t8 c = omega (arith, done-small _ _ (c .before .before .before .before .before .before .pre) (c .before .before .before .before .answer .given .1) .2)
+cast-t8 c = omega (arith, totals-told _ _ (c .before .before .before .before .before .before .pre) (c .before .before .before .before .answer .given .1) .2)
 
 cast-t10 : tie.Need-cast-t10
-cast-t10 c = omega (arith, refused-small _ _ _ (c .before .before .before .pre) (c .before .answer2 .given .1))
+cast-t10 c = omega (arith, fault-told _ _ _ (c .before .before .before .pre) (c .before .answer2 .given .1))
 
 returns : tie.Need-returns
 returns c = rw (c .before .before .before .before .answer .given .1)

@@ -1,0 +1,31 @@
+use native.Mathlib.Omega.{arith}
+use Rattle.owfs.proofs.Telling.{entry-told, no-entry-told}
+use borrow.Author.Needs.{needs}
+use Rattle.owfs.proofs.tell_entry.Statement.{statement}
+use Rattle.owfs.proofs.tell_entry.Tie as tie
+
+cast-t6 : tie.Need-cast-t6
+cast-t6 c = omega (arith, entry-told _ _ (c .before .before .before .before .pre) (c .before .before .answer .given .1) .0)
+
+cast-t9 : tie.Need-cast-t9
+cast-t9 c = omega (arith, entry-told _ _ (c .before .before .before .before .before .before .before .pre) (c .before .before .before .before .before .answer .given .1) .1)
+
+cast-t10 : tie.Need-cast-t10
+cast-t10 c = omega (arith, entry-told _ _ (c .before .before .before .before .before .before .before .before .pre) (c .before .before .before .before .before .before .answer .given .1) .2)
+
+cast-t11 : tie.Need-cast-t11
+cast-t11 c = omega (arith, entry-told _ _ (c .before .before .before .before .before .before .before .before .before .pre) (c .before .before .before .before .before .before .before .answer .given .1) .3)
+
+cast-t13 : tie.Need-cast-t13
+cast-t13 c = omega (arith, no-entry-told _ _ _ (c .before .before .before .pre) (c .before .answer2 .given .1))
+
+returns : tie.Need-returns
+returns c = rw (c .before .before .before .before .before .before .before .answer .given .1)
+
+returns-2 : tie.Need-returns-2
+returns-2 c = rw (c .before .answer2 .given .1)
+
+pub tell-entry-spec : {M : Type 1} → statement M
+tell-entry-spec =
+    tie.close
+    (tie.spec (λ c. search needs) cast-t6 (λ c. search needs) (λ c. search needs) cast-t9 cast-t10 cast-t11 (λ c. search needs) (λ c. search needs) cast-t13 returns returns-2)

@@ -1,0 +1,22 @@
+use native.Mathlib.Omega.{arith}
+use Rattle.owfs.proofs.Telling.{length-told, no-length-told}
+use borrow.Author.Needs.{needs}
+use Rattle.owfs.proofs.tell_length.Statement.{statement}
+use Rattle.owfs.proofs.tell_length.Tie as tie
+
+cast-t6 : tie.Need-cast-t6
+cast-t6 c = omega (arith, length-told _ _ (c .before .before .before .pre) (c .before .answer .given .1))
+
+cast-t8 : tie.Need-cast-t8
+cast-t8 c = omega (arith, no-length-told _ _ _ (c .before .before .before .pre) (c .before .answer2 .given .1))
+
+returns : tie.Need-returns
+returns c = rw (c .before .answer .given .1)
+
+returns-2 : tie.Need-returns-2
+returns-2 c = rw (c .before .answer2 .given .1)
+
+pub tell-length-spec : {M : Type 1} → statement M
+tell-length-spec =
+    tie.close
+    (tie.spec (λ c. search needs) cast-t6 (λ c. search needs) (λ c. search needs) cast-t8 returns returns-2)

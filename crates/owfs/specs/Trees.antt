@@ -1,0 +1,46 @@
+-- For contracts: 0 exactly when the image is well formed, list and read give what its tree gives, and every number fits 32 bits.
+use mathlib.Core.Path.{_≡_}
+use mathlib.Core.Logic.{_↔_}
+use mathlib.Core.List.{List}
+use Prim.Native.Nat.{ℕ, _<_}
+use Rattle.rules.specs.declared.Totals.{Totals}
+use Rattle.rules.specs.declared.Line.{Line}
+use Rattle.rules.specs.Result.{Res, ok, err}
+use Rattle.rules.specs.Listing.{linesOf, lineAt}
+use Rattle.rules.specs.Calls.{readBytes, lengthOf, filled}
+use Rattle.reading.specs.CheckCall.{WellFormedAt}
+use Rattle.table.specs.Table.{numbersOf}
+use Rattle.owfs.specs.declared.OwfsTotals.{OwfsTotals}
+use Rattle.owfs.specs.declared.OwfsEntry.{OwfsEntry}
+use Rattle.owfs.specs.declared.OwfsLength.{OwfsLength}
+use Rattle.owfs.specs.Answers.{entryFor, lengthFor}
+
+module _ (P N : ℕ) (image owners : List ℕ) where
+  -- the image is well formed in the geometry that the sizes give
+  abbrev pub IsWellFormed : Type 0
+  IsWellFormed = WellFormedAt P N image (numbersOf owners)
+
+  abbrev pub AcceptsTree : OwfsTotals → Type 0
+  AcceptsTree r = (r .number ≡ 0) ↔ IsWellFormed
+
+  pub record ListsTree (k : ℕ) (r : OwfsEntry) : Type 0 where
+    pub lists : (w : IsWellFormed) → r ≡ entryFor (lineAt k (linesOf 0 (w .reading .tree)))
+    pub formed : r .number ≡ 0 → IsWellFormed
+
+  pub record ReadsTree (path out : List ℕ) (r : OwfsLength) (after : List ℕ) : Type 0 where
+    pub reads : (w : IsWellFormed) → _≡_ {A = OwfsLength × List ℕ} (r, after) (lengthFor (lengthOf (readBytes path out (w .reading))), filled out (readBytes path out (w .reading)))
+    pub formed : r .number ≡ 0 → IsWellFormed
+
+-- the numbers of an answer are small
+abbrev pub Small : {A : Type 0} → (A → Type 0) → Res A → Type 0
+Small few (ok a) = few a
+Small few (err n p) = p < 131072
+
+abbrev pub TotalsSmall : Totals → Type 0
+TotalsSmall t = (t .used < 65536) × (t .files < 65536) × (t .directories < 65536)
+
+abbrev pub LineSmall : Line → Type 0
+LineSmall x = (x .level < 65536) × (x .start < 65536) × (x .pages < 65536) × (x .length < 16777216)
+
+abbrev pub LengthSmall : ℕ → Type 0
+LengthSmall n = n < 16777216
