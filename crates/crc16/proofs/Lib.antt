@@ -1,3 +1,4 @@
 pub mod Bits
 pub mod Steps
+pub mod Table
 pub mod Tabulate

@@ -1,6 +1,6 @@
 // CRC-16 (x^16 + x^15 + x^2 + 1, least significant bit first), four bits at a time from a table of sixteen constants.
 ghost use mathlib.Core.Path.{_≡_};
-ghost use Rattle.crc16.specs.Crc16.{bitSteps, byteStep, crc16};
+ghost use Rattle.crc16.specs.Crc16.{crc16};
 
 // Four bit steps of each number from 0 to 15.
 const NIBBLES: [u16; 16] = [
@@ -22,29 +22,17 @@ const NIBBLES: [u16; 16] = [
     0x4400,
 ];
 
-// Four bits leave the register.
-fn nibble(register: u16) -> u16
-    ensures { λ r. ⌜ r ≡ bitSteps 4 register ⌝ }
-{
-    let low = (register % 16) as usize;
-    (register / 16) ^ NIBBLES[low]
-}
-
-// One byte goes into the register.
-fn add_byte(register: u16, byte: u8) -> u16
-    ensures { λ r. ⌜ r ≡ byteStep register byte ⌝ }
-{
-    nibble(nibble((byte as u16) ^ register))
-}
-
-// The register after the bytes of a slice.
+// The register after the bytes of a slice: each byte is mixed in and leaves by two nibbles. The table stands before the loop, or it is made anew for each nibble.
 pub fn crc_of(start: u16, bytes: &[u8]) -> u16
     ensures { λ r. ⌜ r ≡ crc16 start (now (bytes .entry)) ⌝ }
 {
+    let table = NIBBLES;
     let mut register = start;
     let mut i = 0;
     while i < bytes.len() {
-        register = add_byte(register, bytes[i]);
+        let mixed = (bytes[i] as u16) ^ register;
+        let half = (mixed / 16) ^ table[(mixed % 16) as usize];
+        register = (half / 16) ^ table[(half % 16) as usize];
         i += 1;
     }
     register

@@ -2,13 +2,13 @@
 use mathlib.Core.Path.{_≡_, refl, ap, ap₂, sym, _∙_}
 use mathlib.Core.Bool.{Bool, true, false}
 use mathlib.Core.List.{List, [], _∷_, _++_}
-use Prim.Native.Nat.{ℕ, zero, suc, _+_, _-_, _*_, _≤_, _<_, min}
+use Prim.Native.Nat.{ℕ, zero, suc, _+_, _-_, _*_, _/_, _≤_, _<_, min}
 use native.Mathlib.Nat.{mul-le-mul-left}
 use native.Mathlib.Omega.{arith}
 use lib.Dec.{ltb, eqb}
 use lib.ListN.{length, getD, take, drop, length-append}
 use lib.Seq.{drop-drop, getD-drop, take-take, getD-take, take-all, take-append-le, take-append-add}
-use borrow.Author.Tests.{lt-ltb, le-ltb, ltb-true, ltb-false, eq-eqb, ne-eqb}
+use borrow.Author.Tests.{lt-ltb, le-ltb, ltb-true, ltb-false, eqb-true, eqb-false, ne-eqb}
 use Rattle.geometry.specs.declared.Geometry.{Geometry}
 use Rattle.geometry.specs.Geometry.{entrySize, Valid}
 use Rattle.geometry.specs.ListLaws.{drop-of-take}
@@ -37,23 +37,35 @@ keys-take g zero k b h = refl
 keys-take g (suc m) zero b h = absurd (omega arith)
 keys-take g (suc m) (suc k) b h = ap (λ (xs : List ℕ). key (number (take 4 b)) (getD b 4 0) ∷ xs) (keys-take g m k (drop (entrySize g) b) (omega arith))
 
+-- an entry is compared by its name, then by its key
+module _ (at k x : ℕ) (page : List ℕ) (e : x ≡ number (take 4 (drop at page))) where
+  pub other-name : (x ≡ k / 128 → ⊥) → false ≡ eqb (key (number (take 4 (drop at page))) (getD page (at + 4) 0)) k
+  other-name h = sym (ne-eqb (key (number (take 4 (drop at page))) (getD page (at + 4) 0)) k (λ q. h (omega arith)))
+
+  pub same-name : (y : ℕ) → y ≡ key x (getD page (at + 4) 0) → eqb y k ≡ eqb (key (number (take 4 (drop at page))) (getD page (at + 4) 0)) k
+  same-name y f = ap (λ (z : ℕ). eqb z k) (f ∙ ap (λ (n : ℕ). key n (getD page (at + 4) 0)) e)
+
 -- ---- a search from entry i on
-module _ (g : Geometry) (page : List ℕ) (k m i at x y : ℕ) (h : i < m) (e : x ≡ number (take 4 (drop at page))) (f : y ≡ key x (getD page (at + 4) 0)) where
+module _ (g : Geometry) (page : List ℕ) (k m i at : ℕ) (h : i < m) (r : Bool) (f : r ≡ eqb (key (number (take 4 (drop at page))) (getD page (at + 4) 0)) k) where
+  abbrev y : ℕ
+  y = key (number (take 4 (drop at page))) (getD page (at + 4) 0)
+
   one : keysFrom g (m - i) (drop at page) ≡ y ∷ keysFrom g (m - (i + 1)) (drop (at + entrySize g) page)
   one =
       let s : m - i ≡ suc (m - (i + 1)) = omega arith in
-      let q : key (number (take 4 (drop at page))) (getD (drop at page) 4 0) ≡ y = ap₂ (λ (a b : ℕ). key a b) (sym e) (getD-drop at page 4 0) ∙ sym f in
+      let q : key (number (take 4 (drop at page))) (getD (drop at page) 4 0) ≡ y = ap (key (number (take 4 (drop at page)))) (getD-drop at page 4 0) in
       ap (λ (j : ℕ). keysFrom g j (drop at page)) s
       ∙ ap₂ (λ (a : ℕ) (l : List ℕ). a ∷ keysFrom g (m - (i + 1)) l) q (drop-drop (entrySize g) at page)
 
-  pub key-found : y ≡ k → mem k (keysFrom g (m - i) (drop at page)) ≡ true
-  key-found q =
+  pub key-found : r ≡ true → mem k (keysFrom g (m - i) (drop at page)) ≡ true
+  key-found t =
+      let q : y ≡ k = eqb-true y k (sym f ∙ t) in
       let c : count k (y ∷ keysFrom g (m - (i + 1)) (drop (at + entrySize g) page)) ≡ hit k y + count k (keysFrom g (m - (i + 1)) (drop (at + entrySize g) page)) = refl in
       ap (mem k) one ∙ lt-ltb 0 (count k (y ∷ keysFrom g (m - (i + 1)) (drop (at + entrySize g) page))) (omega (arith, ap (hit k) q, hit-same k))
 
-  pub key-passed : (y ≡ k → ⊥) → mem k (keysFrom g (m - i) (drop at page)) ≡ mem k (keysFrom g (m - (i + 1)) (drop (at + entrySize g) page))
-  key-passed q = ap (mem k) one ∙ elim (hits k y) [
-    | same z j ↦ absurd (q (sym z))
+  pub key-passed : r ≡ false → mem k (keysFrom g (m - i) (drop at page)) ≡ mem k (keysFrom g (m - (i + 1)) (drop (at + entrySize g) page))
+  key-passed t = ap (mem k) one ∙ elim (hits k y) [
+    | same z j ↦ absurd (eqb-false y k (sym f ∙ t) (sym z))
     | other z j ↦ let n = count k (keysFrom g (m - (i + 1)) (drop (at + entrySize g) page)) in
         let c : hit k y + n ≡ n = omega arith in
         ap (ltb 0) c

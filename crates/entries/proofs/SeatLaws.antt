@@ -23,12 +23,12 @@ use Rattle.entries.specs.Seats.{Fits, opened, openOf}
 
 -- a place at the first entry of a page that is passed
 module _ (g : Geometry) (v : View) (c : Cursor) (h : c .page < g .pages) where
-  pub open-is : (size : ℕ) (d : Cursor) (skip n e : ℕ) → step.Page size d ≡ stepOf g v c → e ≡ entrySize g → n ≡ (size - skip) / e
+  pub open-is : (size : ℕ) (d : Cursor) (skip n : ℕ) → step.Page size d ≡ stepOf g v c → n ≡ (size - skip) / entrySize g
       → _≡_ {A = Seat} (record { page = c .page; skip = skip; count = n; at = 0; next = d }) (openOf g v skip c)
   unfolding openOf
-  open-is size d skip n e f i q =
+  open-is size d skip n f q =
       let k = stepped g v c h size d f in
-      let s : n ≡ length (drop skip (k .0)) / entrySize g = q ∙ ap (λ (x : ℕ). (size - skip) / x) i ∙ ap (λ (i : ℕ). i / entrySize g) (sym (length-drop skip (k .0) ∙ ap (λ (i : ℕ). i - skip) (k .2))) in
+      let s : n ≡ length (drop skip (k .0)) / entrySize g = q ∙ ap (λ (i : ℕ). i / entrySize g) (sym (length-drop skip (k .0) ∙ ap (λ (i : ℕ). i - skip) (k .2))) in
       let j : d ≡ after c (length (k .0)) (d .page) = k .3 ∙ ap (λ (i : ℕ). after c i (d .page)) (sym (k .2)) in
       ap₂ (λ (i : ℕ) (x : Cursor). record { page = c .page; skip = skip; count = i; at = 0; next = x }) s j ∙ ap (opened g skip c) (sym (k .1))
 

@@ -6,8 +6,10 @@ use rules::Entry;
 ghost use mathlib.Core.Path.{_≡_};
 ghost use Prim.Native.Nat.{_+_, _*_, _≤_, _<_, min};
 ghost use mathlib.Core.List.{List};
-ghost use lib.ListN.{length, drop};
+ghost use lib.Dec.{eqb};
+ghost use lib.ListN.{length, getD, take, drop};
 ghost use Rattle.geometry.specs.Geometry.{entrySize, controlSize, Fit, Valid};
+ghost use Rattle.geometry.specs.Number.{number};
 ghost use Rattle.geometry.specs.Page.{pageOf};
 ghost use Rattle.packet.specs.Packet.{viewOf};
 ghost use Rattle.rules.specs.PageSets.{mem};
@@ -52,7 +54,7 @@ impl Seat {
             Step::Page(size, next) => {
                 let mut count = 0;
                 if skip <= size {
-                    count = (size - skip) / g.entry_size();
+                    count = g.entries_in(size - skip);
                 }
                 Seat {
                     page,
@@ -100,6 +102,18 @@ impl Seat {
     }
 }
 
+// Whether the entry at a place of a page has this key; its extension is read only where its name is the right one.
+fn has_key(page: &[u8], at: usize, wanted: u64) -> bool
+    requires { ⌜ (at + 5 ≤ length (now page)) × (length (now page) ≤ 256) ⌝ }
+    ensures { λ r. ⌜ r ≡ eqb (key (number (take 4 (drop at (now (page .entry))))) (getD (now (page .entry)) (at + 4) 0)) wanted ⌝ }
+{
+    let name = geometry::number_at(page, at, 4) as u32;
+    if (name as u64) != wanted / 128 {
+        return false;
+    }
+    key_of(name, page[at + 4]) == wanted
+}
+
 // Whether one of the first m entries that stand from a place of a page on has this key.
 fn page_has(page: &[u8], from: usize, m: usize, key: u64, g: Geometry) -> bool
     requires { ⌜ Valid g ⌝ }
@@ -109,8 +123,7 @@ fn page_has(page: &[u8], from: usize, m: usize, key: u64, g: Geometry) -> bool
     let mut at = from;
     let mut i = 0;
     while i < m {
-        let name = geometry::number_at(page, at, 4);
-        if key_of(name as u32, page[at + 4]) == key {
+        if has_key(page, at, key) {
             return true;
         }
         at += g.entry_size();

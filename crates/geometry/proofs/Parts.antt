@@ -1,14 +1,29 @@
 -- A part that was lent and filled, said of the whole.
 use mathlib.Core.Path.{_≡_, refl, ap, sym, _∙_}
 use mathlib.Core.List.{List, [], _∷_, _++_, append-nil}
-use Prim.Native.Nat.{ℕ, _+_, _-_, _^_, _≤_, _<_}
+use Prim.Native.Nat.{ℕ, suc, _+_, _-_, _*_, _^_, _≤_, _<_}
 use native.Mathlib.Nat.{add-sub-cancel-left}
 use native.Mathlib.Omega.{arith}
-use lib.ListN.{length, take, drop, length-take, length-drop, drop-of-length-le}
-use lib.Seq.{take-length, length-take-le}
+use lib.ListN.{length, getD, take, drop, length-take, length-drop, drop-of-length-le}
+use lib.Seq.{drop-cons, take-length, length-take-le}
 use Rattle.geometry.specs.Number.{number, numberBytes}
 use Rattle.geometry.specs.NumberLaws.{length-number}
 use Rattle.geometry.specs.Page.{overwritten}
+
+-- a number of one byte, and of two, read byte by byte
+module _ (at n x y : ℕ) (b : List ℕ) (h : at + n ≤ length b) (e : (x ≡ getD b at 0) × (x < 256)) where
+  pub one-byte : n ≡ 1 → (x ≡ number (take n (drop at b))) × (x < 256 ^ n)
+  one-byte k =
+      let d : number (take 1 (drop at b)) ≡ getD b at 0 = ap (λ (l : List ℕ). number (take 1 l)) (drop-cons b at 0 (omega arith)) ∙ omega arith in
+      rw k (omega arith, omega arith)
+
+  pub two-bytes : n ≡ 2 → (y ≡ getD b (at + 1) 0) × (y < 256) → (x + 256 * y ≡ number (take n (drop at b))) × (x + 256 * y < 256 ^ n)
+  two-bytes k f =
+      let s : at + 1 ≡ suc at = omega arith in
+      let d : number (take 2 (drop at b)) ≡ getD b at 0 + 256 * getD b (suc at) 0 =
+      ap (λ (l : List ℕ). number (take 2 l)) (drop-cons b at 0 (omega arith))
+      ∙ ap (λ (l : List ℕ). getD b at 0 + 256 * number (take 1 l)) (drop-cons b (suc at) 0 (omega arith)) ∙ omega arith in
+      rw k (omega (arith, ap (λ (j : ℕ). getD b j 0) s), omega arith)
 
 -- a number read from a part
 pub number-read : (at n x : ℕ) (b : List ℕ) → at + n ≤ length b → x ≡ number (take (at + n - at) (drop at b)) → x < 256 ^ length (take (at + n - at) (drop at b))

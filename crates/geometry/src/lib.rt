@@ -1,6 +1,6 @@
 // The sizes of an image, numbers of n bytes, and an image's pages.
 ghost use mathlib.Core.Path.{_≡_};
-ghost use Prim.Native.Nat.{ℕ, _+_, _*_, _^_, _≤_, _<_};
+ghost use Prim.Native.Nat.{ℕ, _+_, _*_, _/_, _^_, _≤_, _<_};
 ghost use lib.ListN.{length, take, drop};
 ghost use Rattle.geometry.specs.Geometry.{geometryOf, dataCapacity, entrySize, controlSize, firstEntries, laterEntries, bitmapSize, Valid, Fit};
 ghost use Rattle.geometry.specs.Number.{number, numberBytes};
@@ -108,6 +108,17 @@ impl Geometry {
         MARKER_BYTES + self.width + BITMAP_CONTROL_BYTES + BITMAP_FIELD_BYTES
     }
 
+    // Entries that so many bytes hold; the divisor is a constant either way.
+    pub fn entries_in(self, bytes: usize) -> usize
+        requires { ⌜ Valid self ⌝ }
+        ensures { λ r. ⌜ r ≡ bytes / entrySize self ⌝ }
+    {
+        if self.width == 1 {
+            return bytes / (NAME_BYTES + EXTENSION_BYTES + 2);
+        }
+        bytes / (NAME_BYTES + EXTENSION_BYTES + 4)
+    }
+
     // Entries that fit in a directory's first page.
     pub fn first_entries(self) -> usize
         requires { ⌜ Valid self ⌝ }
@@ -154,11 +165,17 @@ fn read_number(bytes: &[u8]) -> usize
     value
 }
 
-// The number of n bytes from a place of a slice on.
+// The number of n bytes from a place of a slice on; one and two bytes, as a page number has, without a loop.
 pub fn number_at(bytes: &[u8], at: usize, n: usize) -> usize
     requires { ⌜ (n ≤ 4) × (at + n ≤ length (now bytes)) ⌝ }
     ensures { λ r. ⌜ (r ≡ number (take n (drop at (now (bytes .entry))))) × (r < 256 ^ n) ⌝ }
 {
+    if n == 1 {
+        return wide(bytes[at]);
+    }
+    if n == 2 {
+        return wide(bytes[at]) + 256 * wide(bytes[at + 1]);
+    }
     let end = at + n;
     read_number(&bytes[at..end])
 }

@@ -19,46 +19,35 @@ abbrev μ-loop : tie.MeasureT-loop
 loop-holds : tie.Need-loop-holds Inv-loop μ-loop
 loop-holds c = let a = c .before .args in (omega arith, omega arith, keys-begin _ (a .page .now) (a .key) (a .m) (a .from))
 
-number-at-requires : tie.Need-number-at-requires Inv-loop μ-loop
-number-at-requires c κs =
-    let l = c .before .loop .inv in
-    let k = at-entry _ _ _ _ _ _ (c .before .before .before .pre .0) (c .before .before .before .pre .1 .0) (c .loop-test .taken) (l .1) in
+has-key-requires : tie.Need-has-key-requires Inv-loop μ-loop
+has-key-requires c κs =
+    let s = c .before .before .before .pre in
+    let k = at-entry _ _ _ _ _ _ (s .0) (s .1 .0) (c .loop-test .taken) (c .before .loop .inv .1) in
     (omega arith, omega arith)
-
-cast-key-of : tie.Need-cast-key-of Inv-loop μ-loop
-cast-key-of c = let n = c .number-at .ensures .1 in search needs
-
-add-key-of : tie.Need-add-key-of Inv-loop μ-loop
-add-key-of c =
-    let k = at-entry _ _ _ _ _ _ (c .before .before .before .before .pre .0) (c .before .before .before .before .pre .1 .0) (c .before .loop-test .taken) (c .before .before .loop .inv .1) in
-    let l = c .before .before .before .before .pre .1 .1 in
-    search needs
-
-shared-slice-read-key-of : tie.Need-shared-slice-read-key-of Inv-loop μ-loop
-shared-slice-read-key-of c =
-    let k = at-entry _ _ _ _ _ _ (c .before .before .before .before .before .pre .0) (c .before .before .before .before .before .pre .1 .0) (c .before .before .loop-test .taken) (c .before .before .before .loop .inv .1) in
-    omega arith
 
 returns : tie.Need-returns Inv-loop μ-loop
 returns c =
-    let a = c .before .before .before .before .before .before .before .args in
-    let l = c .before .before .before .before .before .loop in
-    sym (l .inv .2 ∙ key-found _ (a .page .now) _ (a .m) (l .i) (l .at) _ _ (c .before .before .before .before .loop-test .taken) (c .before .before .before .number-at .ensures .0) (c .before .key-of .ensures) (c .if1 .taken))
+    let a = c .before .before .before .before .before .args in
+    let l = c .before .before .before .loop in
+    sym (l .inv .2 ∙ key-found _ (a .page .now) _ (a .m) (l .i) (l .at) (c .before .before .loop-test .taken) _ (c .before .has-key .ensures) (c .if1 .taken))
 
 add-at : tie.Need-add-at Inv-loop μ-loop
 add-at c =
-    let k = at-entry _ _ _ _ _ _ (c .before .before .before .before .before .before .before .before .pre .0) (c .before .before .before .before .before .before .before .before .pre .1 .0) (c .before .before .before .before .before .loop-test .taken) (c .before .before .before .before .before .before .loop .inv .1) in
-    let l = c .before .before .before .before .before .before .before .before .pre .1 .1 in
+    let s = c .before .before .before .before .before .before .pre in
+    let k = at-entry _ _ _ _ _ _ (s .0) (s .1 .0) (c .before .before .before .loop-test .taken) (c .before .before .before .before .loop .inv .1) in
+    let l = s .1 .1 in
     let e = c .entry-size .ensures .0 in
     search needs
 
 loop-again : tie.Need-loop-again Inv-loop μ-loop
 loop-again c =
-    let a = c .before .before .before .before .before .before .before .before .args in
-    let l = c .before .before .before .before .before .before .loop in
+    let a = c .before .before .before .before .before .before .args in
+    let s = c .before .before .before .before .before .before .pre in
+    let l = c .before .before .before .before .loop in
+    let t = c .before .before .before .loop-test .taken in
     let e = c .entry-size .ensures .0 in
-    let k = at-entry _ _ _ _ _ _ (c .before .before .before .before .before .before .before .before .pre .0) (c .before .before .before .before .before .before .before .before .pre .1 .0) (c .before .before .before .before .before .loop-test .taken) (l .inv .1) in
-    (omega arith, omega arith, l .inv .2 ∙ key-passed _ (a .page .now) _ (a .m) (l .i) (l .at) _ _ (c .before .before .before .before .before .loop-test .taken) (c .before .before .before .before .number-at .ensures .0) (c .before .before .key-of .ensures) (c .before .if1 .left) ∙ ap (λ (x : ℕ). mem (a .key) (keysFrom (a .g) (a .m - (l .i + 1)) (drop (l .at + x) (a .page .now)))) (sym e))
+    let k = at-entry _ _ _ _ _ _ (s .0) (s .1 .0) t (l .inv .1) in
+    (omega arith, omega arith, l .inv .2 ∙ key-passed _ (a .page .now) _ (a .m) (l .i) (l .at) t _ (c .before .before .has-key .ensures) (c .before .if1 .left) ∙ ap (λ (x : ℕ). mem (a .key) (keysFrom (a .g) (a .m - (l .i + 1)) (drop (l .at + x) (a .page .now)))) (sym e))
 
 returns-2 : tie.Need-returns-2 Inv-loop μ-loop
 returns-2 c =
@@ -69,4 +58,4 @@ returns-2 c =
 pub page-has-spec : {M : Type 1} → statement M
 page-has-spec =
     tie.close
-    (tie.spec Inv-loop μ-loop loop-holds number-at-requires cast-key-of add-key-of shared-slice-read-key-of (λ c κs. search needs) returns (λ c κs. search needs) add-at (λ c. search needs) (λ c. search needs) loop-again returns-2)
+    (tie.spec Inv-loop μ-loop loop-holds has-key-requires returns (λ c κs. search needs) add-at (λ c. search needs) (λ c. search needs) loop-again returns-2)

@@ -1,12 +1,18 @@
-use Rattle.geometry.proofs.Parts.{number-read}
+use Rattle.geometry.proofs.Parts.{one-byte, two-bytes, number-read}
 use borrow.Author.Needs.{needs}
 use Rattle.geometry.proofs.number_at.Statement.{statement}
 use Rattle.geometry.proofs.number_at.Tie as tie
 
 returns : tie.Need-returns
-returns c = number-read _ _ _ _ (c .before .before .before .pre .1) (c .read-number .ensures .0) (c .read-number .ensures .1)
+returns c = one-byte _ _ _ 0 _ (c .before .before .before .before .pre .1) (c .wide .ensures) (c .before .before .if1 .taken)
+
+returns-2 : tie.Need-returns-2
+returns-2 c = two-bytes _ _ _ _ _ (c .before .before .before .before .before .before .before .pre .1) (c .before .before .wide2 .ensures) (c .before .before .before .before .if2 .taken) (c .wide3 .ensures)
+
+returns-3 : tie.Need-returns-3
+returns-3 c = number-read _ _ _ _ (c .before .before .before .before .before .pre .1) (c .read-number .ensures .0) (c .read-number .ensures .1)
 
 pub number-at-spec : {M : Type 1} → statement M
 number-at-spec =
     tie.close
-    (tie.spec (λ c. search needs) (λ c. search needs) (λ c. search needs) (λ c. search needs) (λ c κs. search needs) returns)
+    (tie.spec (λ c. search needs) (λ c κs. search needs) returns (λ c. search needs) (λ c κs. search needs) (λ c. search needs) (λ c. search needs) (λ c κs. search needs) (λ c. search needs) (λ c. search needs) returns-2 (λ c. search needs) (λ c. search needs) (λ c. search needs) (λ c. search needs) (λ c κs. search needs) returns-3)

@@ -1,4 +1,4 @@
-use mathlib.Core.Path.{refl, sym, _∙_}
+use mathlib.Core.Path.{sym, _∙_}
 use Rattle.entries.proofs.SeatLaws.{open-is, none-left}
 use borrow.Author.Needs.{needs}
 use Rattle.entries.proofs.Seat.begin.Statement.{statement}
@@ -13,14 +13,14 @@ returns c =
 returns-2 : tie.Need-returns-2
 returns-2 c =
     let s = c .before .before .before .before .before .before .before .pre .1 in
-    open-is _ _ _ (s .1) _ _ _ _ _ (sym (c .before .before .before .size .given .1) ∙ c .before .before .before .before .before .step .ensures) (c .entry-size .ensures .0) refl
+    open-is _ _ _ (s .1) _ _ _ _ (sym (c .before .before .before .size .given .1) ∙ c .before .before .before .before .before .step .ensures) (c .entries-in .ensures)
 
 returns-3 : tie.Need-returns-3
 returns-3 c =
     let s = c .before .before .before .before .before .before .pre .1 in
-    open-is _ _ _ (s .1) _ _ _ _ _ (sym (c .before .before .size .given .1) ∙ c .before .before .before .before .step .ensures) refl (none-left _ _ _ (c .if1 .left))
+    open-is _ _ _ (s .1) _ _ _ _ (sym (c .before .before .size .given .1) ∙ c .before .before .before .before .step .ensures) (none-left _ _ _ (c .if1 .left))
 
 pub begin-spec : {M : Type 1} → statement M
 begin-spec =
     tie.close
-    (tie.spec (λ c κs. search needs) (λ c. search needs) (λ c. search needs) (λ c κs. search needs) (λ c. search needs) returns returns-2 returns-3)
+    (tie.spec (λ c κs. search needs) (λ c. search needs) (λ c. search needs) (λ c κs. search needs) returns returns-2 returns-3)
