@@ -44,7 +44,62 @@ struct owfs_totals {
  * `owners` are bytes, two for each page, low byte first; at least 2 * page_count of them are needed (1). Afterwards the number of a page is
  * 0 if it is free, 1 in the root, 2 in the bitmap file, 3 + k in the entry at walk position k; all are 0 after the faults 2 to 13.
  * After 1 no byte is changed; bytes past the first 2 * page_count never change. Any arguments are taken. Image and owners must not overlap.
- * Stack: 131 KiB, for a table of 65,535 numbers, and some more. */
+ * Stack: 131,070 bytes for a table of 65,535 numbers, and less than 8 KiB more, however many entries a directory has. */
 struct owfs_totals owfs_check(uint32_t page_length, uint32_t page_count, const uint8_t *image, size_t image_length, uint8_t *owners, size_t owners_length);
+
+/* What a listing answers: number 0, page 0 and what a line of `list` shows, or a refusal's number and page with every other field 0, also the name. */
+struct owfs_entry {
+    uint32_t number;
+    uint32_t page;
+    uint32_t level;       /* of the directory that holds the entry, 0 for the root */
+    uint32_t name;        /* its four bytes as stored, blanks too, the first byte lowest */
+    uint32_t extension;   /* the extension number: 0 to 99 a file, 127 a directory */
+    uint32_t attribute;   /* 1 for a read-only file or a hidden directory, else 0 */
+    uint32_t start;       /* start page */
+    uint32_t pages;       /* pages as in the entry, 0 for a directory */
+    uint32_t length;      /* bytes of a file, 0 for a directory */
+};
+
+/* Checks an image as owfs_check does, then tells the entry at `position` in walk order. The image is not written.
+ * Walk order: a directory's entries in chain order, and right after a subdirectory's entry all entries below it. The root's first entry has position 0.
+ *
+ * number  meaning                                                  page
+ *      0  done                                                     0
+ *   1-13  the check's faults, as for owfs_check                    as there
+ *     15  position at or past the end                              0
+ *
+ * `owners` are left as owfs_check leaves them, after 15 too: at least 2 * page_count bytes are needed (1); all numbers are 0 after the faults
+ * 2 to 13; after 1 no byte is changed; bytes past the first 2 * page_count never change. Any arguments are taken; a position of any size past the
+ * end is 15. Image and owners must not overlap.
+ * Stack: 131,070 bytes for a table of 65,535 numbers, and less than 8 KiB more, however many entries a directory has. */
+struct owfs_entry owfs_list(uint32_t page_length, uint32_t page_count, const uint8_t *image, size_t image_length, uint8_t *owners, size_t owners_length,
+                            uint32_t position);
+
+/* What a read answers: number 0, page 0 and the file's length in bytes, or a refusal's number and page with length 0. */
+struct owfs_length {
+    uint32_t number;
+    uint32_t page;
+    uint32_t length;
+};
+
+/* Checks an image as owfs_check does, then copies a file to the front of `out` and tells its length. Image and path are not written.
+ * A path is none to eight directory names of four bytes each, the highest directory first, then the file's name of four bytes and one byte 0 to 99,
+ * its extension number. Names are as stored, filled with blanks. Read-only files and files below hidden directories are read like others.
+ *
+ * number  meaning, in the order in which it is judged              page
+ *      0  done                                                     0
+ *   1-13  the check's faults, as for owfs_check                    as there
+ *     14  path malformed: its length, a name or its last byte      0
+ *     15  directory or file absent                                 0
+ *     18  output shorter than the file                             0
+ *
+ * After 0 the first `length` bytes of `out` are the file's and the rest of it is as before; a refusal changes no byte of it. An output of just the
+ * file's length is enough.
+ * `owners` are left as owfs_check leaves them, after 14, 15 and 18 too: at least 2 * page_count bytes are needed (1); all numbers are 0 after the
+ * faults 2 to 13; after 1 no byte is changed; bytes past the first 2 * page_count never change. Any arguments are taken. Image, path, output and
+ * owners must not overlap.
+ * Stack: 131,070 bytes for a table of 65,535 numbers, and less than 8 KiB more, however many entries a directory has. */
+struct owfs_length owfs_read(uint32_t page_length, uint32_t page_count, const uint8_t *image, size_t image_length, const uint8_t *path, size_t path_length,
+                             uint8_t *out, size_t out_length, uint8_t *owners, size_t owners_length);
 
 #endif

@@ -1,6 +1,32 @@
 //! The check: known vectors, and the pages that document 001 prints.
 
+use referee::rng::Rng;
 use referee::{check_bytes, crc16};
+
+/// The register after `bytes`, worked bit by bit: each bit that leaves it and is 1 subtracts the polynomial.
+fn bit_by_bit(start: u16, bytes: &[u8]) -> u16 {
+    let mut register = start;
+    for byte in bytes {
+        for bit in 0..8 {
+            let leaving = (register ^ u16::from(byte >> bit)) & 1;
+            register = (register >> 1) ^ (leaving * 0xA001);
+        }
+    }
+    register
+}
+
+#[test]
+fn four_bits_at_a_time_is_bit_by_bit() {
+    for start in 0..=u16::MAX {
+        assert_eq!(crc16(start, &[0x5A]), bit_by_bit(start, &[0x5A]));
+    }
+    let mut rng = Rng::new(0x27);
+    for length in 0..300 {
+        let bytes = rng.bytes(length);
+        let start = rng.next_u64() as u16;
+        assert_eq!(crc16(start, &bytes), bit_by_bit(start, &bytes), "{length}");
+    }
+}
 
 #[test]
 fn worked_step_of_application_note_27() {

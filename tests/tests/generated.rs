@@ -2,29 +2,12 @@
 
 mod common;
 
+use common::generators::{deep_image, random_sizes};
 use common::{answer, numbers, Button, Seed};
 use referee::builder::fault::{with_fault, with_random_changes};
 use referee::builder::plan::{Built, ChainOf};
-use referee::builder::random::{random_image, random_plan, Shape};
-use referee::geometry::Geometry;
+use referee::builder::random::random_image;
 use referee::rng::Rng;
-
-/// A random page length and page count; small ones are frequent, and those around the limits too.
-fn random_sizes(rng: &mut Rng, most_pages: usize) -> (u32, u32) {
-    let lengths = [32, 33, 34, 38, 39, 40, 64, 128, 255, 256];
-    let counts = [2, 3, 7, 8, 9, 16, 31, 32, 33, 255, 256, 257, 258, 300];
-    let page_length = if rng.chance(50) {
-        lengths[rng.below(lengths.len())]
-    } else {
-        rng.between(32, 256)
-    };
-    let page_count = if rng.chance(60) {
-        counts[rng.below(counts.len())]
-    } else {
-        rng.between(2, most_pages)
-    };
-    (page_length as u32, page_count.min(most_pages) as u32)
-}
 
 /// Demands the answers that the plan gives from check, list and read.
 fn agrees(built: &Built, rng: &mut Rng) {
@@ -100,28 +83,13 @@ fn one_fault() {
     }
 }
 
-/// A shape with nested directories down to level eight.
-fn deep_shape(geometry: &Geometry, rng: &mut Rng) -> Shape {
-    Shape {
-        deep: true,
-        free_pages: 0,
-        least_entries: 2,
-        most_entries: 5,
-        most_file_pages: 2,
-        ..Shape::random(geometry, rng)
-    }
-}
-
 #[test]
 fn nested_too_deep() {
     let mut made = 0;
     for seed in 4_500..4_800 {
         let _seed = Seed(seed);
         let mut rng = Rng::new(seed);
-        let (page_length, page_count) = (rng.between(32, 256) as u32, rng.between(20, 300) as u32);
-        let geometry = Geometry::new(page_length, page_count).expect("limits");
-        let shape = deep_shape(&geometry, &mut rng);
-        let built = random_plan(page_length, page_count, shape, &mut rng).build();
+        let built = deep_image(&mut rng);
         if let Some((image, expected)) = with_fault(&built, 12, &mut rng) {
             let button = Button {
                 image,

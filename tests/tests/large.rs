@@ -4,27 +4,9 @@ mod common;
 
 use std::time::Instant;
 
+use common::generators::largest_image;
 use common::{answer, numbers, Button, Seed};
-use referee::builder::plan::{Built, Fill};
-use referee::builder::random::{random_plan, Shape};
-use referee::rng::Rng;
-
-/// An image of 65,535 pages of 256 bytes.
-fn largest(entries: usize, file_pages: usize, seed: u64) -> Built {
-    let shape = Shape {
-        local_bitmap: false,
-        scattered: true,
-        free_pages: 0,
-        least_entries: entries,
-        most_entries: entries,
-        most_file_pages: file_pages,
-        directory_percent: 0,
-        deep: false,
-        odd_packet_percent: 0,
-        fill: Fill::Byte(0xFF),
-    };
-    random_plan(256, 65_535, shape, &mut Rng::new(seed)).build()
-}
+use referee::builder::plan::Built;
 
 /// Checks and prints the time of it.
 fn check_timed(what: &str, built: &Built) {
@@ -39,7 +21,7 @@ fn check_timed(what: &str, built: &Built) {
 #[test]
 fn fifty_thousand_entries_in_one_directory() {
     let _seed = Seed(71);
-    let built = largest(50_000, 1, 71);
+    let built = largest_image(256, 50_000, 1, 0, 71);
     assert_eq!(built.totals.files, 50_000);
     check_timed("50,000 entries", &built);
 }
@@ -48,7 +30,7 @@ fn fifty_thousand_entries_in_one_directory() {
 #[test]
 fn every_page_in_use() {
     let _seed = Seed(72);
-    let built = largest(65_535, 1, 72);
+    let built = largest_image(256, 65_535, 1, 0, 72);
     assert_eq!(built.totals.used, 65_535);
     check_timed("all pages, short files", &built);
     let mut button = Button::from(&built);
@@ -61,7 +43,7 @@ fn every_page_in_use() {
 #[test]
 fn long_files() {
     let _seed = Seed(73);
-    let built = largest(40, 6_000, 73);
+    let built = largest_image(256, 40, 6_000, 0, 73);
     assert!(built.totals.used > 60_000);
     check_timed("long files", &built);
 }

@@ -2,21 +2,12 @@
 
 mod common;
 
+use common::dumps::dump;
 use common::{answer, Button};
 use referee::builder::pages::Pages;
 use referee::builder::random::random_image;
 use referee::list_text;
 use referee::rng::Rng;
-
-/// A dump: header, bytes up to the offset, image.
-fn dump(page_length: u16, page_count: u16, offset: u32, image: &[u8]) -> Vec<u8> {
-    let mut dump = page_length.to_le_bytes().to_vec();
-    dump.extend(page_count.to_le_bytes());
-    dump.extend(offset.to_le_bytes());
-    dump.resize((offset as usize).clamp(8, 40_000), 0xB7);
-    dump.extend_from_slice(image);
-    dump
-}
 
 /// The text that `list` prints for a dump.
 fn text(dump: &[u8]) -> String {

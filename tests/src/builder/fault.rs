@@ -1,6 +1,6 @@
-//! Images with one fault, whose number and page are known by construction.
+//! Images with one fault, whose number and page are known by construction; with two faults; with bytes changed at random.
 //!
-//! Each alteration leaves everything that the check meets before it as it was.
+//! Each alteration for a fault leaves everything that the check meets before it as it was.
 
 use super::pages::Pages;
 use super::plan::{Built, BuiltChain, BuiltEntry, ChainOf};
@@ -13,10 +13,29 @@ type Faulty = (Vec<u8>, Answer);
 /// Alters a built image so that the check answers `number` (2 to 13).
 /// None if the image has no place for such a fault, or no place was found by chance.
 pub fn with_fault(built: &Built, number: u32, rng: &mut Rng) -> Option<Faulty> {
+    altered(built, &built.image, number, rng)
+}
+
+/// Alters a built image twice, for two faults (2 to 13 each); which of them the check meets is left open.
+/// The second alteration may undo the first. None if there is no place for one of them.
+pub fn with_two_faults(built: &Built, numbers: [u32; 2], rng: &mut Rng) -> Option<Vec<u8>> {
+    // A broken packet comes last, since the other alterations need sound packets.
+    let [first, second] = if numbers[0] == 2 {
+        [numbers[1], numbers[0]]
+    } else {
+        numbers
+    };
+    let (image, _) = altered(built, &built.image, first, rng)?;
+    let (image, _) = altered(built, &image, second, rng)?;
+    Some(image)
+}
+
+/// Alters an image with the pages of `built` for one fault.
+fn altered(built: &Built, image: &[u8], number: u32, rng: &mut Rng) -> Option<Faulty> {
     for _ in 0..30 {
         let mut work = Alteration {
             built,
-            pages: Pages::of(built.page_length, built.page_count, &built.image),
+            pages: Pages::of(built.page_length, built.page_count, image),
             rng,
         };
         if let Some(page) = work.make(number) {
@@ -28,6 +47,23 @@ pub fn with_fault(built: &Built, number: u32, rng: &mut Rng) -> Option<Faulty> {
         }
     }
     None
+}
+
+/// Flips some bits of packets in use and computes their checks again; length bytes stay.
+pub fn with_sealed_flips(built: &Built, rng: &mut Rng) -> Vec<u8> {
+    let mut pages = Pages::of(built.page_length, built.page_count, &built.image);
+    for _ in 0..rng.between(1, 3) {
+        let Some(chain) = rng.pick(&built.chains) else {
+            break;
+        };
+        let Some(&page) = rng.pick(&chain.pages) else {
+            break;
+        };
+        let place = rng.between(1, usize::from(pages.page(page)[0]));
+        let byte = pages.page(page)[place] ^ 1 << rng.below(8);
+        pages.alter(page, place, &[byte]);
+    }
+    pages.image
 }
 
 /// Alters some bytes of packets in use and computes their checks again, so that any fault or none may follow.
@@ -196,8 +232,11 @@ impl<'a> Alteration<'a> {
     fn packet(&mut self) -> Option<usize> {
         let page = self.used_page()?;
         let length = self.length(page);
-        let variant = self.rng.below(4);
         let (n, most) = (self.n(), self.pages.geometry.max_packet_length());
+        if !(n..=most).contains(&length) {
+            return None;
+        }
+        let variant = self.rng.below(4);
         let too_long = self.rng.between(most + 1, 255) as u8;
         let too_short = self.rng.below(n) as u8;
         let bits = self.nonzero();

@@ -1,5 +1,15 @@
-//! Calls with the promises that hold for every call, and help for the tests.
+//! Calls of the second program with the promises that hold for every call, and help for the tests.
+//!
+//! `library` has the exported functions, `both` calls them and the second program side by side, `generators` has what they are called with,
+//! `dumps` makes dumps and runs the program `list`.
 #![allow(dead_code)]
+
+pub mod both;
+pub mod dumps;
+pub mod generators;
+pub mod library;
+
+use std::collections::BTreeMap;
 
 use referee::builder::pages::Pages;
 use referee::builder::plan::Built;
@@ -269,6 +279,41 @@ impl Drop for Seed {
     fn drop(&mut self) {
         if std::thread::panicking() {
             eprintln!("failed with seed {}", self.0);
+        }
+    }
+}
+
+/// Counts by label, so that a test can demand that every kind of case was met.
+#[derive(Debug, Default)]
+pub struct Tally {
+    counts: BTreeMap<String, u32>,
+}
+
+impl Tally {
+    /// Counts a label once more.
+    pub fn add(&mut self, label: impl Into<String>) {
+        *self.counts.entry(label.into()).or_default() += 1;
+    }
+
+    /// Demands that each label was counted at least so many times.
+    pub fn demand(&self, least: u32, labels: &[&str]) {
+        for &label in labels {
+            let count = self.counts.get(label).copied().unwrap_or(0);
+            assert!(count >= least, "{label}: {count} times, {self:#?}");
+        }
+    }
+
+    /// Demands that a call answered each of these numbers at least so many times.
+    pub fn demand_numbers(&self, call: &str, least: u32, numbers: impl IntoIterator<Item = u32>) {
+        for number in numbers {
+            self.demand(least, &[&format!("{call} {number}")]);
+        }
+    }
+
+    /// Prints all counts.
+    pub fn print(&self) {
+        for (label, count) in &self.counts {
+            println!("{count:8} {label}");
         }
     }
 }

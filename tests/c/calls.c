@@ -1,0 +1,196 @@
+/* Calls check, list and read as firmware calls them, with numbers and byte slices, and prints each answer and each byte lent.
+ *
+ * The argument names a file: page length and page count (4 bytes each, low byte first), then the image, which ends the file.
+ * Standard input has the calls; a number is 4 bytes, low byte first:
+ *
+ *   c  bytes of the owner table
+ *   l  bytes of the owner table, position
+ *   r  bytes of the owner table, bytes of the path, bytes of the output, then the path
+ *   s  bytes of stack to use in blocks of 1,024, to show that a limit of the stack holds
+ *
+ * For each call it prints the letter and the fields of the answer, then a line with the owner table and for `r` one with the output, in hexadecimal.
+ * Owner table and output hold the byte C7 before each call. A slice of no bytes has no address.
+ * It ends with 1 if a call changed the image, the path, or bytes next to a lent slice, and with 2 if its input is not as above.
+ */
+#include <inttypes.h>
+#include <stdio.h>
+#include <stdlib.h>
+#include <string.h>
+
+#include "owfs.h"
+
+enum {
+    MOST_IMAGE = 256 * 65535 + 1024,
+    MOST_OWNERS = 150000,
+    MOST_PATH = 4096,
+    MOST_OUT = 1 << 20,
+    MARGIN = 64,
+    BLOCK = 1024,
+    BEFORE = 0xC7
+};
+
+/* A buffer with a margin before and after the bytes that are lent. */
+struct lent {
+    uint8_t *bytes;
+    size_t length;
+};
+
+static uint8_t image[MOST_IMAGE], image_before[MOST_IMAGE];
+static uint8_t owner_bytes[MARGIN + MOST_OWNERS + MARGIN];
+static uint8_t out_bytes[MARGIN + MOST_OUT + MARGIN];
+static uint8_t path[MOST_PATH], path_before[MOST_PATH];
+static size_t image_length;
+static uint32_t page_length, page_count;
+
+/* Ends the program because its input is not as it must be. */
+static void wrong_input(const char *what)
+{
+    fprintf(stderr, "%s\n", what);
+    exit(2);
+}
+
+/* Ends the program because a call wrote where it must not. */
+static void wrong_write(const char *what)
+{
+    fprintf(stderr, "%s changed\n", what);
+    exit(1);
+}
+
+/* A number of 4 bytes, low byte first. */
+static uint32_t number(FILE *file)
+{
+    uint8_t four[4];
+    if (fread(four, 1, sizeof four, file) != sizeof four)
+        wrong_input("a number is missing");
+    return four[0] | (uint32_t)four[1] << 8 | (uint32_t)four[2] << 16 | (uint32_t)four[3] << 24;
+}
+
+/* A length of at most `most`. */
+static size_t length_up_to(size_t most)
+{
+    uint32_t length = number(stdin);
+    if (length > most)
+        wrong_input("a length is too great");
+    return length;
+}
+
+/* Reads page length, page count and image. */
+static void read_image(const char *name)
+{
+    FILE *file = fopen(name, "rb");
+    if (file == NULL)
+        wrong_input("no image");
+    page_length = number(file);
+    page_count = number(file);
+    image_length = fread(image, 1, sizeof image, file);
+    memcpy(image_before, image, image_length);
+    fclose(file);
+}
+
+/* Lends `length` bytes of a buffer, all with the same byte before the call; none of them has no address. */
+static struct lent lend(uint8_t *buffer, size_t length)
+{
+    struct lent lent = {length == 0 ? NULL : buffer + MARGIN, length};
+    memset(buffer, BEFORE, MARGIN + length + MARGIN);
+    return lent;
+}
+
+/* Sees that the margins of a lent buffer are as before. */
+static void see_margins(const uint8_t *buffer, size_t length, const char *what)
+{
+    for (size_t place = 0; place < MARGIN; place++)
+        if (buffer[place] != BEFORE || buffer[MARGIN + length + place] != BEFORE)
+            wrong_write(what);
+}
+
+/* Prints bytes in hexadecimal. */
+static void print_bytes(const struct lent *lent)
+{
+    static const char digits[] = "0123456789abcdef";
+    for (size_t place = 0; place < lent->length; place++) {
+        putchar(digits[lent->bytes[place] >> 4]);
+        putchar(digits[lent->bytes[place] & 15]);
+    }
+    putchar('\n');
+}
+
+/* After a call: sees that nothing but the lent slices was written, and prints the owner table. */
+static void after_call(const struct lent *owners)
+{
+    if (memcmp(image, image_before, image_length) != 0)
+        wrong_write("image");
+    see_margins(owner_bytes, owners->length, "margin of the owner table");
+    print_bytes(owners);
+}
+
+/* c: a check. */
+static void call_check(void)
+{
+    struct lent owners = lend(owner_bytes, length_up_to(MOST_OWNERS));
+    struct owfs_totals told = owfs_check(page_length, page_count, image, image_length, owners.bytes, owners.length);
+    printf("c %" PRIu32 " %" PRIu32 " %" PRIu32 " %" PRIu32 " %" PRIu32 "\n", told.number, told.page, told.used, told.files, told.directories);
+    after_call(&owners);
+}
+
+/* l: a listing. */
+static void call_list(void)
+{
+    struct lent owners = lend(owner_bytes, length_up_to(MOST_OWNERS));
+    uint32_t position = number(stdin);
+    struct owfs_entry told = owfs_list(page_length, page_count, image, image_length, owners.bytes, owners.length, position);
+    printf("l %" PRIu32 " %" PRIu32 " %" PRIu32 " %" PRIu32 " %" PRIu32, told.number, told.page, told.level, told.name, told.extension);
+    printf(" %" PRIu32 " %" PRIu32 " %" PRIu32 " %" PRIu32 "\n", told.attribute, told.start, told.pages, told.length);
+    after_call(&owners);
+}
+
+/* r: a read. */
+static void call_read(void)
+{
+    struct lent owners = lend(owner_bytes, length_up_to(MOST_OWNERS));
+    size_t path_length = length_up_to(MOST_PATH);
+    struct lent out = lend(out_bytes, length_up_to(MOST_OUT));
+    if (fread(path, 1, path_length, stdin) != path_length)
+        wrong_input("a path is missing");
+    memcpy(path_before, path, path_length);
+    struct owfs_length told = owfs_read(page_length, page_count, image, image_length, path_length == 0 ? NULL : path, path_length, out.bytes, out.length,
+                                        owners.bytes, owners.length);
+    printf("r %" PRIu32 " %" PRIu32 " %" PRIu32 "\n", told.number, told.page, told.length);
+    after_call(&owners);
+    see_margins(out_bytes, out.length, "margin of the output");
+    if (memcmp(path, path_before, path_length) != 0)
+        wrong_write("path");
+    print_bytes(&out);
+}
+
+/* Writes to so many bytes of the stack, a block at a time, and counts the blocks. */
+static uint32_t use_stack(uint32_t bytes)
+{
+    volatile uint8_t block[BLOCK];
+    for (size_t place = 0; place < BLOCK; place++)
+        block[place] = 1;
+    return bytes <= BLOCK ? block[0] : use_stack(bytes - BLOCK) + block[BLOCK - 1];
+}
+
+/* s: stack in use. */
+static void call_stack(void)
+{
+    uint32_t bytes = number(stdin);
+    printf("s %" PRIu32 "\n", use_stack(bytes));
+}
+
+int main(int count, char **arguments)
+{
+    if (count != 2)
+        wrong_input("one argument, the file of the image");
+    read_image(arguments[1]);
+    for (int letter = getchar(); letter != EOF; letter = getchar()) {
+        switch (letter) {
+        case 'c': call_check(); break;
+        case 'l': call_list(); break;
+        case 'r': call_read(); break;
+        case 's': call_stack(); break;
+        default: wrong_input("no such call");
+        }
+    }
+    return 0;
+}

@@ -1,0 +1,345 @@
+//! Times of the library over those of the second program, for the same images in one run:
+//!
+//!     CARGO_TARGET_DIR=target/cargo cargo run --release --offline --manifest-path tests/Cargo.toml --example bench
+//!
+//! The archive is made by `rt staticlib owfs`.
+
+#[path = "../tests/common/library.rs"]
+mod library;
+
+use std::fmt::Debug;
+use std::hint::black_box;
+use std::time::{Duration, Instant};
+
+use referee::builder::plan::{
+    BitmapPlan, Built, Chain, DirectoryPlan, FilePlan, Fill, ImagePlan, Item,
+};
+use referee::geometry::Geometry;
+
+/// The timed rounds; a time is their median.
+const ROUNDS: usize = 15;
+
+/// The time of a round, about; a round of a short call has many calls.
+const ROUND_TIME: Duration = Duration::from_millis(4);
+
+/// The time for which each program is called before it is timed.
+const WARM_TIME: Duration = Duration::from_millis(30);
+
+/// What an image is full of.
+#[derive(Clone, Copy)]
+enum Full {
+    /// One-page files, all in the root.
+    Files,
+    /// Files of sixteen pages, all in the root.
+    LongFiles,
+    /// Directories of one page in the root, each full of one-page files.
+    Directories,
+}
+
+/// An image and the buffers of both programs.
+struct Bench {
+    built: Built,
+    what: String,
+    owners: Vec<u8>,
+    second_owners: Vec<u8>,
+}
+
+/// The times of one call.
+struct Times {
+    library: Duration,
+    second: Duration,
+}
+
+/// A name of four digits or letters.
+fn name(number: usize) -> [u8; 4] {
+    let digits = b"0123456789ABCDEFGHIJKLMNOPQRSTUVWXYZ";
+    [46_656, 1_296, 36, 1].map(|place| digits[number / place % 36])
+}
+
+/// The pages of a directory with so many entries.
+fn directory_pages(geometry: &Geometry, entries: usize) -> usize {
+    let more = entries.saturating_sub(geometry.first_page_entries());
+    1 + more.div_ceil(geometry.continuation_entries())
+}
+
+/// A directory over these pages, each full but the last.
+fn directory(geometry: &Geometry, pages: Vec<usize>, items: Vec<Item>) -> DirectoryPlan {
+    let mut rest = items.len();
+    let mut counts = Vec::new();
+    for place in 0..pages.len() {
+        let space = match place {
+            0 => geometry.first_page_entries(),
+            _ => geometry.continuation_entries(),
+        };
+        counts.push(space.min(rest));
+        rest -= space.min(rest);
+    }
+    DirectoryPlan {
+        pages,
+        counts,
+        items,
+    }
+}
+
+/// A file with full packets.
+fn file(geometry: &Geometry, number: usize, pages: &[usize]) -> Item {
+    let bytes: Vec<u8> = (0..pages.len() * geometry.max_data())
+        .map(|place| (place * 31 + number) as u8)
+        .collect();
+    let chain = Chain::full(pages, bytes.len(), geometry.max_data());
+    let extension = (number % 100) as u8;
+    Item::File(FilePlan::new(name(number), extension, &bytes, chain))
+}
+
+impl Full {
+    /// The pages that an entry of the root takes with all below it.
+    fn item_pages(self, geometry: &Geometry) -> usize {
+        match self {
+            Full::Files => 1,
+            Full::LongFiles => 16,
+            Full::Directories => 1 + geometry.first_page_entries(),
+        }
+    }
+
+    /// An entry of the root over these pages.
+    fn item(self, geometry: &Geometry, number: usize, pages: &[usize]) -> Item {
+        let Full::Directories = self else {
+            return file(geometry, number, pages);
+        };
+        let files = pages[1..].iter().enumerate();
+        let items = files.map(|(place, &page)| file(geometry, place, &[page]));
+        Item::Directory {
+            name: name(number),
+            hidden: false,
+            directory: directory(geometry, vec![pages[0]], items.collect()),
+        }
+    }
+
+    /// What the image is full of, in words.
+    fn words(self, geometry: &Geometry, entries: usize) -> String {
+        let files = geometry.first_page_entries();
+        match self {
+            Full::Files => format!("{entries} one-page files in the root"),
+            Full::LongFiles => format!("{entries} files of 16 pages in the root"),
+            Full::Directories => format!("{entries} directories of {files} one-page files"),
+        }
+    }
+
+    /// An image with a bitmap file and as many entries as fit, on rising pages.
+    fn image(self, page_length: u32, page_count: u32) -> Bench {
+        let geometry = Geometry::new(page_length, page_count).expect("P and N within their limits");
+        let bitmap_bytes = geometry.bitmap_file_length();
+        let bitmap_pages = bitmap_bytes.div_ceil(geometry.max_data());
+        let item_pages = self.item_pages(&geometry);
+        let needed = |entries: usize| {
+            bitmap_pages + directory_pages(&geometry, entries) + entries * item_pages
+        };
+        let entries = (0..)
+            .take_while(|&entries| needed(entries) <= geometry.page_count())
+            .last()
+            .unwrap_or(0);
+        let mut pages = 1..geometry.page_count();
+        let bitmap: Vec<usize> = pages.by_ref().take(bitmap_pages).collect();
+        let mut root_pages = vec![0];
+        root_pages.extend(pages.by_ref().take(directory_pages(&geometry, entries) - 1));
+        let items: Vec<Item> = (0..entries)
+            .map(|number| {
+                let own: Vec<usize> = pages.by_ref().take(item_pages).collect();
+                self.item(&geometry, number, &own)
+            })
+            .collect();
+        let plan = ImagePlan {
+            page_length,
+            page_count,
+            bitmap: BitmapPlan::File(Chain::full(&bitmap, bitmap_bytes, geometry.max_data())),
+            root: directory(&geometry, root_pages, items),
+            fill: Fill::Byte(0xFF),
+        };
+        let words = self.words(&geometry, entries);
+        Bench {
+            built: plan.build(),
+            what: format!("{page_count} pages of {page_length} bytes, {words}"),
+            owners: vec![0; 2 * page_count as usize],
+            second_owners: vec![0; 2 * page_count as usize],
+        }
+    }
+}
+
+/// The median of some times.
+fn median(mut times: Vec<Duration>) -> Duration {
+    times.sort_unstable();
+    times[times.len() / 2]
+}
+
+/// Calls until the time is over and gives the number of calls that fill a round.
+fn warm<T>(mut call: impl FnMut() -> T) -> u32 {
+    let start = Instant::now();
+    let mut calls = 0;
+    while start.elapsed() < WARM_TIME || calls < 3 {
+        black_box(call());
+        calls += 1;
+    }
+    let one = start.elapsed() / calls;
+    (ROUND_TIME.as_nanos() / one.as_nanos().max(1)).clamp(1, 100_000) as u32
+}
+
+/// The time of one call in a round.
+fn round<T>(calls: u32, mut call: impl FnMut() -> T) -> Duration {
+    let start = Instant::now();
+    for _ in 0..calls {
+        black_box(call());
+    }
+    start.elapsed() / calls
+}
+
+/// Times a call of the library and of the second program in turn; their answers must be equal.
+fn times<T: PartialEq + Debug>(
+    mut library: impl FnMut() -> T,
+    mut second: impl FnMut() -> T,
+) -> Times {
+    assert_eq!(library(), second());
+    let calls = warm(&mut library);
+    let second_calls = warm(&mut second);
+    let mut library_times = Vec::new();
+    let mut second_times = Vec::new();
+    for _ in 0..ROUNDS {
+        library_times.push(round(calls, &mut library));
+        second_times.push(round(second_calls, &mut second));
+    }
+    Times {
+        library: median(library_times),
+        second: median(second_times),
+    }
+}
+
+impl Times {
+    /// Prints a line with the ratio.
+    fn print(&self, call: &str, what: &str) {
+        let micro = |time: Duration| time.as_secs_f64() * 1e6;
+        let (library, second) = (micro(self.library), micro(self.second));
+        let ratio = library / second;
+        println!(
+            "{call}, {what}: library {library:.1} us, second program {second:.1} us, ratio {ratio:.2}"
+        );
+    }
+}
+
+impl Bench {
+    /// Times a check.
+    fn check(&mut self) -> Times {
+        let (p, n) = (self.built.page_length, self.built.page_count);
+        let image = &self.built.image;
+        times(
+            || library::check(p, n, image, &mut self.owners),
+            || referee::check(p, n, image, &mut self.second_owners),
+        )
+    }
+
+    /// Times a listing of the last entry.
+    fn list(&mut self) -> Times {
+        let (p, n) = (self.built.page_length, self.built.page_count);
+        let image = &self.built.image;
+        let last = self.built.entries.len() as u32 - 1;
+        times(
+            || library::list(p, n, image, &mut self.owners, last),
+            || referee::list(p, n, image, &mut self.second_owners, last),
+        )
+    }
+
+    /// Times a read of the last file.
+    fn read(&mut self) -> Times {
+        let (p, n) = (self.built.page_length, self.built.page_count);
+        let image = &self.built.image;
+        let last = &self.built.entries[self.built.entries.len() - 1];
+        let mut out = vec![0; last.bytes.len()];
+        let mut second_out = out.clone();
+        times(
+            || library::read(p, n, image, &last.path, &mut out, &mut self.owners),
+            || {
+                let owners = &mut self.second_owners;
+                referee::read(p, n, image, &last.path, &mut second_out, owners)
+            },
+        )
+    }
+}
+
+/// The check sum alone.
+fn sums() {
+    let bytes: Vec<u8> = (0..32_768).map(|place| (place * 7 / 3) as u8).collect();
+    let sum = times(
+        || library::crc16(1, black_box(&bytes)),
+        || referee::crc16(1, black_box(&bytes)),
+    );
+    sum.print("check sum", "32,768 bytes");
+}
+
+/// How the time of a check grows: each time over that of half the pages.
+fn growth(full: Full, words: &str) {
+    let mut before: Option<Times> = None;
+    for page_count in [256, 512, 1_024, 2_048, 4_096, 8_192] {
+        let mut bench = full.image(64, page_count);
+        let times = bench.check();
+        times.print("check", &bench.what);
+        if let Some(half) = before {
+            let ratio = |now: Duration, half: Duration| now.as_secs_f64() / half.as_secs_f64();
+            println!(
+                "growth, {words}, {page_count} pages over {}: library, ratio {:.2}",
+                page_count / 2,
+                ratio(times.library, half.library)
+            );
+            println!(
+                "growth, {words}, {page_count} pages over {}: second program, ratio {:.2}",
+                page_count / 2,
+                ratio(times.second, half.second)
+            );
+        }
+        before = Some(times);
+    }
+}
+
+/// Says what is compared and how.
+fn print_method() {
+    println!("Library time over the second program's, built for release.");
+    println!(
+        "Check sums: both programs work four bits at a time over a table of 16 numbers, \
+         each with its own table."
+    );
+    println!(
+        "Repeated names: the library searches the directory's earlier entries, \
+         the second program a hash table."
+    );
+    println!(
+        "Buffers: both programs get the same image and, each its own, an owner table of just 2N bytes \
+         and an output of the file's length, all written before."
+    );
+    println!(
+        "Warmed: each program is called for {} ms before it is timed. Then {ROUNDS} rounds of about {} ms \
+         or one call, the programs in turn.",
+        WARM_TIME.as_millis(),
+        ROUND_TIME.as_millis()
+    );
+    println!(
+        "A time is the median of the rounds, for one call; a ratio is that of two such medians."
+    );
+}
+
+fn main() {
+    if cfg!(debug_assertions) {
+        println!("This is not a release build: the ratios below mean nothing.");
+    }
+    print_method();
+    println!();
+    sums();
+    for (page_length, page_count) in [(32, 256), (32, 1_024), (128, 4_096)] {
+        for full in [Full::Files, Full::LongFiles, Full::Directories] {
+            let mut bench = full.image(page_length, page_count);
+            bench.check().print("check", &bench.what);
+            bench.list().print("list of the last entry", &bench.what);
+            bench.read().print("read of the last file", &bench.what);
+        }
+    }
+    println!();
+    growth(Full::Files, "one-page files in the root");
+    growth(Full::LongFiles, "files of 16 pages in the root");
+    growth(Full::Directories, "directories of one-page files");
+}

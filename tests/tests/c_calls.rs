@@ -1,0 +1,333 @@
+//! The library called by a C program (`tests/c/calls.c`), compiled here with warnings as errors, against the second program;
+//! and the largest directory with a limited stack. The archive is made by `rt staticlib owfs`.
+
+mod common;
+
+use std::fs;
+use std::path::{Path, PathBuf};
+use std::process::{Command, Output, Stdio};
+use std::sync::OnceLock;
+
+use common::generators::{
+    damaged_case, fault_case, labelled_out_bytes, labelled_owner_bytes, labelled_position,
+    largest_image, random_path, sound_case, Case, Made,
+};
+use common::{Button, Seed, Tally};
+use referee::builder::plan::Built;
+use referee::rng::Rng;
+
+/// What the C program's owner table and output hold before a call.
+const BEFORE: u8 = 0xC7;
+
+/// The stack of a limited run in KiB: 256, and 128 for the table of 65,535 numbers that a call keeps there.
+const STACK_KIB: usize = 256 + 128;
+
+/// A call that the C program is told to make.
+enum Call {
+    Check {
+        owner_bytes: usize,
+    },
+    List {
+        owner_bytes: usize,
+        position: u32,
+    },
+    Read {
+        owner_bytes: usize,
+        path: Vec<u8>,
+        out_bytes: usize,
+    },
+}
+
+impl Call {
+    /// The call as the C program reads it.
+    fn bytes(&self) -> Vec<u8> {
+        match self {
+            Call::Check { owner_bytes } => request(b'c', &[*owner_bytes as u32]),
+            Call::List {
+                owner_bytes,
+                position,
+            } => request(b'l', &[*owner_bytes as u32, *position]),
+            Call::Read {
+                owner_bytes,
+                path,
+                out_bytes,
+            } => {
+                let lengths = [*owner_bytes as u32, path.len() as u32, *out_bytes as u32];
+                let mut bytes = request(b'r', &lengths);
+                bytes.extend(path);
+                bytes
+            }
+        }
+    }
+
+    /// The lines that the C program must print, from the second program's answer.
+    fn expected(&self, button: &Button) -> String {
+        let (p, n, image) = (button.page_length, button.page_count, &button.image);
+        match self {
+            Call::Check { owner_bytes } => {
+                let mut owners = vec![BEFORE; *owner_bytes];
+                let told = referee::check(p, n, image, &mut owners);
+                let fields = [told.page, told.used, told.files, told.directories];
+                format!("{}{}", line('c', told.number, &fields), hex(&owners))
+            }
+            Call::List {
+                owner_bytes,
+                position,
+            } => {
+                let mut owners = vec![BEFORE; *owner_bytes];
+                let told = referee::list(p, n, image, &mut owners, *position);
+                let fields = [
+                    told.page,
+                    told.level,
+                    told.name,
+                    told.extension,
+                    told.attribute,
+                    told.start,
+                    told.pages,
+                    told.length,
+                ];
+                format!("{}{}", line('l', told.number, &fields), hex(&owners))
+            }
+            Call::Read {
+                owner_bytes,
+                path,
+                out_bytes,
+            } => {
+                let mut owners = vec![BEFORE; *owner_bytes];
+                let mut out = vec![BEFORE; *out_bytes];
+                let told = referee::read(p, n, image, path, &mut out, &mut owners);
+                let first = line('r', told.number, &[told.page, told.length]);
+                format!("{first}{}{}", hex(&owners), hex(&out))
+            }
+        }
+    }
+}
+
+/// A letter and numbers of 4 bytes, low byte first.
+fn request(letter: u8, numbers: &[u32]) -> Vec<u8> {
+    let mut bytes = vec![letter];
+    bytes.extend(numbers.iter().flat_map(|number| number.to_le_bytes()));
+    bytes
+}
+
+/// The line of an answer.
+fn line(letter: char, number: u32, fields: &[u32]) -> String {
+    let fields: String = fields.iter().map(|field| format!(" {field}")).collect();
+    format!("{letter} {number}{fields}\n")
+}
+
+/// Bytes in hexadecimal, as a line.
+fn hex(bytes: &[u8]) -> String {
+    let digits = b"0123456789abcdef";
+    let mut text = String::with_capacity(2 * bytes.len() + 1);
+    for byte in bytes {
+        text.push(char::from(digits[usize::from(byte >> 4)]));
+        text.push(char::from(digits[usize::from(byte & 15)]));
+    }
+    text.push('\n');
+    text
+}
+
+/// A file for these tests.
+fn scratch(name: &str) -> PathBuf {
+    Path::new(env!("CARGO_TARGET_TMPDIR")).join(name)
+}
+
+/// The C program, compiled once.
+fn program() -> &'static Path {
+    static PROGRAM: OnceLock<PathBuf> = OnceLock::new();
+    PROGRAM.get_or_init(|| {
+        let tests = Path::new(env!("CARGO_MANIFEST_DIR"));
+        let program = scratch("calls");
+        let compiled = Command::new("cc")
+            .args(["-std=c11", "-Wall", "-Wextra", "-Werror", "-I"])
+            .arg(tests.join("../include"))
+            .arg(tests.join("c/calls.c"))
+            .arg(tests.join("../target/staticlib/libowfs.a"))
+            .arg("-o")
+            .arg(&program)
+            .output()
+            .expect("cc runs");
+        let said = String::from_utf8_lossy(&compiled.stderr);
+        assert!(compiled.status.success(), "cc: {said}");
+        program
+    })
+}
+
+/// Writes page length, page count and image to a file.
+fn write_image(file: &Path, button: &Button) {
+    let mut bytes = button.page_length.to_le_bytes().to_vec();
+    bytes.extend(button.page_count.to_le_bytes());
+    bytes.extend(&button.image);
+    fs::write(file, bytes).expect("the image is written");
+}
+
+/// Writes the calls to a file beside the image's and runs the command with them as its standard input.
+fn run(mut command: Command, image: &Path, calls: &[u8], what: &str) -> Output {
+    let input = image.with_extension(what);
+    fs::write(&input, calls).expect("the calls are written");
+    command
+        .stdin(fs::File::open(&input).expect("the calls are read"))
+        .stdout(Stdio::piped())
+        .stderr(Stdio::piped())
+        .output()
+        .expect("the C program runs")
+}
+
+/// The C program.
+fn plain(image: &Path) -> Command {
+    let mut command = Command::new(program());
+    command.arg(image);
+    command
+}
+
+/// The C program with a limited stack and no environment, which would stand on the stack.
+fn limited(image: &Path) -> Command {
+    let mut command = Command::new("/bin/sh");
+    command
+        .env_clear()
+        .arg("-c")
+        .arg(format!("ulimit -s {STACK_KIB} && exec \"$0\" \"$1\""))
+        .arg(program())
+        .arg(image);
+    command
+}
+
+/// Demands success and this text.
+fn printed(output: &Output, expected: &str) {
+    let said = String::from_utf8_lossy(&output.stderr);
+    assert!(output.status.success(), "{}: {said}", output.status);
+    let text = String::from_utf8_lossy(&output.stdout);
+    for (place, (line, expected)) in text.lines().zip(expected.lines()).enumerate() {
+        assert_eq!(line, expected, "line {place}");
+    }
+    assert!(text == expected, "as many lines");
+}
+
+/// Some calls with a generated image.
+fn random_calls(case: &Case, rng: &mut Rng, tally: &mut Tally) -> Vec<Call> {
+    let mut calls = Vec::new();
+    for _ in 0..12 {
+        let (label, owner_bytes) = labelled_owner_bytes(case.button.page_count, rng);
+        tally.add(label);
+        calls.push(match rng.below(5) {
+            0 => Call::Check { owner_bytes },
+            1 | 2 => {
+                let (label, position) = labelled_position(case.built.entries.len(), rng);
+                tally.add(label);
+                Call::List {
+                    owner_bytes,
+                    position,
+                }
+            }
+            _ => {
+                let wanted = random_path(&case.built, rng);
+                let (label, out_bytes) = labelled_out_bytes(wanted.file_bytes, rng);
+                tally.add(label);
+                Call::Read {
+                    owner_bytes,
+                    path: wanted.path,
+                    out_bytes,
+                }
+            }
+        });
+    }
+    calls
+}
+
+/// Every answer and every lent byte is the second program's.
+#[test]
+fn answers_in_c() {
+    let mut tally = Tally::default();
+    for seed in 0x7000_0000..0x7000_0000 + 300 {
+        let _seed = Seed(seed);
+        let mut rng = Rng::new(seed);
+        let case = match seed % 5 {
+            0 => fault_case(2 + (seed / 5 % 12) as u32, &mut rng),
+            1 => damaged_case(Made::Misfit, &mut rng),
+            2 => damaged_case(Made::Sealed, &mut rng),
+            _ => sound_case(&mut rng),
+        };
+        let image = scratch("some.image");
+        write_image(&image, &case.button);
+        let calls = random_calls(&case, &mut rng, &mut tally);
+        let mut input = Vec::new();
+        let mut expected = String::new();
+        for call in &calls {
+            let lines = call.expected(&case.button);
+            tally.add(lines.split(' ').take(2).collect::<Vec<&str>>().join(" "));
+            input.extend(call.bytes());
+            expected += &lines;
+        }
+        printed(&run(plain(&image), &image, &input, "calls"), &expected);
+    }
+    tally.print();
+    tally.demand_numbers("c", 5, [0, 1]);
+    tally.demand_numbers("l", 5, (0..=13).filter(|&number| number != 5).chain([15]));
+    tally.demand_numbers("r", 5, (0..=13).chain([14, 15, 18]));
+}
+
+/// 50,000 entries in the root, and the file of the image for the C program.
+fn largest() -> &'static (Built, PathBuf) {
+    static LARGEST: OnceLock<(Built, PathBuf)> = OnceLock::new();
+    LARGEST.get_or_init(|| {
+        let built = largest_image(256, 50_000, 1, 0, 71);
+        assert_eq!(built.totals.files, 50_000);
+        let file = scratch("largest.image");
+        write_image(&file, &Button::from(&built));
+        (built, file)
+    })
+}
+
+/// Runs one call with the largest directory and a limited stack.
+fn with_limited_stack(call: &Call, what: &str) {
+    let (built, image) = largest();
+    let output = run(limited(image), image, &call.bytes(), what);
+    printed(&output, &call.expected(&Button::from(built)));
+}
+
+#[test]
+fn check_of_50000_entries_with_a_limited_stack() {
+    let owner_bytes = 131_072;
+    with_limited_stack(&Call::Check { owner_bytes }, "check");
+}
+
+#[test]
+fn list_of_50000_entries_with_a_limited_stack() {
+    let call = Call::List {
+        owner_bytes: 131_070,
+        position: 49_999,
+    };
+    with_limited_stack(&call, "list");
+}
+
+#[test]
+fn read_of_50000_entries_with_a_limited_stack() {
+    let last = &largest().0.entries[49_999];
+    let call = Call::Read {
+        owner_bytes: 131_070,
+        path: last.path.clone(),
+        out_bytes: last.bytes.len() + 3,
+    };
+    with_limited_stack(&call, "read");
+}
+
+/// The limit is a limit: the C program itself may use less and not more.
+#[test]
+fn the_stack_is_limited() {
+    let image = scratch("none.image");
+    let button = Button {
+        page_length: 0,
+        page_count: 0,
+        image: Vec::new(),
+    };
+    write_image(&image, &button);
+    let less = 1_024 * (STACK_KIB as u32 - 84);
+    let more = 1_024 * (STACK_KIB as u32 + 1);
+    let output = run(limited(&image), &image, &request(b's', &[less]), "less");
+    printed(&output, &format!("s {}\n", less / 1_024));
+    let output = run(limited(&image), &image, &request(b's', &[more]), "more");
+    assert!(!output.status.success(), "{}", output.status);
+    let output = run(plain(&image), &image, &request(b's', &[more]), "plain");
+    printed(&output, &format!("s {}\n", more / 1_024));
+}

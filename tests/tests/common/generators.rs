@@ -1,0 +1,513 @@
+//! Seeded images, paths, positions and lengths, for the tests of the library's calls.
+
+use super::Button;
+use referee::builder::fault::{
+    with_fault, with_random_changes, with_sealed_flips, with_two_faults,
+};
+use referee::builder::pages::Pages;
+use referee::builder::plan::{Built, BuiltChain, BuiltEntry, ChainOf, Fill};
+use referee::builder::random::{random_image, random_name, random_packets, random_plan, Shape};
+use referee::geometry::Geometry;
+use referee::rng::Rng;
+use referee::Answer;
+
+/// How an image was made, and what is known of it by construction.
+#[derive(Clone, Copy, Debug, PartialEq, Eq)]
+pub enum Made {
+    /// Built from a plan: every answer is known.
+    Sound,
+    /// One fault: its number and page are known.
+    OneFault(Answer),
+    /// Two faults.
+    TwoFaults,
+    /// Bytes of packets changed and the checks computed again.
+    Sealed,
+    /// Bits flipped anywhere, with the checks as they were.
+    Flipped,
+    /// Sound packets with random entries and pointers.
+    Packets,
+    /// Page length, page count or image length changed.
+    Misfit,
+}
+
+/// An image to call the library with, and the plan's image that it comes from.
+pub struct Case {
+    pub made: Made,
+    pub button: Button,
+    pub built: Built,
+}
+
+/// A random page length and page count; small ones are frequent, and those around the limits too.
+pub fn random_sizes(rng: &mut Rng, most_pages: usize) -> (u32, u32) {
+    let lengths = [32, 33, 34, 38, 39, 40, 64, 128, 255, 256];
+    let counts = [2, 3, 7, 8, 9, 16, 31, 32, 33, 255, 256, 257, 258, 300];
+    let page_length = if rng.chance(50) {
+        lengths[rng.below(lengths.len())]
+    } else {
+        rng.between(32, 256)
+    };
+    let page_count = if rng.chance(60) {
+        counts[rng.below(counts.len())]
+    } else {
+        rng.between(2, most_pages)
+    };
+    (page_length as u32, page_count.min(most_pages) as u32)
+}
+
+/// A limit of the page count: mostly small, sometimes thousands.
+fn random_limit(rng: &mut Rng) -> usize {
+    match rng.below(100) {
+        0..=59 => 60,
+        60..=84 => 300,
+        85..=94 => 1_000,
+        _ => 5_000,
+    }
+}
+
+/// A shape with directories nested down to level eight.
+pub fn deep_shape(geometry: &Geometry, rng: &mut Rng) -> Shape {
+    Shape {
+        deep: true,
+        free_pages: 0,
+        least_entries: 2,
+        most_entries: 5,
+        most_file_pages: 2,
+        ..Shape::random(geometry, rng)
+    }
+}
+
+/// A sound image nested down to level eight, if its pages are enough for it.
+pub fn deep_image(rng: &mut Rng) -> Built {
+    let (page_length, page_count) = (rng.between(32, 256) as u32, rng.between(20, 300) as u32);
+    let geometry = Geometry::new(page_length, page_count).expect("P and N within their limits");
+    let shape = deep_shape(&geometry, rng);
+    random_plan(page_length, page_count, shape, rng).build()
+}
+
+/// A sound image of 65,535 pages with so many entries in each directory as long as there are pages: files of up to so many pages,
+/// and this part of them directories.
+pub fn largest_image(
+    page_length: u32,
+    entries: usize,
+    file_pages: usize,
+    directory_percent: usize,
+    seed: u64,
+) -> Built {
+    let shape = Shape {
+        local_bitmap: false,
+        scattered: true,
+        free_pages: 0,
+        least_entries: entries,
+        most_entries: entries,
+        most_file_pages: file_pages,
+        directory_percent,
+        deep: false,
+        odd_packet_percent: 0,
+        fill: Fill::Byte(0xFF),
+    };
+    random_plan(page_length, 65_535, shape, &mut Rng::new(seed)).build()
+}
+
+/// A sound image of any shape; one in eight is nested down to level eight.
+fn sound_image(rng: &mut Rng) -> Built {
+    if rng.chance(12) {
+        return deep_image(rng);
+    }
+    let limit = random_limit(rng);
+    let (page_length, page_count) = random_sizes(rng, limit);
+    random_image(page_length, page_count, rng)
+}
+
+/// A sound image as a case.
+pub fn sound_case(rng: &mut Rng) -> Case {
+    let built = sound_image(rng);
+    Case {
+        made: Made::Sound,
+        button: Button::from(&built),
+        built,
+    }
+}
+
+/// An image with a fault of this number (2 to 13), known by construction.
+pub fn fault_case(number: u32, rng: &mut Rng) -> Case {
+    loop {
+        let built = match number {
+            12 => deep_image(rng),
+            _ => sound_image(rng),
+        };
+        if let Some((image, answer)) = with_fault(&built, number, rng) {
+            return changed(built, image, Made::OneFault(answer));
+        }
+    }
+}
+
+/// An image with faults of these two numbers (2 to 13).
+pub fn two_faults_case(numbers: [u32; 2], rng: &mut Rng) -> Case {
+    loop {
+        let built = if numbers.contains(&12) {
+            deep_image(rng)
+        } else {
+            sound_image(rng)
+        };
+        if let Some(image) = with_two_faults(&built, numbers, rng) {
+            return changed(built, image, Made::TwoFaults);
+        }
+    }
+}
+
+/// An image damaged without regard to its structure.
+pub fn damaged_case(made: Made, rng: &mut Rng) -> Case {
+    let built = sound_image(rng);
+    let (page_length, page_count) = (built.page_length, built.page_count);
+    let image = match made {
+        Made::Sealed if rng.chance(50) => with_random_changes(&built, rng),
+        Made::Sealed => with_sealed_flips(&built, rng),
+        Made::Packets => random_packets(page_length, page_count, rng),
+        _ => {
+            let mut image = built.image.clone();
+            flip(&mut image, rng);
+            image
+        }
+    };
+    let mut case = changed(built, image, made);
+    if made == Made::Misfit {
+        misfit(&mut case.button, rng);
+    }
+    case
+}
+
+/// A case of a built image whose bytes were changed.
+fn changed(built: Built, image: Vec<u8>, made: Made) -> Case {
+    let button = Button {
+        image,
+        ..Button::from(&built)
+    };
+    Case {
+        made,
+        button,
+        built,
+    }
+}
+
+/// Flips some bits anywhere; no check is repaired.
+pub fn flip(image: &mut [u8], rng: &mut Rng) {
+    for _ in 0..rng.between(1, 3) {
+        let at = rng.below(image.len());
+        image[at] ^= 1 << rng.below(8);
+    }
+}
+
+/// Another page length, page count or image length.
+pub fn misfit(button: &mut Button, rng: &mut Rng) {
+    match rng.below(6) {
+        0 => button.page_length = [0, 31, 257, u32::MAX][rng.below(4)],
+        1 => button.page_count = [0, 1, 65_536, u32::MAX][rng.below(4)],
+        2 => button.page_length += 1,
+        3 => button.page_count += 1,
+        4 => button.image.truncate(rng.below(button.image.len())),
+        _ => button.image.push(rng.byte()),
+    }
+}
+
+/// An image that the second program formatted and put some files into.
+pub fn written(page_length: u32, page_count: u32, rng: &mut Rng) -> Vec<u8> {
+    let mut button = Button::formatted(page_length, page_count, page_count < 32 && rng.chance(50));
+    for _ in 0..rng.below(6) {
+        let mut path = random_name(rng).to_vec();
+        path.push(rng.below(100) as u8);
+        let length = rng.below(3 * page_length as usize);
+        let bytes = rng.bytes(length);
+        button.put(&path, &bytes);
+    }
+    button.image
+}
+
+/// A small sound image, or one damaged in some way.
+pub fn small_button(rng: &mut Rng) -> Button {
+    let page_length = rng.between(32, 80) as u32;
+    let page_count = if rng.chance(80) {
+        rng.between(2, 60) as u32
+    } else {
+        rng.between(61, 300) as u32
+    };
+    let built = random_image(page_length, page_count, rng);
+    let mut image = match rng.below(8) {
+        0 | 1 => with_random_changes(&built, rng),
+        2 | 3 => {
+            let number = rng.between(2, 13) as u32;
+            with_fault(&built, number, rng).map_or(built.image.clone(), |(image, _)| image)
+        }
+        4 => random_packets(page_length, page_count, rng),
+        5 => written(page_length, page_count, rng),
+        _ => built.image,
+    };
+    if rng.chance(15) {
+        flip(&mut image, rng);
+    }
+    Button {
+        page_length,
+        page_count,
+        image,
+    }
+}
+
+/// Bytes of an owner table: just enough, odd, longer, or too few.
+pub fn owner_bytes(page_count: u32, rng: &mut Rng) -> usize {
+    let enough = 2 * page_count as usize;
+    match rng.below(8) {
+        0 => enough + 1,
+        1 => enough + rng.below(40),
+        2 => enough - 1 - rng.below(3),
+        3 => rng.below(enough),
+        _ => enough,
+    }
+}
+
+/// Bytes of an owner table, seldom too few, with a label; the page count may be any number.
+pub fn labelled_owner_bytes(page_count: u32, rng: &mut Rng) -> (&'static str, usize) {
+    let enough = 2 * (page_count as usize).min(70_000);
+    match rng.below(40) {
+        0..=4 => ("owner table one byte longer", enough + 1),
+        5..=12 => ("owner table longer", enough + 2 + rng.below(60)),
+        13 => ("owner table one byte too short", enough.saturating_sub(1)),
+        14 => ("owner table too short", rng.below(enough)),
+        15 => ("no owner table", 0),
+        _ => ("owner table just long enough", enough),
+    }
+}
+
+/// A position in walk order of an image with so many entries, with a label.
+pub fn labelled_position(entries: usize, rng: &mut Rng) -> (&'static str, u32) {
+    let entries = entries as u32;
+    let inside = rng.below(entries as usize) as u32;
+    match rng.below(12) {
+        0..=4 if entries > 0 => ("position of an entry", inside),
+        5 if entries > 0 => ("position of the last entry", entries - 1),
+        6 => ("position just past the end", entries + 1),
+        7 => ("position 65,536 more", 65_536 + inside),
+        8 => ("position 2^32 - 1", u32::MAX),
+        9 => ("any position", rng.next_u64() as u32 >> rng.below(32)),
+        _ => ("position at the end", entries),
+    }
+}
+
+/// Bytes of an output for a file of so many bytes, with a label.
+pub fn labelled_out_bytes(file_bytes: usize, rng: &mut Rng) -> (&'static str, usize) {
+    match rng.below(32) {
+        0..=3 if file_bytes > 0 => ("output one byte too short", file_bytes - 1),
+        4..=7 if file_bytes > 0 => ("output too short", rng.below(file_bytes)),
+        8..=11 => ("no output", 0),
+        12..=15 => ("output one byte longer", file_bytes + 1),
+        16..=22 => ("output longer", file_bytes + rng.between(2, 300)),
+        23 => ("output much longer", file_bytes + 65_536 - rng.below(2)),
+        _ => ("output just long enough", file_bytes),
+    }
+}
+
+/// A path to read, its label, and the length of the file that it was made from.
+pub struct Wanted {
+    pub label: &'static str,
+    pub path: Vec<u8>,
+    pub file_bytes: usize,
+}
+
+/// A path for a built image: of a file that is there, of something near it, or of any bytes.
+pub fn random_path(built: &Built, rng: &mut Rng) -> Wanted {
+    let is_file = |entry: &&BuiltEntry| built.chains[entry.chain].of == ChainOf::File;
+    let files: Vec<&BuiltEntry> = built.entries.iter().filter(is_file).collect();
+    let directories: Vec<&BuiltEntry> = built
+        .entries
+        .iter()
+        .filter(|entry| !is_file(entry))
+        .collect();
+    if rng.chance(25) {
+        return any_path(rng);
+    }
+    match (rng.pick(&files), rng.pick(&directories)) {
+        (Some(file), _) if rng.chance(75) => path_near_file(built, file, rng),
+        (_, Some(directory)) => path_near_directory(directory, rng),
+        _ => any_path(rng),
+    }
+}
+
+/// A path that no image was looked at for: any bytes, or names.
+fn any_path(rng: &mut Rng) -> Wanted {
+    let (label, path) = if rng.chance(50) {
+        let length = rng.below(41);
+        ("path of any bytes", rng.bytes(length))
+    } else {
+        let names = rng.between(1, 10);
+        let mut path: Vec<u8> = (0..names).flat_map(|_| random_name(rng)).collect();
+        path.push(rng.below(104) as u8);
+        ("path of any names", path)
+    };
+    Wanted {
+        label,
+        path,
+        file_bytes: rng.below(40),
+    }
+}
+
+/// Whether a directory on the path of an entry is hidden.
+fn is_below_hidden(built: &Built, entry: &BuiltEntry) -> bool {
+    let names = entry.listing.level as usize;
+    built.entries.iter().any(|other| {
+        let hidden = other.listing.extension == 127 && other.listing.attribute == 1;
+        let above = (other.listing.level as usize) < names && entry.path.starts_with(&other.path);
+        hidden && above
+    })
+}
+
+/// The path of a file, or one that differs from it in one respect.
+fn path_near_file(built: &Built, file: &BuiltEntry, rng: &mut Rng) -> Wanted {
+    let mut path = file.path.clone();
+    let last = path.len() - 1;
+    let label = match rng.below(16) {
+        0 => {
+            path[last] = rng.below(100) as u8;
+            "path of a file with any extension number"
+        }
+        1 => {
+            path[last] |= 0x80;
+            "path of a file with the top bit"
+        }
+        2 => {
+            path[last] = rng.between(100, 127) as u8;
+            "path of a file with an extension above 99"
+        }
+        3 => {
+            let name = random_name(rng);
+            path.splice(last.., name);
+            path.push(rng.below(100) as u8);
+            "path with a file's name in the place of a directory"
+        }
+        4 => {
+            path.truncate(rng.below(path.len()));
+            "path cut short"
+        }
+        5 => {
+            path.push(rng.byte());
+            "path with a byte more"
+        }
+        6 => {
+            path[rng.below(last + 1)] ^= 1 << rng.below(8);
+            "path with a bit flipped"
+        }
+        7 => {
+            let place = rng.below(last / 4 + 1) * 4;
+            path.splice(place..place, random_name(rng));
+            "path with a name more"
+        }
+        _ if is_below_hidden(built, file) => "path below a hidden directory",
+        _ if file.listing.attribute == 1 => "path of a read-only file",
+        _ => "path of a file",
+    };
+    Wanted {
+        label,
+        path,
+        file_bytes: file.bytes.len(),
+    }
+}
+
+/// The path of a directory, or one that takes it for a file, or a missing file in it.
+fn path_near_directory(directory: &BuiltEntry, rng: &mut Rng) -> Wanted {
+    let mut path = directory.path.clone();
+    let label = match rng.below(4) {
+        0 => "path of a directory",
+        1 => {
+            path.push(127);
+            "path of a directory with its extension"
+        }
+        2 => {
+            path.push(rng.below(100) as u8);
+            "path with a directory's name in the place of a file"
+        }
+        _ => {
+            path.extend(random_name(rng));
+            path.push(rng.below(100) as u8);
+            "path of any file in a directory"
+        }
+    };
+    Wanted {
+        label,
+        path,
+        file_bytes: rng.below(40),
+    }
+}
+
+/// What a sound image has, as labels to be counted.
+pub fn features(built: &Built) -> Vec<&'static str> {
+    let pages = Pages::of(built.page_length, built.page_count, &built.image);
+    let mut labels = vec![
+        if pages.geometry.number_length() == 1 {
+            "one-byte page numbers"
+        } else {
+            "two-byte page numbers"
+        },
+        if built.local_bitmap {
+            "local bitmap"
+        } else {
+            "bitmap file"
+        },
+    ];
+    if built.entries.iter().any(|entry| entry.listing.level == 8) {
+        labels.push("entry at level 8");
+    }
+    if built.page_count >= 1_000 {
+        labels.push("thousands of pages");
+    }
+    for chain in &built.chains {
+        labels.extend(chain_features(&pages, chain));
+    }
+    labels.sort_unstable();
+    labels.dedup();
+    labels
+}
+
+/// What a chain has: empty packets, partly filled packets before its end, pages in another order than rising.
+fn chain_features(pages: &Pages, chain: &BuiltChain) -> Vec<&'static str> {
+    let [empty, part, unordered] = match chain.of {
+        ChainOf::Root => [
+            "empty packet in the root's chain",
+            "partly filled packet in the root's chain",
+            "root's chain scattered",
+        ],
+        ChainOf::Bitmap => [
+            "empty packet in the bitmap file's chain",
+            "partly filled packet in the bitmap file's chain",
+            "bitmap file's chain scattered",
+        ],
+        ChainOf::File => [
+            "empty packet in a file's chain",
+            "partly filled packet in a file's chain",
+            "file's chain scattered",
+        ],
+        ChainOf::Directory => [
+            "empty packet in a directory's chain",
+            "partly filled packet in a directory's chain",
+            "directory's chain scattered",
+        ],
+    };
+    let slot = match chain.of {
+        ChainOf::Root | ChainOf::Directory => pages.geometry.entry_length(),
+        ChainOf::Bitmap | ChainOf::File => 1,
+    };
+    let lengths: Vec<usize> = chain
+        .pages
+        .iter()
+        .map(|&page| pages.body(page).len())
+        .collect();
+    let (_, before_last) = lengths.split_last().unwrap_or((&0, &[]));
+    let has_space = |&length: &usize| length > 0 && length + slot <= pages.geometry.max_data();
+    let mut labels = Vec::new();
+    if lengths.contains(&0) {
+        labels.push(empty);
+    }
+    if before_last.iter().any(has_space) {
+        labels.push(part);
+    }
+    if chain.pages.windows(2).any(|two| two[1] < two[0]) {
+        labels.push(unordered);
+    }
+    labels
+}
