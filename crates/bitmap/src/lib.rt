@@ -32,8 +32,8 @@ fn bit_of(b: u8, k: usize) -> usize
 }
 
 // The bit that a page must have: 1 where it has an owner. A page past the table has none.
-fn in_use(owners: &[u16], page: usize) -> usize
-    ensures { λ r. ⌜ r ≡ nonzero (getD (now (owners .entry)) page 0) ⌝ }
+pub fn in_use(owners: &[u16], page: usize) -> usize
+    ensures { λ r. ⌜ (r ≡ nonzero (getD (now (owners .entry)) page 0)) × (r ≤ 1) ⌝ }
 {
     if page < owners.len() {
         if owners[page] != 0 {

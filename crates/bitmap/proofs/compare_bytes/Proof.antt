@@ -20,13 +20,13 @@ returns : tie.Need-returns Inv-loop μ-loop
 returns c =
     let a = c .before .before .before .before .before .before .before .before .args in
     let l = c .before .before .before .before .before .loop in
-    part-differ (a .bytes .now) _ (a .owners .now) (l .k) (c .before .before .before .before .loop-test .taken) (l .inv .1) (λ e. c .if1 .taken (c .before .before .bit-of .ensures ∙ e ∙ sym (c .before .in-use .ensures)))
+    part-differ (a .bytes .now) _ (a .owners .now) (l .k) (c .before .before .before .before .loop-test .taken) (l .inv .1) (λ e. c .if1 .taken (c .before .before .bit-of .ensures ∙ e ∙ sym (c .before .in-use .ensures .0)))
 
 loop-again : tie.Need-loop-again Inv-loop μ-loop
 loop-again c =
     let a = c .before .before .before .before .before .before .before .before .args in
     let l = c .before .before .before .before .before .loop in
-    (omega (arith, c .before .before .before .before .loop-test .taken), right-on (a .bytes .now) _ (a .owners .now) (l .k) (l .inv .1) (sym (c .before .before .bit-of .ensures) ∙ c .if1 .left ∙ c .before .in-use .ensures))
+    (omega (arith, c .before .before .before .before .loop-test .taken), right-on (a .bytes .now) _ (a .owners .now) (l .k) (l .inv .1) (sym (c .before .before .bit-of .ensures) ∙ c .if1 .left ∙ c .before .in-use .ensures .0))
 
 returns-2 : tie.Need-returns-2 Inv-loop μ-loop
 returns-2 c =

@@ -1,0 +1,39 @@
+-- The bytes so far are the bitmap's.
+use mathlib.Core.Path.{_≡_, refl, sym, ap, _∙_}
+use Prim.Native.Nat.{ℕ, _-_, _≤_}
+use native.Mathlib.Omega.{arith}
+use lib.ListN.{length, take, length-set}
+use lib.Seq.{take-all}
+use Rattle.marks.specs.Marks.{marksFrom}
+use Rattle.marks.proofs.Filling.{none-filled, filled-on}
+use borrow.Author.Needs.{needs}
+use Rattle.marks.proofs.fill.Statement.{statement}
+use Rattle.marks.proofs.fill.Tie as tie
+
+abbrev Inv-loop : tie.InvT-loop
+Inv-loop bytes₀ k owners i₀ bytes i = (length bytes ≡ length bytes₀) × (i ≤ length bytes) × (take i bytes ≡ marksFrom owners k i)
+
+abbrev μ-loop : tie.MeasureT-loop
+μ-loop bytes₀ k owners i₀ bytes i = length bytes₀ - i
+
+loop-holds : tie.Need-loop-holds Inv-loop μ-loop
+loop-holds c = let a = c .before .before .args in (refl, omega arith, none-filled (a .owners .now) (a .bytes .now) (a .k))
+
+loop-again : tie.Need-loop-again Inv-loop μ-loop
+loop-again c =
+    let l = c .before .before .loop in
+    let a = c .before .before .before .before .before .args in
+    let n = length-set (l .bytes) (l .i) (c .byte-of .result) in
+    (n ∙ l .inv .0, omega (arith, c .before .loop-test .taken, n), filled-on (a .owners .now) (l .bytes) (a .k) (l .i) _ (c .before .loop-test .taken) (l .inv .2) (c .byte-of .ensures))
+
+returns : tie.Need-returns Inv-loop μ-loop
+returns c =
+    let l = c .before .loop in
+    let n : l .i ≡ length (l .bytes) = omega (arith, c .loop-test .left, l .inv .1) in
+    let m : length (l .bytes) ≤ l .i = omega arith in
+    sym (take-all (l .i) (l .bytes) m) ∙ l .inv .2 ∙ ap (marksFrom (c .before .before .before .before .args .owners .now) (c .before .before .before .before .args .k)) (n ∙ l .inv .0)
+
+pub fill-spec : {M : Type 1} → statement M
+fill-spec =
+    tie.close
+    (tie.spec Inv-loop μ-loop loop-holds (λ c. search needs) (λ c. search needs) (λ c κs. search needs) (λ c. search needs) (λ c. search needs) (λ c. search needs) loop-again (λ c. search needs) returns)
