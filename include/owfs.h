@@ -44,7 +44,7 @@ struct owfs_totals {
  * `owners` are bytes, two for each page, low byte first; at least 2 * page_count of them are needed (1). Afterwards the number of a page is
  * 0 if it is free, 1 in the root, 2 in the bitmap file, 3 + k in the entry at walk position k; all are 0 after the faults 2 to 13.
  * After 1 no byte is changed; bytes past the first 2 * page_count never change. Any arguments are taken. Image and owners must not overlap.
- * Stack: 131,070 bytes for a table of 65,535 numbers, and less than 8 KiB more, however many entries a directory has. */
+ * Stack: 131,070 bytes for a table of 65,535 numbers, and less than 9 KiB more, however many entries a directory has. */
 struct owfs_totals owfs_check(uint32_t page_length, uint32_t page_count, const uint8_t *image, size_t image_length, uint8_t *owners, size_t owners_length);
 
 /* What a listing answers: number 0, page 0 and what a line of `list` shows, or a refusal's number and page with every other field 0, also the name. */
@@ -71,7 +71,7 @@ struct owfs_entry {
  * `owners` are left as owfs_check leaves them, after 15 too: at least 2 * page_count bytes are needed (1); all numbers are 0 after the faults
  * 2 to 13; after 1 no byte is changed; bytes past the first 2 * page_count never change. Any arguments are taken; a position of any size past the
  * end is 15. Image and owners must not overlap.
- * Stack: 131,070 bytes for a table of 65,535 numbers, and less than 8 KiB more, however many entries a directory has. */
+ * Stack: 131,070 bytes for a table of 65,535 numbers, and less than 9 KiB more, however many entries a directory has. */
 struct owfs_entry owfs_list(uint32_t page_length, uint32_t page_count, const uint8_t *image, size_t image_length, uint8_t *owners, size_t owners_length,
                             uint32_t position);
 
@@ -98,7 +98,7 @@ struct owfs_length {
  * `owners` are left as owfs_check leaves them, after 14, 15 and 18 too: at least 2 * page_count bytes are needed (1); all numbers are 0 after the
  * faults 2 to 13; after 1 no byte is changed; bytes past the first 2 * page_count never change. Any arguments are taken. Image, path, output and
  * owners must not overlap.
- * Stack: 131,070 bytes for a table of 65,535 numbers, and less than 8 KiB more, however many entries a directory has. */
+ * Stack: 131,070 bytes for a table of 65,535 numbers, and less than 9 KiB more, however many entries a directory has. */
 struct owfs_length owfs_read(uint32_t page_length, uint32_t page_count, const uint8_t *image, size_t image_length, const uint8_t *path, size_t path_length,
                              uint8_t *out, size_t out_length, uint8_t *owners, size_t owners_length);
 

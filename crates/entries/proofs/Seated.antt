@@ -50,6 +50,14 @@ seated-at g v total s b ls i h = record {
   fits = record { inside = h .fits .inside; room = h .fits .room };
 }
 
+pub skip-of : (g : Geometry) (v : View) (skip : ℕ) (c : Cursor) (s : Seat) → s ≡ openOf g v skip c → s .skip ≡ skip
+unfolding openOf
+skip-of g v skip c s e = go (v (c .page)) e
+  where
+    go : (x : Packet) → s ≡ opened g skip c x → s .skip ≡ skip
+    go bad e = ap (λ (y : Seat). y .skip) e
+    go (good b n) e = ap (λ (y : Seat). y .skip) e
+
 pub same-next : (s s′ : Seat) → s′ ≡ advanced s → s′ .next .count ≡ s .next .count
 same-next s s′ e = ap (λ (x : Seat). x .next .count) e
 

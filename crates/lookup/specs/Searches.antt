@@ -1,15 +1,25 @@
 -- For contracts: what stands under a key in a directory, and where the names of a path lead.
 use mathlib.Core.Path.{_≡_}
-use mathlib.Core.List.{List}
-use Prim.Native.Nat.{ℕ}
-use lib.ListN.{drop}
+use mathlib.Core.List.{List, _∷_, _++_}
+use Prim.Native.Nat.{ℕ, _<_}
+use lib.ListN.{length, drop}
 use Rattle.geometry.specs.declared.Geometry.{Geometry}
+use Rattle.geometry.specs.Geometry.{controlSize}
 use Rattle.packet.specs.Packet.{View}
+use Rattle.rules.specs.declared.Entry.{Entry}
 use Rattle.rules.specs.Result.{Res, ok, err}
-use Rattle.rules.specs.Tree.{Items, fileEntry, directoryEntry}
+use Rattle.rules.specs.Chain.{Link}
+use Rattle.rules.specs.Tree.{Label, Items, fileEntry, directoryEntry, Token, newPage, entry, tokens}
 use Rattle.rules.specs.Control.{Above}
 use Rattle.rules.specs.Paths.{namesIn, Found, nothing, aFile, aDirectory, find, Site, Place, directoryAt}
+use Rattle.rules.specs.Put.{replace}
+use Rattle.rules.specs.Delete.{remove}
+use Rattle.editing.specs.PageChange.{entryTokens, controlOn}
+use Rattle.entries.specs.declared.Seat.{Seat}
+use Rattle.entries.specs.Seats.{Fits}
 use Rattle.listing.specs.Standing.{Stands}
+use Rattle.lookup.specs.declared.Spot.{Spot}
+use Rattle.lookup.specs.declared.Spot.the-variants as spot
 use Rattle.lookup.specs.declared.Search.{Search}
 use Rattle.lookup.specs.declared.Search.the-variants as search
 use Rattle.lookup.specs.declared.Resolved.{Resolved}
@@ -30,6 +40,28 @@ module _ (g : Geometry) (v : View) where
   pub record HasTree (start : ℕ) : Type 0 where
     pub tree : Items
     pub at : TreeAt start tree
+
+  -- the place s of the entry e under a key in the directory t: the tokens before its page, the entries before it, what comes after; and the directory with the file removed or replaced
+  pub record PlaceOf (k : ℕ) (t : Items) (s : Seat) (e : Entry) : Type 0 where
+    pub found : search.Found e ≡ entryOf (find k t)
+    pub before : List Token
+    pub entries : List Entry
+    pub later : List Token
+    pub shape : tokens t ≡ before ++ (newPage (s .page) ∷ (entryTokens entries ++ (entry e ∷ later)))
+    pub removed : (l : Label) (ls : List Link) → find k t ≡ aFile l ls → tokens (remove k t) ≡ before ++ (newPage (s .page) ∷ (entryTokens entries ++ later))
+    pub replaced : (l : Label) (ls new : List Link) → find k t ≡ aFile l ls
+        → tokens (replace k new t) ≡ before ++ (newPage (s .page) ∷ (entryTokens entries ++ (entry (fileEntry l new) ∷ later)))
+    pub at-is : length entries ≡ s .at
+    pub under : s .at < s .count
+    pub fits : Fits g s
+    pub skip-is : (control : List ℕ) → length control ≡ controlSize g → length (controlOn (g .width) control before) ≡ s .skip
+
+  abbrev pub IsPlace : ℕ → Items → Spot → Type 0
+  IsPlace k t (spot.At s e) = PlaceOf k t s e
+  IsPlace k t spot.Absent = search.Absent ≡ entryOf (find k t)
+
+  abbrev pub Places : ℕ → ℕ → Spot → Type 0
+  Places start k r = (t : Items) → TreeAt start t → IsPlace k t r
 
   -- the entry under a key, for whatever directory stands there
   abbrev pub Finds : ℕ → ℕ → Search → Type 0

@@ -7,7 +7,13 @@ ghost use Prim.Native.Nat.{_+_, _*_, _≤_};
 ghost use lib.ListN.{length};
 ghost use Rattle.geometry.specs.Geometry.{Fit};
 ghost use Rattle.packet.specs.Packet.{viewOf};
-ghost use Rattle.lookup.specs.Searches.{HasTree, Finds, Resolves};
+ghost use Rattle.lookup.specs.Searches.{HasTree, Places, Finds, Resolves};
+
+// The entry that was looked for and its place.
+pub enum Spot {
+    At(Seat, Entry),
+    Absent,
+}
 
 // The entry that was looked for.
 pub enum Search {
@@ -21,27 +27,39 @@ pub enum Resolved {
     Absent,
 }
 
-// The entry of a directory with this key.
-pub fn find_entry(image: &[u8], g: Geometry, start: usize, key: u64) -> Search
+// The place of a directory's entry with this key.
+pub fn find_place(image: &[u8], g: Geometry, start: usize, key: u64) -> Spot
     requires { ⌜ Fit g (now image) ⌝ }
     requires { ⌜ HasTree g (viewOf g (now image)) start ⌝ }
-    ensures { λ r. ⌜ Finds g (viewOf g (now (image .entry))) start key r ⌝ }
+    ensures { λ r. ⌜ Places g (viewOf g (now (image .entry))) start key r ⌝ }
 {
     let mut seat = Seat::first(image, g, start);
     loop {
         if seat.at < seat.count {
             let e = seat.entry(image, g);
             if entries::key_of(e.name, e.extension) == key {
-                return Search::Found(e);
+                return Spot::At(seat, e);
             }
             seat = seat.past();
         } else {
             let next = seat.next;
             if next.page == 0 {
-                return Search::Absent;
+                return Spot::Absent;
             }
             seat = Seat::begin(next, 0, image, g);
         }
+    }
+}
+
+// The entry of a directory with this key.
+pub fn find_entry(image: &[u8], g: Geometry, start: usize, key: u64) -> Search
+    requires { ⌜ Fit g (now image) ⌝ }
+    requires { ⌜ HasTree g (viewOf g (now image)) start ⌝ }
+    ensures { λ r. ⌜ Finds g (viewOf g (now (image .entry))) start key r ⌝ }
+{
+    match find_place(image, g, start, key) {
+        Spot::At(_, e) => Search::Found(e),
+        Spot::Absent => Search::Absent,
     }
 }
 

@@ -1,64 +1,22 @@
--- What is found from a place on is what is found in the whole.
-use mathlib.Core.Path.{sym, _∙_}
-use Prim.Native.Nat.{_+_, _-_, _*_}
-use native.Mathlib.Omega.{arith}
+use mathlib.Core.Path.{subst}
 use Rattle.packet.specs.Packet.{viewOf}
-use Rattle.rules.specs.Tree.{Items}
-use Rattle.lookup.specs.Searches.{TreeAt}
-use Rattle.entries.proofs.Places.{seat-few, past-less, page-less}
-use Rattle.entries.proofs.Seated.{counts-on}
-use Rattle.lookup.proofs.Finding.{Finding, find-first, found, find-on, not-found, find-next, find-page-on}
+use Rattle.lookup.specs.declared.Spot.{Spot}
+use Rattle.lookup.specs.Searches.{IsPlace}
 use borrow.Author.Needs.{needs}
 use Rattle.lookup.proofs.find_entry.Statement.{statement}
 use Rattle.lookup.proofs.find_entry.Tie as tie
 
-abbrev Inv-loop : tie.InvT-loop
-Inv-loop image g start key seat₀ seat = (t : Items) → TreeAt g (viewOf g image) start t → Finding g (viewOf g image) key t seat
+returns : tie.Need-returns
+returns c = λ t T.
+    let a = c .before .before .before .before .before .args in
+    subst (IsPlace (a .g) (viewOf (a .g) (a .image .now)) (a .key) t) (c .before .e .given .1) (c .before .before .before .find-place .ensures t T) .found
 
-abbrev μ-loop : tie.MeasureT-loop
-μ-loop image g start key seat₀ seat = (g .pages - seat .next .count) * 256 + (seat .count - seat .at)
-
-first-requires : tie.Need-first-requires Inv-loop μ-loop
-first-requires c κs = let s = c .before .pre in (s .0, record { links = s .1 .at .stands .chained .links; chain = s .1 .at .stands .chained .chain })
-
-loop-holds : tie.Need-loop-holds Inv-loop μ-loop
-loop-holds c = λ t d. find-first _ _ (c .before .before .pre .0) _ t _ _ d (c .first .ensures)
-
-entry-requires : tie.Need-entry-requires Inv-loop μ-loop
-entry-requires c κs =
-    let s = c .before .before .before .before .before .pre in
-    (s .0, (c .before .before .loop .inv (s .1 .tree) (s .1 .at) .ahead .seated .fits, c .if1 .taken))
-
-returns : tie.Need-returns Inv-loop μ-loop
-returns c = λ t d. found _ _ (c .before .before .before .before .before .before .before .before .pre .0) _ t _ (c .before .before .before .before .before .loop .inv t d) (c .before .before .before .if1 .taken) _ (c .before .before .entry .ensures .0) (sym (c .before .key-of .ensures) ∙ c .if2 .taken)
-
-loop-less : tie.Need-loop-less Inv-loop μ-loop
-loop-less c = past-less (c .before .before .before .before .before .before .before .before .before .args .g .pages) _ _ (c .past .ensures) (c .before .before .before .before .if1 .taken)
-
-loop-again : tie.Need-loop-again Inv-loop μ-loop
-loop-again c = λ t d. find-on _ _ (c .before .before .before .before .before .before .before .before .before .pre .0) _ t _ (c .before .before .before .before .before .before .loop .inv t d) (c .before .before .before .before .if1 .taken) _ (c .before .before .before .entry .ensures .0) (λ h. c .before .if2 .left (c .before .before .key-of .ensures ∙ h)) _ (c .past .ensures)
-
-returns-2 : tie.Need-returns-2 Inv-loop μ-loop
-returns-2 c = λ t d. not-found _ _ (c .before .before .before .before .before .before .before .before .pre .0) _ t _ (c .before .before .before .before .before .loop .inv t d) (c .before .before .before .if1 .left) (c .if3 .taken)
-
-begin-requires : tie.Need-begin-requires Inv-loop μ-loop
-begin-requires c κs =
-    let s = c .before .before .before .before .before .before .before .before .pre in
-    let k = find-next _ _ (s .0) _ _ _ (c .before .before .before .before .before .loop .inv (s .1 .tree) (s .1 .at)) (c .before .before .before .if1 .left) (c .if3 .left) in
-    (s .0, (k .0, k .1, k .2, omega arith))
-
-loop-less-2 : tie.Need-loop-less-2 Inv-loop μ-loop
-loop-less-2 c =
-    let s = c .before .before .before .before .before .before .before .before .before .pre in
-    let l = c .before .before .before .before .before .before .loop .inv (s .1 .tree) (s .1 .at) in
-    let k = find-next _ _ (s .0) _ _ _ l (c .before .before .before .before .if1 .left) (c .before .if3 .left) in
-    let n = find-page-on _ _ (s .0) _ _ _ l (c .before .before .before .before .if1 .left) (c .before .if3 .left) _ (c .begin .ensures) in
-    page-less (c .before .before .before .before .before .before .before .before .before .args .g .pages) _ _ _ _ _ (counts-on _ _ (s .0) _ _ _ (c .begin .ensures) (k .2)) (omega (arith, k .3, l .ahead .few)) (seat-few _ _ (s .0 .valid) (n .ahead .seated .fits))
-
-loop-again-2 : tie.Need-loop-again-2 Inv-loop μ-loop
-loop-again-2 c = λ t d. find-page-on _ _ (c .before .before .before .before .before .before .before .before .before .pre .0) _ t _ (c .before .before .before .before .before .before .loop .inv t d) (c .before .before .before .before .if1 .left) (c .before .if3 .left) _ (c .begin .ensures)
+returns-2 : tie.Need-returns-2
+returns-2 c = λ t T.
+    let a = c .before .before .before .before .args in
+    subst (IsPlace (a .g) (viewOf (a .g) (a .image .now)) (a .key) t) (c .enum-told .given .1) (c .before .before .find-place .ensures t T)
 
 pub find-entry-spec : {M : Type 1} → statement M
 find-entry-spec =
     tie.close
-    (tie.spec Inv-loop μ-loop first-requires loop-holds entry-requires (λ c κs. search needs) returns (λ c κs. search needs) loop-less loop-again returns-2 begin-requires loop-less-2 loop-again-2)
+    (tie.spec (λ c κs. search needs) (λ c. search needs) (λ c. search needs) returns returns-2)
