@@ -138,16 +138,16 @@ module _ (g : Geometry) (path image : List ℕ) (bytes : Bytes image) (i : Image
   abbrev k : ℕ
   k = fileKey q
 
-  located : Located (q .directories) atRoot theRoot (i .tree) place
+  pub located : Located (q .directories) atRoot theRoot (i .tree) place
   located = locate (q .directories) atRoot theRoot (i .tree) place there
 
   shape-here : (m : ℕ) × Shaped m (place .items)
   shape-here = place-shaped g image i well bytes (q .directories) place located
 
-  the-edit : DirectoryEdit g d (remove k d) [] (innerPages (remove k d))
+  pub the-edit : DirectoryEdit g d (remove k d) [] (innerPages (remove k d))
   the-edit = remove-edit g k l ls d (shape-here .1 .isDirectory) f
 
-  pages-then : (x : ℕ) → count x (allPages (changeAt (q .directories) (λ _. remove k d) (i .tree)) ++ mapPages (i .map)) + count x (pages ls) ≡ count x (used i)
+  pub pages-then : (x : ℕ) → count x (allPages (changeAt (q .directories) (λ _. remove k d) (i .tree)) ++ mapPages (i .map)) + count x (pages ls) ≡ count x (used i)
   pages-then x =
       let cs = located .contexts in
       rw (located .change (λ _. remove k d)) (omega (

@@ -72,7 +72,7 @@ module _ (g : Geometry) (image : List ℕ) (i : Image) (well : WellFormed g imag
   abbrev v₀ : View
   v₀ = viewOf g image
 
-  abbrev marks : List ℕ
+  abbrev pub marks : List ℕ
   marks = bitmapOf g (used i) (i .map)
 
   abbrev d : Items
@@ -90,7 +90,7 @@ module _ (g : Geometry) (image : List ℕ) (i : Image) (well : WellFormed g imag
   rootShaped : Shaped 8 (filledAll cs d)
   rootShaped = rw (located .whole) (record { isDirectory = well .holds .isDirectory; names = well .holds .names; entries = well .holds .entries })
 
-  hereStands : DirectoryStands g marks (i .map) v₀ (place .site) (aboveAt theRoot cs d) d
+  pub hereStands : DirectoryStands g marks (i .map) v₀ (place .site) (aboveAt theRoot cs d) d
   hereStands = subst (λ (s : Site). DirectoryStands g marks (i .map) v₀ s (aboveAt theRoot cs d) d) (sym (located .site-is)) (place-stands g marks (i .map) v₀ cs atRoot theRoot d rootStands)
 
   -- the directory at the place, with so many levels left, and no page of it too full
@@ -108,23 +108,23 @@ module _ (g : Geometry) (image : List ℕ) (i : Image) (well : WellFormed g imag
     abbrev theEdit : Edit
     theEdit = record { site = place .site; before = place .items; after = e; chain = chain }
 
-    abbrev t′ : Items
+    abbrev pub t′ : Items
     t′ = filledAll cs e
 
     tree-is : changeAt names (λ _. e) (i .tree) ≡ t′
     tree-is = located .change (λ _. e)
 
     -- no page of these is another's
-    clear : (x : ℕ) → count x (aroundAll cs) + count x (ownPages e) + count x kept + count x (pages chain) + count x (mapPages (i .map)) ≤ 1
+    pub clear : (x : ℕ) → count x (aroundAll cs) + count x (ownPages e) + count x kept + count x (pages chain) + count x (mapPages (i .map)) ≤ 1
     clear x =
         let a : count x (allPages t′ ++ mapPages (i .map)) ≤ count x (range (g .pages)) = rw tree-is at (apart x) in
         omega (arith, a, range-le x (g .pages), count-append x (allPages t′) (mapPages (i .map)), all-filled-all x cs e, all-split x e, edit .inner x)
 
-    within : (x : ℕ) → count x (allPages t′) + count x (mapPages (i .map)) ≤ count x (range (g .pages))
+    pub within : (x : ℕ) → count x (allPages t′) + count x (mapPages (i .map)) ≤ count x (range (g .pages))
     within x = let a : count x (allPages t′ ++ mapPages (i .map)) ≤ count x (range (g .pages)) = rw tree-is at (apart x) in omega (arith, a, count-append x (allPages t′) (mapPages (i .map)))
 
     -- ---- the file's pages
-    abbrev image₁ : List ℕ
+    abbrev pub image₁ : List ℕ
     image₁ = play g (linked chain) image
 
     abbrev v₁ : View
@@ -140,16 +140,16 @@ module _ (g : Geometry) (image : List ℕ) (i : Image) (well : WellFormed g imag
     chain₁ = play-stands g (linked chain) chainFits image fit (λ x. omega (arith, clear x, ap (count x) (pages-linked chain)))
 
     -- ---- the directory's pages that differ, the last first
-    abbrev control : List ℕ
+    abbrev pub control : List ℕ
     control = controlOf (g .width) marks (i .map) (place .site)
 
-    abbrev old : List Write
+    abbrev pub old : List Write
     old = linked (directoryLinks g control d)
 
-    abbrev new : List Write
+    abbrev pub new : List Write
     new = linked (directoryLinks g control e)
 
-    abbrev ws₂ : List Write
+    abbrev pub ws₂ : List Write
     ws₂ = backwards (changes old new)
 
     new-fits : WritesFit g new
@@ -163,19 +163,19 @@ module _ (g : Geometry) (image : List ℕ) (i : Image) (well : WellFormed g imag
     fits₂ : WritesFit g ws₂
     fits₂ = backwards-fit g (changes old new) (changes-fit g old new new-fits)
 
-    abbrev image₂ : List ℕ
+    abbrev pub image₂ : List ℕ
     image₂ = play g ws₂ image₁
 
-    abbrev v₂ : View
+    abbrev pub v₂ : View
     v₂ = viewOf g image₂
 
-    fit₂ : Fit g image₂
+    pub fit₂ : Fit g image₂
     fit₂ = play-fit g ws₂ fits₂ image₁ fit₁
 
-    bytes₂ : Bytes image₂
+    pub bytes₂ : Bytes image₂
     bytes₂ = bytes-play g ws₂ fits₂ image₁ fit₁ (bytes-play g (linked chain) chainFits image fit bytes)
 
-    pages₂ : (x : ℕ) → count x (writePages ws₂) ≤ count x (ownPages e)
+    pub pages₂ : (x : ℕ) → count x (writePages ws₂) ≤ count x (ownPages e)
     pages₂ x = omega (arith, count-backwards x (changes old new), changes-less x old new, count-directory g x control e)
 
     stays₂ : (x : ℕ) → count x (ownPages e) ≡ 0 → v₂ x ≡ v₁ x
@@ -203,7 +203,7 @@ module _ (g : Geometry) (image : List ℕ) (i : Image) (well : WellFormed g imag
     root₂ : DirectoryStands g marks (i .map) v₂ atRoot theRoot t′
     root₂ = place-changed g marks (i .map) v₀ v₂ cs atRoot theRoot d e (edit .start) (λ x j. stays x (omega (arith, clear x)) (omega (arith, clear x))) rootStands here₂
 
-    parts₂ : PartsStand g v₂ marks t′ (i .map)
+    pub parts₂ : PartsStand g v₂ marks t′ (i .map)
     parts₂ = record {
       own = root₂ .own;
       below = root₂ .below;
@@ -211,13 +211,13 @@ module _ (g : Geometry) (image : List ℕ) (i : Image) (well : WellFormed g imag
     }
 
     -- ---- the bitmap's pages
-    abbrev bits : List ℕ
+    abbrev pub bits : List ℕ
     bits = bitmapOf g (allPages t′ ++ mapPages (i .map)) (i .map)
 
-    shaped : Shaped 8 t′
+    pub shaped : Shaped 8 t′
     shaped = shaped-changed d e (edit .shaped) cs 8 rootShaped
 
-    abbrev ws₃ : List Write
+    abbrev pub ws₃ : List Write
     ws₃ = mapWrites g bits t′ (remap bits (i .map))
 
     size : length bits ≡ length marks
@@ -279,7 +279,7 @@ module _ (g : Geometry) (image : List ℕ) (i : Image) (well : WellFormed g imag
         ap (λ (k : Image). ws₀ ++ (linked chain ++ (ws₂ ++ mapWrites g (bitmapOf g (used k) (k .map)) (k .tree) (k .map)))) edited-is
         ∙ ap (λ (b : List ℕ). ws₀ ++ (linked chain ++ (ws₂ ++ mapWrites g b t′ (remap bits (i .map))))) bits-are
 
-    after-is : plainEdit g names theEdit i image ≡ image₃
+    pub after-is : plainEdit g names theEdit i image ≡ image₃
     unfolding plainEdit
     after-is =
         ap (λ (ws : List Write). play g ws image) writes-are ∙ play-append g ws₀ (linked chain ++ (ws₂ ++ ws₃)) image

@@ -38,7 +38,7 @@ names-begin b k = let e : k - 0 ≡ k = omega arith in rw e
 pub names-end : (b : List ℕ) (k i : ℕ) → k ≤ i → true ≡ validNames (namesIn (k - i) (drop (4 * i) b))
 names-end b k i h = let e : k - i ≡ 0 = omega arith in rw e
 
-length-names : (k : ℕ) (b : List ℕ) → length (namesIn k b) ≡ k
+pub length-names : (k : ℕ) (b : List ℕ) → length (namesIn k b) ≡ k
 length-names zero b = refl
 length-names (suc k) b = ap suc (length-names k (drop 4 b))
 

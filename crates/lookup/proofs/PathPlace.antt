@@ -1,0 +1,68 @@
+-- The directory that a path's names lead to in an accepted image, as the code follows them.
+use mathlib.Core.Path.{_≡_, refl, ap, sym, _∙_, subst}
+use mathlib.Core.List.{List}
+use Prim.Native.Nat.{ℕ, _≤_}
+use native.Mathlib.Omega.{arith}
+use lib.ListN.{drop}
+use Rattle.geometry.specs.declared.Geometry.{Geometry}
+use Rattle.packet.specs.Packet.{View}
+use Rattle.rules.specs.declared.Entry.{Entry}
+use Rattle.rules.specs.Result.{ok, err}
+use Rattle.rules.specs.Chain.{Link}
+use Rattle.rules.specs.Names.{key}
+use Rattle.rules.specs.Tree.{Label, Items, fileEntry, Image}
+use Rattle.rules.specs.Control.{theRoot}
+use Rattle.rules.specs.Check.{check}
+use Rattle.rules.specs.Paths.{namesIn, Found, nothing, aFile, aDirectory, find, atRoot, Place, directoryAt}
+use Rattle.chain.specs.KnownChain.{ChainStands}
+use Rattle.path.proofs.Parts.{Parts}
+use Rattle.listing.proofs.Accepting.{accepted-stands}
+use Rattle.lookup.specs.declared.Search.the-variants as search
+use Rattle.lookup.specs.declared.Resolved.{Resolved}
+use Rattle.lookup.specs.declared.Resolved.the-variants as resolved
+use Rattle.lookup.specs.Searches.{entryOf, TreeAt, HasTree, Leads}
+use Rattle.lookup.proofs.Resolving.{FoundStands, find-stands, no-directory}
+
+pub root-tree : (g : Geometry) (v : View) (i : Image) → check g v ≡ ok i → TreeAt g v 0 (i .tree)
+root-tree g v i accepted = record { levels = 8; stands = accepted-stands g v i accepted }
+
+module _ (g : Geometry) (v : View) (path : List ℕ) (i : Image) (names name extension : ℕ) (P : Parts path names name extension) where
+  -- the rule's directory, and that it stands from a start page on
+  pub record PlaceAt (start : ℕ) : Type 0 where
+    pub place : Place
+    pub is : directoryAt (P .path .directories) atRoot theRoot (i .tree) ≡ ok place
+    pub tree : TreeAt g v start (place .items)
+
+  module _ (r : Resolved) (h : Leads g v (directoryAt (namesIn names (drop 0 path)) atRoot theRoot (i .tree)) r) where
+    names-are : directoryAt (namesIn names (drop 0 path)) atRoot theRoot (i .tree) ≡ directoryAt (P .path .directories) atRoot theRoot (i .tree)
+    names-are = ap (λ (l : List ℕ). directoryAt l atRoot theRoot (i .tree)) (sym (P .directories))
+
+    pub no-directory-at : r ≡ resolved.Absent → directoryAt (P .path .directories) atRoot theRoot (i .tree) ≡ err 15 0
+    no-directory-at e = sym names-are ∙ subst (Leads g v (directoryAt (namesIn names (drop 0 path)) atRoot theRoot (i .tree))) e h
+
+    pub place-at : (start : ℕ) → r ≡ resolved.Directory start → PlaceAt start
+    place-at start e =
+        let k = subst (Leads g v (directoryAt (namesIn names (drop 0 path)) atRoot theRoot (i .tree))) e h in
+        record { place = k .0; is = sym names-are ∙ k .1; tree = k .2 }
+
+    pub has-tree : (start : ℕ) → r ≡ resolved.Directory start → HasTree g v start
+    has-tree start e = let k = place-at start e in record { tree = k .place .items; at = k .tree }
+
+-- what is found under a file's key is a file, and its chain stands
+pub record FoundFile (g : Geometry) (v : View) (k : ℕ) (t : Items) (e : Entry) : Type 0 where
+  pub label : Label
+  pub links : List Link
+  pub is : find k t ≡ aFile label links
+  pub entry-is : e ≡ fileEntry label links
+  pub chain : ChainStands g v (e .start) links
+
+pub found-file : (g : Geometry) (v : View) (start : ℕ) (t : Items) → TreeAt g v start t → (k name extension : ℕ) → k ≡ key name extension → extension ≤ 99 → (e : Entry) → search.Found e ≡ entryOf (find k t)
+    → FoundFile g v k t e
+found-file g v start t T k name extension k-is low e q = go (find k t) refl (find-stands g v (T .levels) k t (T .stands .below)) q
+  where
+    go : (x : Found) → find k t ≡ x → FoundStands g v (T .levels) k x → search.Found e ≡ entryOf x → FoundFile g v k t e
+    go nothing j b z = absurd (let z : _≡_ {A = ℕ} 0 1 = cc in omega arith)
+    go (aDirectory l d) j b z = absurd (no-directory k name extension l k-is low (b .0) (b .2))
+    go (aFile l ls) j b z =
+        let y : e ≡ fileEntry l ls = cc in
+        record { label = l; links = ls; is = j; entry-is = y; chain = subst (λ (n : ℕ). ChainStands g v n ls) (sym (ap (λ (x : Entry). x .start) y)) (b .1) }
