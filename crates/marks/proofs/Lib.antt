@@ -1,1 +1,5 @@
 pub mod Filling
+pub mod RootPage
+pub mod MapFile
+pub mod Releasing
+pub mod MapPlace

@@ -1,2 +1,5 @@
 pub mod Marks
 pub mod MarkLaws
+pub mod MapPages
+pub mod ReleaseLaws
+pub mod RootLaws

@@ -1,13 +1,14 @@
 -- The bytes of a table are the bitmap of the pages that it represents.
 use mathlib.Core.Path.{_≡_, refl, ap, ap₂, sym, _∙_}
 use mathlib.Core.List.{List, [], _∷_, _++_}
-use Prim.Native.Nat.{ℕ, zero, suc, _+_, _*_, _<_}
+use Prim.Native.Nat.{ℕ, zero, suc, _+_, _*_, _^_, _<_}
 use native.Mathlib.Omega.{arith}
 use lib.Dec.{ltb}
 use lib.ListN.{length, getD}
+use Rattle.geometry.specs.Number.{Bytes}
 use Rattle.rules.specs.PageSets.{bit, count, mem}
 use Rattle.rules.specs.Bitmap.{byteFor, bitmapFrom}
-use Rattle.rules.specs.OwnerLaws.{nonzero, Represents}
+use Rattle.rules.specs.OwnerLaws.{nonzero, nonzero-le, Represents}
 use Rattle.marks.specs.Marks.{byteMarks, marksFrom}
 
 module _ (table used : List ℕ) (h : Represents table used) where
@@ -43,3 +44,13 @@ marks-append table (suc a) b k =
     let e : k + 8 * suc a ≡ k + 8 + 8 * a = omega arith in
     let f : suc a + b ≡ suc (a + b) = omega arith in
     rw (e, f) (ap (λ (xs : List ℕ). byteMarks table k 8 ∷ xs) (marks-append table a b (k + 8)))
+
+-- each is a byte
+mark-below : (table : List ℕ) (n k : ℕ) → byteMarks table k n < 2 ^ n
+mark-below table zero k = omega arith
+mark-below table (suc n) k = omega (arith, mark-below table n (k + 1), nonzero-le (getD table k 0))
+
+pub bytes-marks : (table : List ℕ) (n k : ℕ) → Bytes (marksFrom table k n)
+unfolding marksFrom
+bytes-marks table zero k = tt
+bytes-marks table (suc n) k = (mark-below table 8 k, bytes-marks table n (k + 8))

@@ -1,8 +1,16 @@
-// The bitmap written from the owner table: bit k is 1 where page k has an owner.
+// The bitmap written from the owner table: bit k is 1 where page k has an owner. And a chain's pages made free in the table.
+use chain::Cursor;
+use chain::Step;
+use geometry::Geometry;
+use packet::Judged;
 ghost use mathlib.Core.Path.{_≡_};
 ghost use Prim.Native.Nat.{_+_, _*_, _≤_, _<_};
 ghost use lib.ListN.{length};
+ghost use Rattle.geometry.specs.Geometry.{Fit};
+ghost use Rattle.packet.specs.Packet.{viewOf};
+ghost use Rattle.chain.specs.KnownChain.{KnownChain};
 ghost use Rattle.marks.specs.Marks.{byteMarks, marksFrom};
+ghost use Rattle.marks.specs.MapPages.{HasLocal, CopiesRoot, WritesLocal, HasFile, WritesFile, HasRoot, WritesMap, TellsLocal, TellsStart, Releases};
 
 // The bits of the four pages from k on.
 fn four_bits(owners: &[u16], k: usize) -> usize
@@ -34,4 +42,138 @@ pub fn fill(bytes: &mut [u8], k: usize, owners: &[u16])
         bytes[i] = byte_of(owners, k + 8 * i);
         i += 1;
     }
+}
+
+// Copies the data bytes of page 0's packet, which is known to be right, to the front of a buffer.
+fn copy_root(image: &[u8], g: Geometry, buffer: &mut [u8]) -> Judged
+    requires { ⌜ Fit g (now image) ⌝ }
+    requires { ⌜ (length (now buffer) ≡ 256) × HasLocal g (viewOf g (now image)) ⌝ }
+    ensures { λ r. ⌜ CopiesRoot g (viewOf g (now (image .entry))) r (now (buffer .entry)) (now (buffer .exit)) ⌝ }
+{
+    let page = geometry::page_of(image, g, 0);
+    match packet::frame(page, g.width) {
+        Judged::Bad => Judged::Bad,
+        Judged::Whole { length, next } => {
+            geometry::put_bytes(buffer, 0, packet::data_of(page, length));
+            Judged::Whole { length, next }
+        }
+    }
+}
+
+// Writes page 0 with the bitmap's four bytes from the table, in a buffer.
+fn write_root(image: &mut [u8], g: Geometry, owners: &[u16], buffer: &mut [u8])
+    requires { ⌜ Fit g (now image) ⌝ }
+    requires { ⌜ (length (now buffer) ≡ 256) × HasLocal g (viewOf g (now image)) ⌝ }
+    ensures { λ _. ⌜ WritesLocal g (now (owners .entry)) (now (image .entry)) (now (image .exit)) ⌝ }
+{
+    let at = g.width + 2;
+    let end = at + 4;
+    match copy_root(image, g, buffer) {
+        Judged::Bad => {}
+        Judged::Whole { length, next } => {
+            fill(&mut buffer[at..end], 0, owners);
+            packet::write_page(image, g, 0, &buffer[..length], next);
+        }
+    }
+}
+
+// Writes the bitmap in the root's control field from the table; all else of page 0's packet stays.
+pub fn write_local(image: &mut [u8], g: Geometry, owners: &[u16])
+    requires { ⌜ Fit g (now image) ⌝ }
+    requires { ⌜ HasLocal g (viewOf g (now image)) ⌝ }
+    ensures { λ _. ⌜ WritesLocal g (now (owners .entry)) (now (image .entry)) (now (image .exit)) ⌝ }
+{
+    let mut buffer = [0u8; 256];
+    write_root(image, g, owners, &mut buffer);
+}
+
+// Writes the pages of the bitmap file in chain order, in a buffer.
+fn write_pages(image: &mut [u8], g: Geometry, start: usize, owners: &[u16], buffer: &mut [u8])
+    requires { ⌜ Fit g (now image) ⌝ }
+    requires { ⌜ (length (now buffer) ≡ 256) × HasFile g (viewOf g (now image)) start ⌝ }
+    ensures { λ _. ⌜ WritesFile g (now (owners .entry)) start (now (image .entry)) (now (image .exit)) ⌝ }
+{
+    let mut c = Cursor::new(start, start);
+    loop {
+        let page = c.page;
+        match c.step(image, g, true) {
+            Step::Refused(_, _) => {
+                return;
+            }
+            Step::Page(size, next) => {
+                fill(&mut buffer[..size], 8 * c.bytes, owners);
+                packet::write_page(image, g, page, &buffer[..size], next.page);
+                if next.page == 0 {
+                    return;
+                }
+                c = next;
+            }
+        }
+    }
+}
+
+// Writes the bitmap file from the table: each page keeps its packet's length and its pointer.
+pub fn write_file(image: &mut [u8], g: Geometry, start: usize, owners: &[u16])
+    requires { ⌜ Fit g (now image) ⌝ }
+    requires { ⌜ HasFile g (viewOf g (now image)) start ⌝ }
+    ensures { λ _. ⌜ WritesFile g (now (owners .entry)) start (now (image .entry)) (now (image .exit)) ⌝ }
+{
+    let mut buffer = [0u8; 256];
+    write_pages(image, g, start, owners, &mut buffer);
+}
+
+// Makes the pages of a chain free.
+pub fn release(image: &[u8], g: Geometry, start: usize, owners: &mut [u16])
+    requires { ⌜ Fit g (now image) ⌝ }
+    requires { ⌜ KnownChain g (viewOf g (now image)) start × (length (now owners) ≡ g .pages) ⌝ }
+    ensures { λ _. ⌜ Releases g (viewOf g (now (image .entry))) start (now (owners .entry)) (now (owners .exit)) ⌝ }
+{
+    let mut c = Cursor::new(start, start);
+    loop {
+        let page = c.page;
+        match c.step(image, g, true) {
+            Step::Refused(_, _) => {
+                return;
+            }
+            Step::Page(_, next) => {
+                owners[page] = 0;
+                if next.page == 0 {
+                    return;
+                }
+                c = next;
+            }
+        }
+    }
+}
+
+// Whether the bitmap is in the root's control field: bit 7 of its control byte.
+fn is_local(image: &[u8], g: Geometry) -> bool
+    requires { ⌜ Fit g (now image) ⌝ }
+    ensures { λ r. ⌜ TellsLocal g (viewOf g (now (image .entry))) r ⌝ }
+{
+    let at = g.width + 2;
+    let page = geometry::page_of(image, g, 0);
+    128 <= page[at]
+}
+
+// The start page of the bitmap file that the root's control field places.
+fn map_start(image: &[u8], g: Geometry) -> usize
+    requires { ⌜ Fit g (now image) ⌝ }
+    ensures { λ r. ⌜ TellsStart g (viewOf g (now (image .entry))) r ⌝ }
+{
+    geometry::number_at(geometry::page_of(image, g, 0), 7 - g.width, g.width)
+}
+
+// Writes the bitmap where the root places it.
+pub fn write_map(image: &mut [u8], g: Geometry, owners: &[u16])
+    requires { ⌜ Fit g (now image) ⌝ }
+    requires { ⌜ HasRoot g (viewOf g (now image)) ⌝ }
+    ensures { λ _. ⌜ WritesMap g (now (owners .entry)) (now (image .entry)) (now (image .exit)) ⌝ }
+{
+    if is_local(image, g) {
+        write_local(image, g, owners);
+        return;
+    }
+    let start = map_start(image, g);
+    write_file(image, g, start, owners);
 }

@@ -1,3 +1,4 @@
 pub mod MapLaws
 pub mod ScanLaws
 pub mod CheckLaws
+pub mod EditLaws

@@ -18,6 +18,12 @@ ghost use Rattle.rules.specs.OwnerLaws.{inUse};
 ghost use Rattle.volume.specs.Scans.{rootOf, MapClaimed, RootWalked, Scanned, IsScanned, BitsCompared, TableChecked, told, Accepts};
 ghost use Rattle.rules.specs.Calls.{checkCall};
 
+// What an edit answers: done, or a number of document 01 and the page told.
+pub enum Edited {
+    Done,
+    Refused(u8, usize),
+}
+
 // `ROOT`, the first byte lowest.
 const ROOT: u32 = 0x544F4F52;
 

@@ -1,0 +1,4 @@
+pub mod Stages
+pub mod Unlinking
+pub mod PathDelete
+pub mod Calling

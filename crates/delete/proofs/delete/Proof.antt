@@ -1,0 +1,42 @@
+use mathlib.Core.Path.{sym, _∙_}
+use lib.Seq.{length-take-le}
+use Rattle.geometry.specs.ShapeLaws.{sized-of, fit-of}
+use Rattle.rules.specs.CallLaws.{delete-wrong}
+use Rattle.volume.specs.declared.Edited.the-variants as edited
+use Rattle.delete.proofs.Calling.{deleted, delete-is}
+use borrow.Author.Needs.{needs}
+use Rattle.delete.proofs.delete.Statement.{statement}
+use Rattle.delete.proofs.delete.Tie as tie
+
+slice-relend-prefix-delete-in : tie.Need-slice-relend-prefix-delete-in
+slice-relend-prefix-delete-in c =
+    let a = c .before .before .before .before .before .before .before .before .args in
+    sized-of (a .size) (a .pages) _ _ _ (sym (c .before .before .before .before .new .ensures) ∙ c .before .before .g .given .1) .room
+
+slice-aggregate-delete-in : tie.Need-slice-aggregate-delete-in
+slice-aggregate-delete-in c =
+    let a = c .before .before .before .before .before .before .before .before .before .args in
+    sym (length-take-le _ _ (sized-of (a .size) (a .pages) _ _ _ (sym (c .before .before .before .before .before .new .ensures) ∙ c .before .before .before .g .given .1) .room))
+
+delete-in-requires : tie.Need-delete-in-requires
+delete-in-requires c κs =
+    let a = c .before .before .before .before .before .before .before .before .before .args in
+    let e = sym (c .before .before .before .before .before .new .ensures) ∙ c .before .before .before .g .given .1 in
+    (fit-of (a .size) (a .pages) (a .image .now) (a .owners .now) _ e, length-take-le _ (a .owners .now) (sized-of (a .size) (a .pages) _ _ _ e .room))
+
+returns : tie.Need-returns
+returns c =
+    let a = c .before .before .before .before .before .before .args in
+    let e = sym (delete-wrong (a .size) (a .pages) (a .image .now) (a .owners .now) (sym (c .before .before .new .ensures) ∙ c .enum-told .given .1) (a .path .now)) in
+    (e, delete-is (a .size) (a .pages) (a .image .now) (a .owners .now) (a .path .now) (λ i. c .before .before .before .before .before .slice-known .given i .fits) (edited.Refused 1 0) (a .image .now) (a .owners .now) e)
+
+returns-2 : tie.Need-returns-2
+returns-2 c =
+    let a = c .before .before .before .before .before .before .before .before .before .before .before .before .before .before .args in
+    let e = deleted (a .size) (a .pages) (a .image .now) (a .owners .now) (a .path .now) _ (sym (c .before .before .before .before .before .before .before .before .before .before .new .ensures) ∙ c .before .before .before .before .before .before .before .before .g .given .1) (c .before .before .before .before .delete-in .result) _ _ (c .before .before .before .before .delete-in .ensures) in
+    (e, delete-is (a .size) (a .pages) (a .image .now) (a .owners .now) (a .path .now) (λ i. c .before .before .before .before .before .before .before .before .before .before .before .before .before .slice-known .given i .fits) (c .before .before .before .before .delete-in .result) _ _ e)
+
+pub delete-spec : {M : Type 1} → statement M
+delete-spec =
+    tie.close
+    (tie.spec (λ c κs. search needs) (λ c. search needs) (λ c. search needs) slice-relend-prefix-delete-in slice-aggregate-delete-in delete-in-requires returns (λ c. search needs) (λ c. search needs) returns-2)

@@ -1,0 +1,58 @@
+-- A well-formed image's root and bitmap stand.
+use mathlib.Core.Path.{_≡_, refl, ap, _∙_}
+use mathlib.Core.List.{List}
+use Prim.Native.Nat.{ℕ, _≤_}
+use native.Mathlib.Omega.{arith}
+use lib.ListN.{length}
+use Rattle.geometry.specs.declared.Geometry.{Geometry}
+use Rattle.packet.specs.Packet.{View, viewOf}
+use Rattle.rules.specs.PageSets.{hit, count, Within}
+use Rattle.rules.specs.PageSetLaws.{hit-same, range-le, range-of, within-length}
+use Rattle.rules.specs.Chain.{pages}
+use Rattle.rules.specs.ChainLaws.{length-pages}
+use Rattle.rules.specs.Tree.{Items, end, page, file, dir, startOf, allPages, Map, inRoot, inFile, mapPages, Image, used}
+use Rattle.rules.specs.Bitmap.{mapSize, bitmapOf}
+use Rattle.rules.specs.WellFormed.{Stand, mapPackets, IsDirectory, MapHolds, WellFormedWith, WellFormed}
+use Rattle.reading.specs.Directory.{rest-zero, map-stands, root-holds}
+use Rattle.marks.specs.MapPages.{MapStands, RootHeld}
+
+-- page 0 is the root's
+pub zero-taken : (t : Items) → IsDirectory t → startOf t ≡ 0 → 1 ≤ count 0 (allPages t)
+zero-taken end i e = absurd i
+zero-taken (file l ls t) i e = absurd i
+zero-taken (dir l d t) i e = absurd i
+zero-taken (page p t) i e = omega (arith, ap (hit 0) e, hit-same 0)
+
+module _ (g : Geometry) (v : View) (bits : List ℕ) where
+  pub map-holds : (m : Map) → MapHolds g bits m → length bits ≡ mapSize g m → Stand v (mapPackets m) → count 0 (mapPages m) ≡ 0 → Within (g .pages) (mapPages m) → MapStands g v m
+  map-holds inRoot h r s z f = h
+  map-holds (inFile ls) h r s z f = (
+    record {
+      chain = record {
+        some = h .0;
+        begins = refl;
+        stand = s;
+        within = λ x k. range-of x (g .pages) (omega (arith, f x));
+        few = omega (arith, within-length (g .pages) (pages ls) f, length-pages ls);
+        onward = rest-zero ls z;
+      };
+      once = λ x. omega (arith, f x, range-le x (g .pages));
+    },
+    ap length (h .1) ∙ r,
+  )
+
+  -- with any bits
+  pub root-stands : (i : Image) → WellFormedWith g v bits i → RootHeld g v bits (i .tree) (i .map)
+  root-stands i h =
+      let w = root-holds g v bits (i .map) (i .tree) h in
+      let z = zero-taken (i .tree) (h .isDirectory) (h .atZero) in
+      record {
+        isDirectory = h .isDirectory;
+        atZero = h .atZero;
+        room = h .room;
+        chain = w .chain;
+        map = map-holds (i .map) (h .map) (h .room) (map-stands g v bits (i .map) (i .tree) h) (omega (arith, w .clear 0, range-le 0 (g .pages), z)) (λ x. omega (arith, w .clear x));
+      }
+
+pub root-held : (g : Geometry) (image : List ℕ) (i : Image) → WellFormed g image i → RootHeld g (viewOf g image) (bitmapOf g (used i) (i .map)) (i .tree) (i .map)
+root-held g image i h = root-stands g (viewOf g image) (bitmapOf g (used i) (i .map)) i (h .holds)

@@ -1,0 +1,40 @@
+-- An edit's call: what is left in its geometry is what the rules leave.
+use mathlib.Core.Path.{_≡_, refl, ap, ap₂, sym, _∙_}
+use mathlib.Core.List.{List, _++_}
+use Prim.Native.Nat.{ℕ}
+use lib.ListN.{length, drop}
+use Rattle.geometry.specs.declared.Geometry.{Geometry}
+use Rattle.geometry.specs.declared.Shape.{Shape}
+use Rattle.geometry.specs.declared.Shape.the-variants.{Fits}
+use Rattle.geometry.specs.Geometry.{geometryOf}
+use Rattle.packet.specs.Packet.{View, viewOf}
+use Rattle.rules.specs.Result.{Res, ok, err}
+use Rattle.rules.specs.Tree.{Image}
+use Rattle.rules.specs.Check.{check}
+use Rattle.rules.specs.Owners.{tableAfter}
+use Rattle.rules.specs.Calls.{inGeometry, done, changed}
+use Rattle.walk.specs.declared.Walk.{Walk}
+use Rattle.walk.specs.declared.Walk.the-variants as w
+use Rattle.volume.specs.declared.Edited.{Edited}
+use Rattle.volume.specs.Scans.{TableChecked}
+use Rattle.volume.specs.Edits.{editTold, leaves, EditLeaves}
+
+-- the table that a check fills, and what stands past it
+table-told : (g : Geometry) (v : View) (r : Walk) (u table : List ℕ) → TableChecked g v r u → u ++ drop (g .pages) table ≡ tableAfter (g .pages) (check g v) table
+unfolding tableAfter
+table-told g v (w.Done d) u table k = ap (λ (x : List ℕ). x ++ drop (g .pages) table) (k .3) ∙ sym (ap (λ (x : Res Image). tableAfter (g .pages) x table) (k .1))
+table-told g v (w.Refused n p) u table k = ap (λ (x : List ℕ). x ++ drop (g .pages) table) (k .1) ∙ sym (ap (λ (x : Res Image). tableAfter (g .pages) x table) (k .0))
+
+module _ (P N : ℕ) (image table : List ℕ) where
+  done-leaves : (g : Geometry) (x : Res (List ℕ)) → (leaves image x .0, leaves image x .1, tableAfter (g .pages) (check g (viewOf g (leaves image x .1))) table) ≡ done P N image table g x
+  done-leaves g (ok after) = refl
+  done-leaves g (err n p) = refl
+
+  -- an edit in the geometry that the sizes give
+  pub changed-leaves : (g : Geometry) → geometryOf P N (length image) (length table) ≡ Fits g → (edit : Geometry → Res (List ℕ)) (r : Edited) (after u : List ℕ) → EditLeaves g image (edit g) r after u
+      → (editTold r, after, u ++ drop (g .pages) table) ≡ changed P N image table edit
+  changed-leaves g e edit r after u k =
+      let a = k .answers in
+      ap₂ (λ (x : Res (Unit {0}) × List ℕ) (y : List ℕ). (x .0, x .1, y)) a (table-told g (viewOf g after) (k .check) u table (k .checked)
+      ∙ ap (λ (x : Res (Unit {0}) × List ℕ). tableAfter (g .pages) (check g (viewOf g (x .1))) table) a)
+      ∙ done-leaves g (edit g) ∙ sym (ap (λ (s : Shape). inGeometry s (err 1 0, image, table) (λ g. done P N image table g (edit g))) e)

@@ -1,0 +1,30 @@
+-- For contracts: what an edit answers, and the image and the table that it leaves.
+use mathlib.Core.Path.{_≡_}
+use mathlib.Core.List.{List}
+use Prim.Native.Nat.{ℕ}
+use Rattle.geometry.specs.declared.Geometry.{Geometry}
+use Rattle.packet.specs.Packet.{viewOf}
+use Rattle.rules.specs.Result.{Res, ok, err}
+use Rattle.walk.specs.declared.Walk.{Walk}
+use Rattle.volume.specs.declared.Edited.{Edited}
+use Rattle.volume.specs.declared.Edited.the-variants as edited
+use Rattle.volume.specs.Scans.{TableChecked}
+
+-- an answer as the rules have it
+abbrev pub editTold : Edited → Res (Unit {0})
+editTold edited.Done = ok tt
+editTold (edited.Refused n p) = err n p
+
+-- the answer of an edit and the image that it leaves
+abbrev pub leaves : List ℕ → Res (List ℕ) → Res (Unit {0}) × List ℕ
+leaves image (ok after) = (ok tt, after)
+leaves image (err n p) = (err n p, image)
+
+abbrev pub Answered : List ℕ → Res (List ℕ) → Edited → List ℕ → Type 0
+Answered image rule r after = _≡_ {A = Res (Unit {0}) × List ℕ} (editTold r, after) (leaves image rule)
+
+-- an edit in its geometry: its answer, the image, and the table of the image as it then stands
+pub record EditLeaves (g : Geometry) (image : List ℕ) (rule : Res (List ℕ)) (r : Edited) (after table : List ℕ) : Type 0 where
+  pub answers : Answered image rule r after
+  pub check : Walk
+  pub checked : TableChecked g (viewOf g after) check table
