@@ -52,7 +52,7 @@ emptyWith m = record { tree = page 0 end; map = m }
 
 module _ (g : Geometry) (valid : Valid g) where
   -- ---- the root's page
-  root-fits : (bits : List ℕ) (m : Map) → Bytes bits → length bits ≡ mapSize g m → WritesFit g (write 0 (rootControl (g .width) bits m ++ []) 0 ∷ [])
+  pub root-fits : (bits : List ℕ) (m : Map) → Bytes bits → length bits ≡ mapSize g m → WritesFit g (write 0 (rootControl (g .width) bits m ++ []) 0 ∷ [])
   root-fits bits m b l = (
     record {
       below = omega (arith, valid .some);
@@ -80,7 +80,7 @@ module _ (g : Geometry) (valid : Valid g) where
   unfolding bitmapSize
   size-is = refl
 
-  map-room : suc mapNeeds ≤ g .pages
+  pub map-room : suc mapNeeds ≤ g .pages
   map-room =
       let c = capacity-least g valid in
       let m : (g .pages - 1) * 1 ≤ (g .pages - 1) * dataCapacity g = mul-le-mul-left (g .pages - 1) (omega arith) in
@@ -90,11 +90,11 @@ module _ (g : Geometry) (valid : Valid g) where
   map-within : Within (g .pages) (0 ∷ mapRange)
   map-within = upward-within mapNeeds (g .pages) map-room
 
-  map-content : content mapChain ≡ mapBits
+  pub map-content : content mapChain ≡ mapBits
   map-content = content-spread (dataCapacity g) mapRange mapBits
       (rw (length-upward 1 mapNeeds, length-bitmap (0 ∷ mapRange) 0 (bitmapSize g)) (pages-enough (dataCapacity g) (bitmapSize g) (omega (arith, capacity-least g valid))))
 
-  map-bits : bitmapOf g (used (emptyWith (inFile mapChain))) (inFile mapChain) ≡ mapBits
+  pub map-bits : bitmapOf g (used (emptyWith (inFile mapChain))) (inFile mapChain) ≡ mapBits
   map-bits = ap (λ (ps : List ℕ). bitmapFrom (0 ∷ ps) 0 (bitmapSize g)) (pages-spread (dataCapacity g) mapRange mapBits)
 
   -- ---- each image without entries

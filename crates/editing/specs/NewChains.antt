@@ -42,7 +42,7 @@ range-more x a b h = elim (decLt x a) [
   | no k ↦ omega (arith, range-above x a (omega arith))
 ]
 
-count-upward : (x p k : ℕ) → count x (upward p k) + count x (range p) ≡ count x (range (p + k))
+pub count-upward : (x p k : ℕ) → count x (upward p k) + count x (range p) ≡ count x (range (p + k))
 count-upward x p zero = let e : p + 0 ≡ p = omega arith in rw e (omega arith)
 count-upward x p (suc k) =
     let e : p + suc k ≡ p + 1 + k = omega arith in

@@ -1,5 +1,5 @@
 -- The calls over the first 65,535 numbers of a table are the calls over the whole table, seen through bytes.
-use mathlib.Core.Path.{_≡_, refl, ap, ap₂, sym, _∙_, subst}
+use mathlib.Core.Path.{_≡_, refl, ap, sym, _∙_}
 use mathlib.Core.Bool.{Bool, true, false}
 use mathlib.Core.List.{List, _++_, append-assoc}
 use Prim.Native.Nat.{ℕ, _/_, _≤_, min}
@@ -21,14 +21,16 @@ use Rattle.rules.specs.Tree.{Image}
 use Rattle.rules.specs.Check.{check}
 use Rattle.rules.specs.Owners.{totals, owners, tableAfter}
 use Rattle.rules.specs.Listing.{linesOf, lineAt}
-use Rattle.rules.specs.Calls.{readBytes, lengthOf, filled, asked, checkCall, listCall, readCall}
+use Rattle.rules.specs.Calls.{readBytes, lengthOf, filled, inGeometry, asked, done, changed, checkCall, listCall, readCall, formatCall}
 use Rattle.rules.specs.CallLaws.{asked-fits, asked-wrong, check-wrong}
+use Rattle.rules.specs.Format.{format}
 use Rattle.table.specs.Table.{numbersOf, bytesWith}
 use Rattle.table.specs.TableLaws.{AreBytes, length-numbers, stored-same, stored-front}
 use Rattle.owfs.specs.declared.OwfsTotals.{OwfsTotals}
 use Rattle.owfs.specs.declared.OwfsEntry.{OwfsEntry}
 use Rattle.owfs.specs.declared.OwfsLength.{OwfsLength}
-use Rattle.owfs.specs.Answers.{totalsFor, entryFor, lengthFor, checkAnswer, listAnswer, readAnswer}
+use Rattle.owfs.specs.declared.OwfsAnswer.{OwfsAnswer}
+use Rattle.owfs.specs.Answers.{totalsFor, entryFor, lengthFor, answerFor, asksLocal, checkAnswer, listAnswer, readAnswer, formatAnswer}
 
 room-same : (N n k : ℕ) → N ≤ 65535 → n ≡ min k 65535 → leb N n ≡ leb N k
 room-same N n k h e = go (leb N k) refl
@@ -80,7 +82,39 @@ module _ (P N : ℕ) (image t : List ℕ) (n : ℕ) (en : n ≡ min (length t) 6
           ∙ ap (λ (l : List ℕ). (andThen (check g (viewOf g image)) question, l)) (table-front (g .pages) n (check g (viewOf g image)) t (omega (arith, z .room, front-length)) room)
           ∙ sym (ap (λ (x : Res A × List ℕ). (x .0, x .1 ++ drop n t)) k)
 
+  -- and so is an edit
+  changed-at : (table : List ℕ) (edit : Geometry → Res (List ℕ)) (s : Shape) → geometryOf P N (length image) (length table) ≡ s
+      → changed P N image table edit ≡ inGeometry s (err 1 0, image, table) (λ g. done P N image table g (edit g))
+  changed-at table edit s e = ap (λ (s : Shape). inGeometry s (err 1 0, image, table) (λ g. done P N image table g (edit g))) e
+
+  abbrev pub withRest : Res (Unit {0}) × List ℕ × List ℕ → Res (Unit {0}) × List ℕ × List ℕ
+  withRest x = (x .0, x .1, x .2 ++ drop n t)
+
+  done-front : (g : Geometry) (r : Res (List ℕ)) → g .pages ≤ n → done P N image t g r ≡ withRest (done P N image (take n t) g r)
+  done-front g (ok after) h = ap (λ (l : List ℕ). (ok tt, after, l)) (table-front (g .pages) n (check g (viewOf g after)) t h room)
+  done-front g (err a p) h = ap (λ (l : List ℕ). (err a p, image, l)) (table-front (g .pages) n (check g (viewOf g image)) t h room)
+
+  pub changed-front : (edit : Geometry → Res (List ℕ)) → changed P N image t edit ≡ withRest (changed P N image (take n t) edit)
+  changed-front edit = go (geometryOf P N (length image) (length t)) refl
+    where
+      go : (s : Shape) → geometryOf P N (length image) (length t) ≡ s → changed P N image t edit ≡ withRest (changed P N image (take n t) edit)
+      go Wrong e = changed-at t edit Wrong e ∙ ap (λ (l : List ℕ). (err 1 0, image, l)) (sym (take-append-drop n t)) ∙ sym (ap withRest (changed-at (take n t) edit Wrong (same ∙ e)))
+      go (Fits g) e =
+          let z = sized-of P N (length image) (length (take n t)) g (same ∙ e) in
+          changed-at t edit (Fits g) e ∙ done-front g (edit g) (omega (arith, z .room, front-length)) ∙ sym (ap withRest (changed-at (take n t) edit (Fits g) (same ∙ e)))
+
 -- ---- seen through bytes
+module _ (P N : ℕ) (image bytes : List ℕ) (edit : Geometry → Res (List ℕ)) (n : ℕ) (en : n ≡ min (length bytes / 2) 65535) (are : AreBytes bytes) (q : Res (Unit {0})) (after x b : List ℕ) (l : length x ≡ n)
+    (e : (q, after, x) ≡ changed P N image (take n (numbersOf bytes)) edit) (s : b ≡ bytesWith x bytes) where
+  pub seen-changed : _≡_ {A = Res (Unit {0}) × List ℕ × List ℕ} (q, after, b)
+      (changed P N image (numbersOf bytes) edit .0, changed P N image (numbersOf bytes) edit .1, bytesWith (changed P N image (numbersOf bytes) edit .2) bytes)
+  seen-changed =
+      let f = changed-front P N image (numbersOf bytes) n (omega (arith, en, length-numbers bytes)) edit in
+      let h : _≡_ {A = Res (Unit {0}) × List ℕ × List ℕ} (changed P N image (numbersOf bytes) edit) (q, after, x ++ drop n (numbersOf bytes)) =
+      f ∙ ap (λ (y : Res (Unit {0}) × List ℕ × List ℕ). (y .0, y .1, y .2 ++ drop n (numbersOf bytes))) (sym e) in
+      let w : b ≡ bytesWith (x ++ drop n (numbersOf bytes)) bytes = s ∙ sym (rw l at (stored-front x bytes are)) in
+      ap (λ (y : List ℕ). (q, after, y)) w ∙ ap (λ (y : Res (Unit {0}) × List ℕ × List ℕ). (y .0, y .1, bytesWith (y .2) bytes)) (sym h)
+
 module _ {A : Type 0} (P N : ℕ) (image bytes : List ℕ) (question : Image → Res A) (n : ℕ) (en : n ≡ min (length bytes / 2) 65535) (are : AreBytes bytes) (q : Res A) (x b : List ℕ) (l : length x ≡ n)
     (e : (q, x) ≡ asked P N image (take n (numbersOf bytes)) question) (s : b ≡ bytesWith x bytes) where
   pub seen : _≡_ {A = Res A × List ℕ} (q, b) (asked P N image (numbersOf bytes) question .0, bytesWith (asked P N image (numbersOf bytes) question .1) bytes)
@@ -109,6 +143,12 @@ module _ (P N : ℕ) (image bytes : List ℕ) (n : ℕ) (en : n ≡ min (length 
       let w = seen P N image bytes (readBytes path out) n en are (a .0) x b l t s in
       ap (λ (y : OwfsLength). (y, after, b)) i ∙ ap (λ (y : Res ℕ × List ℕ × List ℕ). (lengthFor (y .0), y .1, b)) e
       ∙ ap (λ (y : Res (List ℕ) × List ℕ). (lengthFor (lengthOf (y .0)), filled out (y .0), y .1)) w
+
+  pub formatted : (local : ℕ) (after : List ℕ) (q : Res (Unit {0})) (r : OwfsAnswer) → (q, after, x) ≡ formatCall P N image (take n (numbersOf bytes)) (asksLocal local) → r ≡ answerFor q
+      → (r, after, b) ≡ formatAnswer P N image bytes local
+  unfolding formatCall formatAnswer
+  formatted local after q r e i =
+      ap (λ (y : OwfsAnswer). (y, after, b)) i ∙ ap (λ (y : Res (Unit {0}) × List ℕ × List ℕ). (answerFor (y .0), y .1, y .2)) (seen-changed P N image bytes (λ g. format g (asksLocal local) image) n en are q after x b l e s)
 
 -- refusal 1 changes no owner byte
 pub check-untouched : (P N : ℕ) (image bytes : List ℕ) → AreBytes bytes → geometryOf P N (length image) (length bytes / 2) ≡ Wrong

@@ -1,5 +1,6 @@
 -- The numbers of the answers are small: totals and lines of an accepted image, the bytes of a file, the page of a refusal.
 use mathlib.Core.Path.{_≡_, refl, ap, sym, subst}
+use mathlib.Core.Bool.{Bool}
 use mathlib.Core.List.{List, [], _∷_, _++_}
 use Prim.Native.Nat.{ℕ, zero, suc, _+_, _*_, _≤_, _<_}
 use native.Mathlib.Omega.{arith}
@@ -24,15 +25,16 @@ use Rattle.rules.specs.Soundness.{check-sound}
 use Rattle.rules.specs.Owners.{totals}
 use Rattle.rules.specs.Listing.{linesOf, lineAt}
 use Rattle.rules.specs.Paths.{fileKey, Found, nothing, aFile, aDirectory, find, atRoot}
-use Rattle.rules.specs.Calls.{bytesOf, fileAt, readBytes, lengthOf, asked, checkCall, listCall, readCall}
+use Rattle.rules.specs.Calls.{bytesOf, fileAt, readBytes, lengthOf, asked, inGeometry, shape, done, changed, checkCall, listCall, readCall, formatCall}
 use Rattle.rules.specs.CallLaws.{asked-fits, asked-wrong}
+use Rattle.rules.specs.Format.{format}
 use Rattle.chain.specs.KnownChain.{ChainStands}
 use Rattle.chain.proofs.Following.{first-stands, small-view}
 use Rattle.listing.specs.Standing.{Below}
 use Rattle.listing.proofs.Accepting.{accepted-stands}
 use Rattle.lookup.proofs.Resolving.{FoundStands, find-stands, place-below}
-use Rattle.owfs.specs.Trees.{Small, TotalsSmall, LineSmall, LengthSmall}
-use Rattle.owfs.proofs.ToldLaws.{Tells, check-tells, read-tells}
+use Rattle.owfs.specs.Trees.{Small, TotalsSmall, LineSmall, LengthSmall, DoneSmall}
+use Rattle.owfs.proofs.ToldLaws.{Tells, check-tells, read-tells, format-tells}
 
 -- an answer is small if it is for every accepted image
 module _ {A : Type 0} (P N : ℕ) (image t : List ℕ) (few : A → Type 0) (question : Image → Res A)
@@ -137,3 +139,20 @@ module _ (P N : ℕ) (image t : List ℕ) where
     where
       read-file : (g : Geometry) → Fit g image → (i : Image) → check g (viewOf g image) ≡ ok i → (bytes : List ℕ) → readBytes path out i ≡ ok bytes → length bytes < 16777216
       read-file g f i a bytes z = unfold readBytes in on-then _ _ _ z λ b w z. on-refuse _ _ _ _ _ z λ _ z. subst (λ (y : List ℕ). length y < 16777216) (ok-inj z) (file-small g image f path i a b w)
+
+-- ---- an edit
+module _ (P N : ℕ) (image t : List ℕ) where
+  done-small : (g : Geometry) (r : Res (List ℕ)) → Tells r → Small DoneSmall (done P N image t g r .0)
+  done-small g (ok after) h = tt
+  done-small g (err n p) h = h .page n p refl
+
+  pub small-changed : (edit : Geometry → Res (List ℕ)) → ((g : Geometry) → Tells (edit g)) → Small DoneSmall (changed P N image t edit .0)
+  small-changed edit h = go (shape P N image t)
+    where
+      go : (s : Shape) → Small DoneSmall (inGeometry s (err 1 0, image, t) (λ g. done P N image t g (edit g)) .0)
+      go Wrong = omega arith
+      go (Fits g) = done-small g (edit g) (h g)
+
+  pub format-small : (local : Bool) (q : Res (Unit {0})) (after x : List ℕ) → (q, after, x) ≡ formatCall P N image t local → Small DoneSmall q
+  unfolding formatCall
+  format-small local q after x e = subst (Small DoneSmall) (sym (ap (λ (y : Res (Unit {0}) × List ℕ × List ℕ). y .0) e)) (small-changed (λ g. format g local image) (λ g. format-tells g local image))

@@ -14,7 +14,10 @@ use Rattle.query.specs.declared.Listed.the-variants as listed
 use Rattle.query.specs.declared.Length.{Length}
 use Rattle.query.specs.declared.Length.the-variants as length′
 use Rattle.query.specs.Questions.{lineTold, lengthTold}
-use Rattle.owfs.specs.Trees.{Small, TotalsSmall, LineSmall, LengthSmall}
+use Rattle.volume.specs.declared.Edited.{Edited}
+use Rattle.volume.specs.declared.Edited.the-variants as edited
+use Rattle.volume.specs.Edits.{editTold}
+use Rattle.owfs.specs.Trees.{Small, TotalsSmall, LineSmall, LengthSmall, DoneSmall}
 
 pub totals-told : (a : Walk) (t : Totals) → Small TotalsSmall (told a) → a ≡ w.Done t → TotalsSmall t
 totals-told a t h e = subst (λ (x : Walk). Small TotalsSmall (told x)) e h
@@ -33,6 +36,9 @@ length-told a n h e = subst (λ (y : Length). Small LengthSmall (lengthTold y)) 
 
 pub no-length-told : (a : Length) (n p : ℕ) → Small LengthSmall (lengthTold a) → a ≡ length′.Refused n p → p < 131072
 no-length-told a n p h e = subst (λ (y : Length). Small LengthSmall (lengthTold y)) e h
+
+pub edit-told : (a : Edited) (n p : ℕ) → Small DoneSmall (editTold a) → a ≡ edited.Refused n p → p < 131072
+edit-told a n p h e = subst (λ (y : Edited). Small DoneSmall (editTold y)) e h
 
 pub front : (n k x : ℕ) → n ≤ k → length (take n (replicate k x)) ≡ n
 front n k x h = length-take-le n (replicate k x) (omega (arith, length-replicate k x, h))

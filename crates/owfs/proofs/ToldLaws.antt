@@ -24,6 +24,7 @@ use Rattle.rules.specs.Check.{Judge, Scan, rawBits, partPages, judgeBits, judge
 use Rattle.rules.specs.BitmapLaws.{lowest}
 use Rattle.rules.specs.Paths.{pathOf, directoryKey, Found, nothing, aFile, aDirectory, find, Site, atRoot, below, inDirectory, directoryAt}
 use Rattle.rules.specs.Calls.{bytesOf, fileAt, readBytes}
+use Rattle.rules.specs.Format.{format}
 use Rattle.lookup.proofs.Resolving.{at-next}
 use Rattle.rules.specs.Soundness.{tokenPages, pages-tokens, JudgeSound, entry-sound, sub-sound, map-sound}
 
@@ -234,3 +235,7 @@ pub read-tells : (path out : List ℕ) (i : Image) → Tells (readBytes path out
 unfolding readBytes fileAt
 read-tells path out i =
     tells-then _ _ (tells-then _ _ (path-tells path) λ q _. tells-then _ _ (place-tells (q .directories) atRoot theRoot (i .tree)) λ d _. bytes-tells _) λ bytes _. tells-test _ 18 _ _ (omega arith) λ _. tells-ok
+
+pub format-tells : (g : Geometry) (local : Bool) (image : List ℕ) → Tells (format g local image)
+unfolding format
+format-tells g local image = tells-test _ 4 _ _ (omega arith) λ _. tells-ok

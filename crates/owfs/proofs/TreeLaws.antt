@@ -1,33 +1,35 @@
 -- An answer has the number 0 exactly when the call is done, so what the calls state of the tree holds of the exported answers.
 use mathlib.Core.Path.{_≡_, refl, ap, sym, _∙_, subst}
+use mathlib.Core.Logic.{_⊎_, inl, inr}
 use mathlib.Core.List.{List}
-use Prim.Native.Nat.{ℕ, _≤_}
+use Prim.Native.Nat.{ℕ}
 use native.Mathlib.Omega.{arith}
 use lib.ListN.{length}
 use Rattle.geometry.specs.Number.{Bytes}
-use Rattle.geometry.specs.declared.Geometry.{Geometry}
 use Rattle.geometry.specs.declared.Shape.{Shape}
 use Rattle.geometry.specs.declared.Shape.the-variants.{Fits, Wrong}
 use Rattle.geometry.specs.Geometry.{geometryOf}
 use Rattle.packet.specs.Packet.{viewOf}
 use Rattle.rules.specs.declared.Totals.{Totals}
 use Rattle.rules.specs.declared.Line.{Line}
-use Rattle.rules.specs.Result.{Res, ok, err, andThen}
-use Rattle.rules.specs.ResultLaws.{clash}
+use Rattle.rules.specs.Result.{Res, ok, err}
 use Rattle.rules.specs.RefusalLaws.{Between, between-ok, between-then, between-wider, between-err, check-faults, line-faults, read-faults}
 use Rattle.rules.specs.Tree.{Image}
-use Rattle.rules.specs.Check.{check}
 use Rattle.rules.specs.Owners.{totals}
 use Rattle.rules.specs.Listing.{linesOf, lineAt}
-use Rattle.rules.specs.Calls.{readBytes, lengthOf, filled, asked, checkCall, listCall, readCall}
-use Rattle.rules.specs.CallLaws.{asked-fits, asked-wrong}
-use Rattle.reading.specs.CheckCall.{WellFormedAt, asked-formed, asked-answered}
-use Rattle.table.specs.Table.{numbersOf, bytesWith}
+use Rattle.rules.specs.Calls.{readBytes, lengthOf, filled, asked, checkCall, listCall, readCall, formatCall}
+use Rattle.rules.specs.CallLaws.{asked-fits, asked-wrong, format-refused}
+use Rattle.reading.specs.CheckCall.{asked-formed, asked-answered}
+use Rattle.editing.specs.FormatLaws.{Formatted}
+use Rattle.editing.specs.CallEdits.{format-call}
+use Rattle.format.proofs.Calling.{format-number}
+use Rattle.table.specs.Table.{numbersOf}
 use Rattle.owfs.specs.declared.OwfsTotals.{OwfsTotals}
 use Rattle.owfs.specs.declared.OwfsEntry.{OwfsEntry}
 use Rattle.owfs.specs.declared.OwfsLength.{OwfsLength}
-use Rattle.owfs.specs.Answers.{totalsFor, entryFor, lengthFor, checkAnswer, listAnswer, readAnswer}
-use Rattle.owfs.specs.Trees.{AcceptsTree, ListsTree, ReadsTree}
+use Rattle.owfs.specs.declared.OwfsAnswer.{OwfsAnswer}
+use Rattle.owfs.specs.Answers.{totalsFor, entryFor, lengthFor, answerFor, asksLocal, checkAnswer, listAnswer, readAnswer, formatAnswer}
+use Rattle.owfs.specs.Trees.{AcceptsTree, ListsTree, ReadsTree, Formats}
 
 -- no refusal has the number 0
 module _ {A : Type 0} (P N : ℕ) (image t : List ℕ) (question : Image → Res A) (h : (i : Image) → Between 1 18 (question i)) where
@@ -84,3 +86,33 @@ module _ (P N : ℕ) (image owners : List ℕ) (bytes : Bytes image) where
             let d = done P N image table f (λ i. between-wider 1 18 (omega arith) (omega arith) (read-faults path out i)) (λ x. lengthFor (lengthOf x) .number) (λ n p. refl) (sym (ap (λ (x : OwfsLength × List ℕ). x .0 .number) q) ∙ z) in
             asked-answered P N image table bytes f (d .0) (d .1);
       }
+
+-- ---- a format
+module _ (P N : ℕ) (image owners : List ℕ) (local : ℕ) where
+  abbrev call : Res (Unit {0}) × List ℕ × List ℕ
+  call = formatCall P N image (numbersOf owners) (asksLocal local)
+
+  module _ (r : OwfsAnswer) (after : List ℕ) (told : r ≡ answerFor (call .0)) (left : after ≡ call .1) where
+    number : (q : Res (Unit {0})) → call .0 ≡ q → r .number ≡ answerFor q .number
+    number q k = ap (λ (x : OwfsAnswer). x .number) told ∙ ap (λ (x : Res (Unit {0})). answerFor x .number) k
+
+    one-or-four : (n p : ℕ) → call .0 ≡ err n p → (r .number ≡ 1) ⊎ (r .number ≡ 4)
+    one-or-four n p k = elim (format-number P N image (numbersOf owners) (asksLocal local) n p k) [ inl i ↦ inl (number (err n p) k ∙ i) | inr i ↦ inr (number (err n p) k ∙ i) ]
+
+    not-zero : (n p : ℕ) → call .0 ≡ err n p → r .number ≡ 0 → ⊥
+    not-zero n p k z = elim (one-or-four n p k) [ inl i ↦ omega (arith, z, i) | inr i ↦ omega (arith, z, i) ]
+
+    formats-as : (q : Res (Unit {0})) → call .0 ≡ q → Formats P N image owners local r after
+    formats-as (ok u) k = record {
+      done = λ g f z. subst (Formatted g (asksLocal local) image) (sym left) (format-call P N image (numbersOf owners) g f (asksLocal local) k);
+      refused = λ z. absurd (z (number (ok u) k));
+    }
+    formats-as (err n p) k = record {
+      done = λ g f z. absurd (not-zero n p k z);
+      refused = λ z. (one-or-four n p k, left ∙ format-refused P N image (numbersOf owners) (asksLocal local) n p k);
+    }
+
+  pub formats : (r : OwfsAnswer) (after b : List ℕ) → (r, after, b) ≡ formatAnswer P N image owners local → Formats P N image owners local r after
+  unfolding formatAnswer
+  formats r after b e =
+      formats-as r after (ap (λ (x : OwfsAnswer × List ℕ × List ℕ). x .0) e) (ap (λ (x : OwfsAnswer × List ℕ × List ℕ). x .1) e) (call .0) refl

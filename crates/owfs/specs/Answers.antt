@@ -1,14 +1,17 @@
 -- What the exported calls answer: a call of the rules, its answer as plain numbers and its owner table as bytes.
+use mathlib.Core.Bool.{Bool, not}
 use mathlib.Core.List.{List}
 use Prim.Native.Nat.{ℕ}
+use lib.Dec.{eqb}
 use Rattle.rules.specs.declared.Totals.{Totals}
 use Rattle.rules.specs.declared.Line.{Line}
 use Rattle.rules.specs.Result.{Res, ok, err}
-use Rattle.rules.specs.Calls.{checkCall, listCall, readCall}
+use Rattle.rules.specs.Calls.{checkCall, listCall, readCall, formatCall}
 use Rattle.table.specs.Table.{numbersOf, bytesWith}
 use Rattle.owfs.specs.declared.OwfsTotals.{OwfsTotals}
 use Rattle.owfs.specs.declared.OwfsEntry.{OwfsEntry}
 use Rattle.owfs.specs.declared.OwfsLength.{OwfsLength}
+use Rattle.owfs.specs.declared.OwfsAnswer.{OwfsAnswer}
 
 -- 0 and what is told, or the number and page of a refusal; every other field is 0
 abbrev pub totalsFor : Res Totals → OwfsTotals
@@ -33,6 +36,14 @@ abbrev pub lengthFor : Res ℕ → OwfsLength
 lengthFor (ok n) = record { number = 0; page = 0; length = n }
 lengthFor (err n p) = record { number = n; page = p; length = 0 }
 
+abbrev pub answerFor : Res (Unit {0}) → OwfsAnswer
+answerFor (ok u) = record { number = 0; page = 0 }
+answerFor (err n p) = record { number = n; page = p }
+
+-- any number but 0 asks for a local bitmap
+abbrev pub asksLocal : ℕ → Bool
+asksLocal n = not (eqb n 0)
+
 -- a call over an owner table of bytes: the answer, what is read, and every byte of the table
 module _ (P N : ℕ) (image owners : List ℕ) where
   unfoldable pub checkAnswer : OwfsTotals × List ℕ
@@ -43,3 +54,6 @@ module _ (P N : ℕ) (image owners : List ℕ) where
 
   unfoldable pub readAnswer : List ℕ → List ℕ → OwfsLength × List ℕ × List ℕ
   readAnswer path out = let r = readCall P N image (numbersOf owners) path out in (lengthFor (r .0), r .1, bytesWith (r .2) owners)
+
+  unfoldable pub formatAnswer : ℕ → OwfsAnswer × List ℕ × List ℕ
+  formatAnswer local = let r = formatCall P N image (numbersOf owners) (asksLocal local) in (answerFor (r .0), r .1, bytesWith (r .2) owners)

@@ -1,19 +1,25 @@
--- For contracts: 0 exactly when the image is well formed, list and read give what its tree gives, and every number fits 32 bits.
+-- For contracts: 0 exactly when the image is well formed, list and read give what its tree gives, what an edit leaves, and every number fits 32 bits.
 use mathlib.Core.Path.{_≡_}
-use mathlib.Core.Logic.{_↔_}
+use mathlib.Core.Logic.{_↔_, _⊎_}
 use mathlib.Core.List.{List}
 use Prim.Native.Nat.{ℕ, _<_}
+use lib.ListN.{length}
+use Rattle.geometry.specs.declared.Geometry.{Geometry}
+use Rattle.geometry.specs.declared.Shape.the-variants.{Fits}
+use Rattle.geometry.specs.Geometry.{geometryOf}
 use Rattle.rules.specs.declared.Totals.{Totals}
 use Rattle.rules.specs.declared.Line.{Line}
 use Rattle.rules.specs.Result.{Res, ok, err}
 use Rattle.rules.specs.Listing.{linesOf, lineAt}
 use Rattle.rules.specs.Calls.{readBytes, lengthOf, filled}
 use Rattle.reading.specs.CheckCall.{WellFormedAt}
+use Rattle.editing.specs.FormatLaws.{Formatted}
 use Rattle.table.specs.Table.{numbersOf}
 use Rattle.owfs.specs.declared.OwfsTotals.{OwfsTotals}
 use Rattle.owfs.specs.declared.OwfsEntry.{OwfsEntry}
 use Rattle.owfs.specs.declared.OwfsLength.{OwfsLength}
-use Rattle.owfs.specs.Answers.{entryFor, lengthFor}
+use Rattle.owfs.specs.declared.OwfsAnswer.{OwfsAnswer}
+use Rattle.owfs.specs.Answers.{entryFor, lengthFor, asksLocal}
 
 module _ (P N : ℕ) (image owners : List ℕ) where
   -- the image is well formed in the geometry that the sizes give
@@ -31,6 +37,11 @@ module _ (P N : ℕ) (image owners : List ℕ) where
     pub reads : (w : IsWellFormed) → _≡_ {A = OwfsLength × List ℕ} (r, after) (lengthFor (lengthOf (readBytes path out (w .reading))), filled out (readBytes path out (w .reading)))
     pub formed : r .number ≡ 0 → IsWellFormed
 
+  -- 0: an accepted image without entries, every byte outside its packets as before; else 1 or 4, and no byte changed
+  pub record Formats (local : ℕ) (r : OwfsAnswer) (after : List ℕ) : Type 0 where
+    pub done : (g : Geometry) → geometryOf P N (length image) (length (numbersOf owners)) ≡ Fits g → r .number ≡ 0 → Formatted g (asksLocal local) image after
+    pub refused : (r .number ≡ 0 → ⊥) → ((r .number ≡ 1) ⊎ (r .number ≡ 4)) × (after ≡ image)
+
 -- the numbers of an answer are small
 abbrev pub Small : {A : Type 0} → (A → Type 0) → Res A → Type 0
 Small few (ok a) = few a
@@ -44,3 +55,6 @@ LineSmall x = (x .level < 65536) × (x .start < 65536) × (x .pages < 65536) × 
 
 abbrev pub LengthSmall : ℕ → Type 0
 LengthSmall n = n < 16777216
+
+abbrev pub DoneSmall : Unit {0} → Type 0
+DoneSmall u = Unit {0}

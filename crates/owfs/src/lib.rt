@@ -1,6 +1,7 @@
 // The calls for C and Rust programs.
 use query::Length;
 use query::Listed;
+use volume::Edited;
 use walk::Walk;
 ghost use mathlib.Core.Path.{_≡_};
 ghost use Prim.Native.Nat.{_/_, min};
@@ -8,8 +9,9 @@ ghost use lib.ListN.{length};
 ghost use Rattle.crc16.specs.Crc16.{crc16};
 ghost use Rattle.volume.specs.Scans.{told};
 ghost use Rattle.query.specs.Questions.{lineTold, lengthTold};
-ghost use Rattle.owfs.specs.Answers.{totalsFor, entryFor, lengthFor, checkAnswer, listAnswer, readAnswer};
-ghost use Rattle.owfs.specs.Trees.{Small, TotalsSmall, LineSmall, LengthSmall, AcceptsTree, ListsTree, ReadsTree};
+ghost use Rattle.volume.specs.Edits.{editTold};
+ghost use Rattle.owfs.specs.Answers.{totalsFor, entryFor, lengthFor, answerFor, checkAnswer, listAnswer, readAnswer, formatAnswer};
+ghost use Rattle.owfs.specs.Trees.{Small, TotalsSmall, LineSmall, LengthSmall, DoneSmall, AcceptsTree, ListsTree, ReadsTree, Formats};
 
 // What check answers: 0 and the totals, or a fault's number and the page told.
 #[repr(C)]
@@ -42,6 +44,13 @@ pub struct OwfsLength {
     pub number: u32,
     pub page: u32,
     pub length: u32,
+}
+
+// What an edit answers: 0, or a refusal's number and the page told.
+#[repr(C)]
+pub struct OwfsAnswer {
+    pub number: u32,
+    pub page: u32,
 }
 
 // The CRC-16 register after the bytes of a slice, not inverted.
@@ -133,6 +142,20 @@ fn tell_length(answer: Length) -> OwfsLength
     }
 }
 
+// An answer of an edit as the caller sees it.
+fn tell_answer(answer: Edited) -> OwfsAnswer
+    requires { ⌜ Small DoneSmall (editTold answer) ⌝ }
+    ensures { λ r. ⌜ r ≡ answerFor (editTold answer) ⌝ }
+{
+    match answer {
+        Edited::Done => OwfsAnswer { number: 0, page: 0 },
+        Edited::Refused(number, page) => OwfsAnswer {
+            number: number as u32,
+            page: page as u32,
+        },
+    }
+}
+
 // Checks an image over a table for the numbers of its owner bytes.
 fn check_over(
     size: u32,
@@ -187,6 +210,24 @@ fn read_over(
     tell_length(answer)
 }
 
+// Formats an image over such a table.
+fn format_over(
+    size: u32,
+    pages: u32,
+    image: &mut [u8],
+    table: &mut [u16],
+    owners: &mut [u8],
+    local: u32,
+) -> OwfsAnswer
+    requires { ⌜ length (now table) ≡ min (length (now owners) / 2) 65535 ⌝ }
+    ensures { λ r. ⌜ (r, now (image .exit), now (owners .exit)) ≡ formatAnswer size pages (now (image .entry)) (now (owners .entry)) local ⌝ }
+{
+    table::load(owners, table);
+    let answer = format::format(image, size, pages, table, local != 0);
+    table::store(table, owners);
+    tell_answer(answer)
+}
+
 // Checks an image: pages in use, files and directories, or the first fault. Fills the owner table.
 #[no_mangle]
 pub extern "C" fn owfs_check(size: u32, pages: u32, image: &[u8], owners: &mut [u8]) -> OwfsTotals
@@ -231,4 +272,21 @@ pub extern "C" fn owfs_read(
     let n = count(owners.len());
     let mut table = [0u16; 65535];
     read_over(size, pages, image, path, out, &mut table[..n], owners)
+}
+
+// Formats an image, with a bitmap file where `local` is 0, else with the bitmap in the root. Fills the owner table.
+#[no_mangle]
+pub extern "C" fn owfs_format(
+    size: u32,
+    pages: u32,
+    image: &mut [u8],
+    owners: &mut [u8],
+    local: u32,
+) -> OwfsAnswer
+    ensures { λ r. ⌜ (r, now (image .exit), now (owners .exit)) ≡ formatAnswer size pages (now (image .entry)) (now (owners .entry)) local ⌝ }
+    ensures { λ r. ⌜ Formats size pages (now (image .entry)) (now (owners .entry)) local r (now (image .exit)) ⌝ }
+{
+    let n = count(owners.len());
+    let mut table = [0u16; 65535];
+    format_over(size, pages, image, &mut table[..n], owners, local)
 }

@@ -1,0 +1,119 @@
+-- The bitmap file written page by page.
+use mathlib.Core.Path.{_≡_, refl, ap, ap₂, sym, _∙_}
+use mathlib.Core.List.{List, [], _∷_, _++_}
+use Prim.Native.Nat.{ℕ, suc, _+_, _-_, _*_, _/_, _≤_, _<_}
+use native.Mathlib.Nat.{div-eq-sub-div, div-eq-of-lt}
+use native.Mathlib.Omega.{arith}
+use lib.ListN.{length}
+use lib.Seq.{take-at, drop-at, take-all}
+use Rattle.geometry.specs.declared.Geometry.{Geometry}
+use Rattle.geometry.specs.Geometry.{dataCapacity, bitmapSize, Valid, Fit}
+use Rattle.packet.specs.Packet.{Write, write, writePage, play}
+use Rattle.rules.specs.Chain.{linked, spread, pagesFor}
+use Rattle.rules.specs.Format.{upward}
+use Rattle.editing.specs.Capacity.{capacity-is, capacity-least}
+use Rattle.editing.specs.FormatLaws.{map-room}
+use Rattle.marks.specs.Marks.{marksFrom}
+use Rattle.marks.specs.MarkLaws.{length-marks, marks-append}
+use Rattle.format.specs.Formats.{mapPageCount, bitsWrites}
+
+-- ---- how many pages
+pages-more : (capacity n : ℕ) → 0 < capacity → capacity < n → pagesFor capacity n ≡ suc (pagesFor capacity (n - capacity))
+pages-more capacity n h k =
+    let d : (n - 1) / capacity ≡ (n - 1 - capacity) / capacity + 1 = div-eq-sub-div h (omega arith) in
+    let e : n - 1 - capacity ≡ n - capacity - 1 = omega arith in
+    omega (arith, d, ap (λ (x : ℕ). x / capacity) e)
+
+pages-last : (capacity n : ℕ) → 0 < capacity → n ≤ capacity → pagesFor capacity n ≡ 1
+pages-last capacity n h k = ap suc (div-eq-of-lt (omega arith))
+
+-- ---- the packets from a page on: so many bytes left after those done
+module _ (capacity : ℕ) (h : 0 < capacity) (table : List ℕ) where
+  abbrev pub bitsFrom : ℕ → ℕ → ℕ → List Write
+  bitsFrom page done left = linked (spread capacity (upward page (pagesFor capacity left)) (marksFrom table (8 * done) left))
+
+  more : (page done left : ℕ) → capacity < left → bitsFrom page done left ≡ write page (marksFrom table (8 * done) capacity) (page + 1) ∷ bitsFrom (page + 1) (done + capacity) (left - capacity)
+  more page done left k =
+      let a = marksFrom table (8 * done) capacity in
+      let b = marksFrom table (8 * (done + capacity)) (left - capacity) in
+      let e : left ≡ capacity + (left - capacity) = omega arith in
+      let f : 8 * done + 8 * capacity ≡ 8 * (done + capacity) = omega arith in
+      let s : marksFrom table (8 * done) left ≡ a ++ b = ap (marksFrom table (8 * done)) e ∙ marks-append table capacity (left - capacity) (8 * done) ∙ ap (λ (x : ℕ). a ++ marksFrom table x (left - capacity)) f in
+      let l = length-marks table capacity (8 * done) in
+      let rest : List ℕ → List Write = λ xs. linked (spread capacity (upward (page + 1) (pagesFor capacity (left - capacity))) xs) in
+      ap (λ (m : ℕ). linked (spread capacity (upward page m) (marksFrom table (8 * done) left))) (pages-more capacity left h k)
+      ∙ ap (λ (xs : List ℕ). linked (spread capacity (upward page (suc (pagesFor capacity (left - capacity)))) xs)) s
+      ∙ ap₂ (λ (xs ys : List ℕ). write page xs (page + 1) ∷ rest ys) (take-at a b capacity l) (drop-at a b capacity l)
+
+  last : (page done left : ℕ) → left ≤ capacity → bitsFrom page done left ≡ write page (marksFrom table (8 * done) left) 0 ∷ []
+  last page done left k =
+      ap (λ (m : ℕ). linked (spread capacity (upward page m) (marksFrom table (8 * done) left))) (pages-last capacity left h k)
+      ∙ ap (λ (xs : List ℕ). write page xs 0 ∷ []) (take-all capacity (marksFrom table (8 * done) left) (omega (arith, length-marks table left (8 * done))))
+
+size-is : (g : Geometry) → bitmapSize g ≡ (g .pages + 7) / 8
+unfolding bitmapSize
+size-is g = refl
+
+pub size-bounds : (g : Geometry) → Valid g → (1 ≤ bitmapSize g) × (bitmapSize g ≤ 8192)
+size-bounds g v = (omega (arith, size-is g, v .some), omega (arith, size-is g, v .few))
+
+-- the pages of the file, from what the code computed
+module _ (g : Geometry) (v : Valid g) (bytes capacity : ℕ) (e : bytes ≡ bitmapSize g) (f : capacity ≡ dataCapacity g) where
+  pub count-asks : (1 ≤ bytes) × (1 ≤ capacity) × (bytes ≤ 65536)
+  count-asks = let b = size-bounds g v in (omega (arith, b .0), omega (arith, capacity-least g v), omega (arith, b .1))
+
+  pub count-is : (count : ℕ) → count ≡ pagesFor capacity bytes → count ≡ mapPageCount g
+  unfolding mapPageCount
+  count-is count k = k ∙ ap₂ pagesFor f e
+
+  pub count-below : (count : ℕ) (table : List ℕ) → count ≡ pagesFor capacity bytes → length table ≡ g .pages → count < length table
+  unfolding mapPageCount
+  count-below count table k l = omega (arith, count-is count k, map-room g v)
+
+-- ---- the loop: what is left to write from here gives the whole
+pub record Held (g : Geometry) (table start image : List ℕ) (capacity page done left : ℕ) : Type 0 where
+  pub fit : Fit g image
+  pub capacity-is : capacity ≡ dataCapacity g
+  pub some : 1 ≤ left
+  pub all : done + left ≡ bitmapSize g
+  pub few : bitmapSize g ≤ 8192
+  pub below : page + pagesFor capacity left ≤ g .pages
+  pub onward : play g (linked (spread capacity (upward page (pagesFor capacity left)) (marksFrom table (8 * done) left))) image ≡ play g (bitsWrites g table) start
+
+pub held-first : (g : Geometry) (table image : List ℕ) (capacity size : ℕ) → Fit g image → capacity ≡ dataCapacity g → size ≡ bitmapSize g → Held g table image image capacity 1 0 size
+unfolding bitsWrites mapPageCount
+held-first g table image capacity size fit e f = rw (e, f) (record {
+  fit = fit;
+  capacity-is = refl;
+  some = size-bounds g (fit .valid) .0;
+  all = omega arith;
+  few = size-bounds g (fit .valid) .1;
+  below = omega (arith, map-room g (fit .valid));
+  onward = refl;
+})
+
+module _ (g : Geometry) (table start image : List ℕ) (capacity page done left : ℕ) (held : Held g table start image capacity page done left) where
+  pub some-capacity : 0 < capacity
+  some-capacity = omega (arith, held .capacity-is, capacity-least g (held .fit .valid))
+
+  -- what a page written asks, and that the next one's number fits
+  pub held-asks : (size : ℕ) → size ≤ left → size ≤ capacity → (page < g .pages) × (size ≤ dataCapacity g) × (done + size ≤ 65536)
+  held-asks size h k = (omega (arith, held .below), omega (arith, held .capacity-is), omega (arith, held .all, held .few))
+
+  pub held-on : (after : List ℕ) → capacity < left → length after ≡ length image → after ≡ writePage g (write page (marksFrom table (8 * done) capacity) (page + 1)) image
+      → Held g table start after capacity (page + 1) (done + capacity) (left - capacity)
+  unfolding play
+  held-on after h l e = record {
+    fit = record { valid = held .fit .valid; whole = l ∙ held .fit .whole };
+    capacity-is = held .capacity-is;
+    some = omega arith;
+    all = omega (arith, held .all);
+    few = held .few;
+    below = omega (arith, held .below, pages-more capacity left some-capacity h);
+    onward = ap (play g (bitsFrom capacity some-capacity table (page + 1) (done + capacity) (left - capacity))) e
+        ∙ sym (ap (λ (ws : List Write). play g ws image) (more capacity some-capacity table page done left h)) ∙ held .onward;
+  }
+
+  pub held-last : (after : List ℕ) → left ≤ capacity → after ≡ writePage g (write page (marksFrom table (8 * done) left) 0) image → after ≡ play g (bitsWrites g table) start
+  unfolding play
+  held-last after h e = e ∙ sym (ap (λ (ws : List Write). play g ws image) (last capacity some-capacity table page done left h)) ∙ held .onward

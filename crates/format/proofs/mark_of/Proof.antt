@@ -1,0 +1,14 @@
+use Rattle.format.proofs.Marking.{mark-in, mark-past}
+use Rattle.format.proofs.mark_of.Statement.{statement}
+use Rattle.format.proofs.mark_of.Tie as tie
+
+returns : tie.Need-returns
+returns c = mark-in _ _ (c .if1 .taken)
+
+returns-2 : tie.Need-returns-2
+returns-2 c = mark-past _ _ (c .if1 .left)
+
+pub mark-of-spec : {M : Type 1} → statement M
+mark-of-spec =
+    tie.close
+    (tie.spec returns returns-2)

@@ -1,0 +1,63 @@
+-- What is left to write from here gives the whole.
+use mathlib.Core.Path.{_≡_, refl, _∙_}
+use native.Mathlib.Omega.{arith}
+use lib.ListN.{length}
+use Rattle.format.proofs.Bits.{Held, held-first, some-capacity, held-asks, held-on, held-last}
+use borrow.Author.Needs.{needs}
+use Rattle.format.proofs.write_bits.Statement.{statement}
+use Rattle.format.proofs.write_bits.Tie as tie
+
+abbrev Inv-loop : tie.InvT-loop
+Inv-loop image₀ g owners capacity left₀ page₀ done₀ image left page done = (length image ≡ length image₀) × Held g owners image₀ image capacity page done left
+
+abbrev μ-loop : tie.MeasureT-loop
+μ-loop image₀ g owners capacity left₀ page₀ done₀ image left page done = left
+
+data-capacity-requires : tie.Need-data-capacity-requires Inv-loop μ-loop
+data-capacity-requires c κs = c .before .before .pre .valid
+
+bitmap-size-requires : tie.Need-bitmap-size-requires Inv-loop μ-loop
+bitmap-size-requires c κs = c .before .before .before .pre .valid
+
+loop-holds : tie.Need-loop-holds Inv-loop μ-loop
+loop-holds c =
+    let s = c .before .before .before .before in
+    (refl, held-first (s .args .g) (s .args .owners .now) (s .args .image .now) (c .before .data-capacity .result) (c .bitmap-size .result) (s .pre) (c .before .data-capacity .ensures) (c .bitmap-size .ensures))
+
+add-write-bytes : tie.Need-add-write-bytes Inv-loop μ-loop
+add-write-bytes c = let h = c .before .before .loop .inv .1 in omega (arith, h .below, h .fit .valid .few)
+
+write-bytes-requires : tie.Need-write-bytes-requires Inv-loop μ-loop
+write-bytes-requires c κs =
+    let l = c .before .before .loop in
+    (l .inv .1 .fit, held-asks _ _ _ _ _ _ _ _ (l .inv .1) _ (omega (arith, c .before .loop-test .taken)) (omega arith))
+
+add-page : tie.Need-add-page Inv-loop μ-loop
+add-page c = let h = c .before .before .before .before .before .loop .inv .1 in omega (arith, h .below, h .fit .valid .few)
+
+add-done : tie.Need-add-done Inv-loop μ-loop
+add-done c = let h = c .before .before .before .before .before .loop .inv .1 in omega (arith, h .all, h .few, c .before .before .before .before .loop-test .taken)
+
+loop-less : tie.Need-loop-less Inv-loop μ-loop
+loop-less c = omega (arith, c .before .before .before .before .loop-test .taken, some-capacity _ _ _ _ _ _ _ _ (c .before .before .before .before .before .loop .inv .1))
+
+loop-again : tie.Need-loop-again Inv-loop μ-loop
+loop-again c =
+    let l = c .before .before .before .before .before .loop in
+    (c .before .before .write-bytes .kept .0 ∙ l .inv .0, held-on _ _ _ _ _ _ _ _ (l .inv .1) _ (c .before .before .before .before .loop-test .taken) (c .before .before .write-bytes .kept .0) (c .before .before .write-bytes .ensures))
+
+write-bytes-requires-2 : tie.Need-write-bytes-requires-2 Inv-loop μ-loop
+write-bytes-requires-2 c κs =
+    let l = c .before .before .loop in
+    (l .inv .1 .fit, held-asks _ _ _ _ _ _ _ _ (l .inv .1) _ (omega arith) (omega (arith, c .before .loop-test .left)))
+
+same-length : tie.Need-same-length Inv-loop μ-loop
+same-length c = c .before .before .write-bytes2 .kept .0 ∙ c .before .before .before .before .before .loop .inv .0
+
+returns : tie.Need-returns Inv-loop μ-loop
+returns c = held-last _ _ _ _ _ _ _ _ (c .before .before .before .before .before .loop .inv .1) _ (c .before .before .before .before .loop-test .left) (c .before .before .write-bytes2 .ensures)
+
+pub write-bits-spec : {M : Type 1} → statement M
+write-bits-spec =
+    tie.close
+    (tie.spec Inv-loop μ-loop data-capacity-requires bitmap-size-requires loop-holds add-write-bytes write-bytes-requires add-page add-done (λ c. search needs) loop-less loop-again write-bytes-requires-2 same-length returns)

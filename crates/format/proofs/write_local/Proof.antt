@@ -1,0 +1,15 @@
+use Rattle.reading.specs.CheckCall.{bytes-known}
+use Rattle.format.proofs.Emptying.{local-emptied}
+use borrow.Author.Needs.{needs}
+use Rattle.format.proofs.write_local.Statement.{statement}
+use Rattle.format.proofs.write_local.Tie as tie
+
+returns : tie.Need-returns
+returns c =
+    let s = c .before .before .before .before .before .before in
+    local-emptied (s .args .g) (s .args .image .now) _ (s .pre) (bytes-known (s .args .image .now) (λ i. c .before .before .before .before .before .slice-known .given i .fits)) (c .before .before .write-root .ensures)
+
+pub write-local-spec : {M : Type 1} → statement M
+write-local-spec =
+    tie.close
+    (tie.spec (λ c. search needs) (λ c κs. search needs) (λ c. search needs) returns)

@@ -1,0 +1,206 @@
+// Format: an image without entries.
+use geometry::Geometry;
+use geometry::Shape;
+use volume::Edited;
+ghost use mathlib.Core.Path.{_≡_};
+ghost use mathlib.Core.Bool.{true, false, not, _||_};
+ghost use mathlib.Core.List.{_∷_};
+ghost use Prim.Native.Nat.{_+_, _*_, _≤_, _<_};
+ghost use lib.ListN.{length};
+ghost use Rattle.geometry.specs.Geometry.{Fit, dataCapacity};
+ghost use Rattle.packet.specs.Packet.{writePage, write, play};
+ghost use Rattle.rules.specs.Chain.{pagesFor};
+ghost use Rattle.rules.specs.Control.{placeBytes, localAllowed};
+ghost use Rattle.rules.specs.PageSets.{count};
+ghost use Rattle.rules.specs.OwnerLaws.{nonzero, Represents};
+ghost use Rattle.rules.specs.Format.{upward, format as formatted};
+ghost use Rattle.rules.specs.Calls.{formatCall};
+ghost use Rattle.marks.specs.Marks.{marksFrom};
+ghost use Rattle.volume.specs.Edits.{editTold, EditLeaves};
+ghost use Rattle.format.specs.Formats.{controlField, bitsWrites, emptied, FormatDone};
+
+// The least page count that needs a bitmap file.
+const FILE_PAGES: usize = 32;
+
+// The marker of a page number of no bytes: AA is that of one byte.
+const MARKER: usize = 0xA9;
+
+// Bitmap control: the four bytes are the bitmap; they place a bitmap file.
+const LOCAL: usize = 128;
+
+const FILE: usize = 0;
+
+// The pages that so many bytes need.
+fn pages_for(bytes: usize, capacity: usize) -> usize
+    requires { ⌜ (1 ≤ bytes) × (1 ≤ capacity) × (bytes ≤ 65536) ⌝ }
+    ensures { λ r. ⌜ r ≡ pagesFor capacity bytes ⌝ }
+{
+    (bytes - 1) / capacity + 1
+}
+
+// Fills a slice with the root's control field: marker, map address 0, bitmap control, four bytes.
+fn fill_control(field: &mut [u8], n: usize, control: usize, four: &[u8])
+    requires { ⌜ (length (now field) ≡ 6 + n) × (n ≤ 2) × (control < 256) × (length (now four) ≡ 4) ⌝ }
+    ensures { λ _. ⌜ now (field .exit) ≡ controlField n control (now (four .entry)) ⌝ }
+{
+    geometry::put_number(field, 0, 1, MARKER + n);
+    geometry::put_number(field, 1, n, 0);
+    geometry::put_number(field, 1 + n, 1, control);
+    geometry::put_bytes(field, 2 + n, four);
+}
+
+// Fills four bytes with the place of a bitmap file from page 1 on.
+fn fill_place(four: &mut [u8], n: usize, count: usize)
+    requires { ⌜ (length (now four) ≡ 4) × (1 ≤ n) × (n ≤ 2) ⌝ }
+    ensures { λ _. ⌜ now (four .exit) ≡ placeBytes n 1 count ⌝ }
+{
+    geometry::put_number(four, 0, 4 - 2 * n, 0);
+    geometry::put_number(four, 4 - 2 * n, n, 1);
+    geometry::put_number(four, 4 - n, n, count);
+}
+
+// Writes the root's page without entries.
+fn write_root(image: &mut [u8], g: Geometry, control: usize, four: &[u8])
+    requires { ⌜ Fit g (now image) ⌝ }
+    requires { ⌜ (control < 256) × (length (now four) ≡ 4) ⌝ }
+    ensures { λ _. ⌜ now (image .exit) ≡ writePage g (write 0 (controlField (g .width) control (now (four .entry))) 0) (now (image .entry)) ⌝ }
+{
+    let mut field = [0u8; 8];
+    let end = 6 + g.width;
+    fill_control(&mut field[..end], g.width, control, four);
+    packet::write_page(image, g, 0, &field[..end], 0);
+}
+
+// Writes an image without entries whose bitmap is in the root: page 0 alone is in use.
+fn write_local(image: &mut [u8], g: Geometry)
+    requires { ⌜ Fit g (now image) ⌝ }
+    ensures { λ _. ⌜ now (image .exit) ≡ emptied g true (now (image .entry)) ⌝ }
+{
+    write_root(image, g, LOCAL, b"\x01\0\0\0");
+}
+
+// The mark of a page where those up to the last are in use.
+fn mark_of(page: usize, last: usize) -> u16
+    ensures { λ r. ⌜ count page (0 ∷ upward 1 last) ≡ nonzero r ⌝ }
+{
+    if page <= last {
+        return 1;
+    }
+    0
+}
+
+// Marks the pages up to the last in use, and no others.
+fn mark(owners: &mut [u16], last: usize)
+    requires { ⌜ last < length (now owners) ⌝ }
+    ensures { λ _. ⌜ Represents (now (owners .exit)) (0 ∷ upward 1 last) ⌝ }
+{
+    let mut i = 0;
+    while i < owners.len() {
+        owners[i] = mark_of(i, last);
+        i += 1;
+    }
+}
+
+// Writes a page of the bitmap file: so many bytes of the bitmap from byte `done` on.
+fn write_bytes(
+    image: &mut [u8],
+    g: Geometry,
+    page: usize,
+    next: usize,
+    done: usize,
+    size: usize,
+    owners: &[u16],
+)
+    requires { ⌜ Fit g (now image) ⌝ }
+    requires { ⌜ (page < g .pages) × (size ≤ dataCapacity g) × (done + size ≤ 65536) ⌝ }
+    ensures { λ _. ⌜ now (image .exit) ≡ writePage g (write page (marksFrom (now (owners .entry)) (8 * done) size) next) (now (image .entry)) ⌝ }
+{
+    let mut bytes = [0u8; 252];
+    marks::fill(&mut bytes[..size], 8 * done, owners);
+    packet::write_page(image, g, page, &bytes[..size], next);
+}
+
+// Writes the bitmap file from page 1 upward: full packets, then the last.
+fn write_bits(image: &mut [u8], g: Geometry, owners: &[u16])
+    requires { ⌜ Fit g (now image) ⌝ }
+    ensures { λ _. ⌜ now (image .exit) ≡ play g (bitsWrites g (now (owners .entry))) (now (image .entry)) ⌝ }
+{
+    let capacity = g.data_capacity();
+    let mut left = g.bitmap_size();
+    let mut page: usize = 1;
+    let mut done: usize = 0;
+    while capacity < left {
+        write_bytes(image, g, page, page + 1, done, capacity, owners);
+        page += 1;
+        done += capacity;
+        left -= capacity;
+    }
+    write_bytes(image, g, page, 0, done, left, owners);
+}
+
+// Writes an image without entries with a bitmap file; the table is used to tell its bits.
+fn write_file(image: &mut [u8], g: Geometry, owners: &mut [u16])
+    requires { ⌜ Fit g (now image) ⌝ }
+    requires { ⌜ length (now owners) ≡ g .pages ⌝ }
+    ensures { λ _. ⌜ now (image .exit) ≡ emptied g false (now (image .entry)) ⌝ }
+{
+    let count = pages_for(g.bitmap_size(), g.data_capacity());
+    let mut four = [0u8; 4];
+    fill_place(&mut four, g.width, count);
+    write_root(image, g, FILE, &four);
+    mark(owners, count);
+    write_bits(image, g, owners);
+}
+
+// Writes an image without entries.
+fn write_empty(image: &mut [u8], g: Geometry, owners: &mut [u16], local: bool)
+    requires { ⌜ Fit g (now image) ⌝ }
+    requires { ⌜ length (now owners) ≡ g .pages ⌝ }
+    ensures { λ _. ⌜ now (image .exit) ≡ emptied g local (now (image .entry)) ⌝ }
+{
+    if local {
+        write_local(image, g);
+    } else {
+        write_file(image, g, owners);
+    }
+}
+
+// Whether the bitmap may stand where it is asked for.
+fn is_allowed(g: Geometry, local: bool) -> bool
+    ensures { λ r. ⌜ r ≡ (not local || localAllowed g) ⌝ }
+{
+    if local {
+        return g.pages < FILE_PAGES;
+    }
+    true
+}
+
+// Formats an image whose geometry is known: 4 for a local bitmap with N of 32 or more.
+fn format_in(image: &mut [u8], g: Geometry, owners: &mut [u16], local: bool) -> Edited
+    requires { ⌜ Fit g (now image) ⌝ }
+    requires { ⌜ length (now owners) ≡ g .pages ⌝ }
+    ensures { λ r. ⌜ EditLeaves g (now (image .entry)) (formatted g local (now (image .entry))) r (now (image .exit)) (now (owners .exit)) ⌝ }
+{
+    if is_allowed(g, local) {
+        write_empty(image, g, owners, local);
+        volume::check_table(image, g, owners);
+        return Edited::Done;
+    }
+    volume::check_table(image, g, owners);
+    Edited::Refused(4, 0)
+}
+
+// Formats an image: page 0 and, unless the bitmap is to be local, the bitmap file from page 1 upward.
+// Fills the owner table as a check of the image as it then stands.
+pub fn format(image: &mut [u8], size: u32, pages: u32, owners: &mut [u16], local: bool) -> Edited
+    ensures { λ r. ⌜ (editTold r, now (image .exit), now (owners .exit)) ≡ formatCall size pages (now (image .entry)) (now (owners .entry)) local ⌝ }
+    ensures { λ r. ⌜ FormatDone size pages (now (image .entry)) (now (owners .entry)) local r (now (image .exit)) ⌝ }
+{
+    match Geometry::new(size, pages, image.len(), owners.len()) {
+        Shape::Wrong => Edited::Refused(1, 0),
+        Shape::Fits(g) => {
+            let n = g.pages;
+            format_in(image, g, &mut owners[..n], local)
+        }
+    }
+}

@@ -1,0 +1,19 @@
+use native.Mathlib.Omega.{arith}
+use Rattle.owfs.proofs.Telling.{edit-told}
+use borrow.Author.Needs.{needs}
+use Rattle.owfs.proofs.tell_answer.Statement.{statement}
+use Rattle.owfs.proofs.tell_answer.Tie as tie
+
+cast-t6 : tie.Need-cast-t6
+cast-t6 c = omega (arith, edit-told _ _ _ (c .before .before .before .pre) (c .before .answer .given .1))
+
+returns : tie.Need-returns
+returns c = rw (c .enum-told .given .1)
+
+returns-2 : tie.Need-returns-2
+returns-2 c = rw (c .before .answer .given .1)
+
+pub tell-answer-spec : {M : Type 1} → statement M
+tell-answer-spec =
+    tie.close
+    (tie.spec (λ c. search needs) (λ c. search needs) (λ c. search needs) cast-t6 returns returns-2)
