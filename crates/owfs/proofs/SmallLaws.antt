@@ -25,16 +25,17 @@ use Rattle.rules.specs.Soundness.{check-sound}
 use Rattle.rules.specs.Owners.{totals}
 use Rattle.rules.specs.Listing.{linesOf, lineAt}
 use Rattle.rules.specs.Paths.{fileKey, Found, nothing, aFile, aDirectory, find, atRoot}
-use Rattle.rules.specs.Calls.{bytesOf, fileAt, readBytes, lengthOf, asked, inGeometry, shape, done, changed, checkCall, listCall, readCall, formatCall}
+use Rattle.rules.specs.Calls.{bytesOf, fileAt, readBytes, lengthOf, asked, inGeometry, shape, done, changed, checkCall, listCall, readCall, formatCall, deleteCall}
 use Rattle.rules.specs.CallLaws.{asked-fits, asked-wrong}
 use Rattle.rules.specs.Format.{format}
+use Rattle.rules.specs.Delete.{delete}
 use Rattle.chain.specs.KnownChain.{ChainStands}
 use Rattle.chain.proofs.Following.{first-stands, small-view}
 use Rattle.listing.specs.Standing.{Below}
 use Rattle.listing.proofs.Accepting.{accepted-stands}
 use Rattle.lookup.proofs.Resolving.{FoundStands, find-stands, place-below}
 use Rattle.owfs.specs.Trees.{Small, TotalsSmall, LineSmall, LengthSmall, DoneSmall}
-use Rattle.owfs.proofs.ToldLaws.{Tells, check-tells, read-tells, format-tells}
+use Rattle.owfs.proofs.ToldLaws.{Tells, check-tells, read-tells, format-tells, delete-tells}
 
 -- an answer is small if it is for every accepted image
 module _ {A : Type 0} (P N : ℕ) (image t : List ℕ) (few : A → Type 0) (question : Image → Res A)
@@ -146,13 +147,17 @@ module _ (P N : ℕ) (image t : List ℕ) where
   done-small g (ok after) h = tt
   done-small g (err n p) h = h .page n p refl
 
-  pub small-changed : (edit : Geometry → Res (List ℕ)) → ((g : Geometry) → Tells (edit g)) → Small DoneSmall (changed P N image t edit .0)
-  small-changed edit h = go (shape P N image t)
+  pub small-changed : (edit : Geometry → Res (List ℕ)) → ((g : Geometry) → Fit g image → Tells (edit g)) → Small DoneSmall (changed P N image t edit .0)
+  small-changed edit h = go (shape P N image t) refl
     where
-      go : (s : Shape) → Small DoneSmall (inGeometry s (err 1 0, image, t) (λ g. done P N image t g (edit g)) .0)
-      go Wrong = omega arith
-      go (Fits g) = done-small g (edit g) (h g)
+      go : (s : Shape) → shape P N image t ≡ s → Small DoneSmall (inGeometry s (err 1 0, image, t) (λ g. done P N image t g (edit g)) .0)
+      go Wrong e = omega arith
+      go (Fits g) e = done-small g (edit g) (h g (fit-of P N image t g e))
 
   pub format-small : (local : Bool) (q : Res (Unit {0})) (after x : List ℕ) → (q, after, x) ≡ formatCall P N image t local → Small DoneSmall q
   unfolding formatCall
-  format-small local q after x e = subst (Small DoneSmall) (sym (ap (λ (y : Res (Unit {0}) × List ℕ × List ℕ). y .0) e)) (small-changed (λ g. format g local image) (λ g. format-tells g local image))
+  format-small local q after x e = subst (Small DoneSmall) (sym (ap (λ (y : Res (Unit {0}) × List ℕ × List ℕ). y .0) e)) (small-changed (λ g. format g local image) (λ g f. format-tells g local image))
+
+  pub delete-small : (path : List ℕ) (q : Res (Unit {0})) (after x : List ℕ) → (q, after, x) ≡ deleteCall P N image t path → Small DoneSmall q
+  unfolding deleteCall
+  delete-small path q after x e = subst (Small DoneSmall) (sym (ap (λ (y : Res (Unit {0}) × List ℕ × List ℕ). y .0) e)) (small-changed (λ g. delete g path image) (λ g f. delete-tells g (f .valid .few) path image))

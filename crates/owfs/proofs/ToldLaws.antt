@@ -10,7 +10,7 @@ use Rattle.geometry.specs.declared.Geometry.{Geometry}
 use Rattle.geometry.specs.Choose.{choose}
 use Rattle.geometry.specs.ChooseLaws.{on-choose}
 use Rattle.geometry.specs.Geometry.{controlSize, bitmapSize}
-use Rattle.packet.specs.Packet.{Packet, bad, good, View}
+use Rattle.packet.specs.Packet.{Packet, bad, good, View, viewOf}
 use Rattle.rules.specs.declared.Entry.{Entry}
 use Rattle.rules.specs.Result.{Res, ok, err, andThen, andAfter, refuse-unless}
 use Rattle.rules.specs.ResultLaws.{clash, ok-inj, on-then, on-refuse}
@@ -25,6 +25,8 @@ use Rattle.rules.specs.BitmapLaws.{lowest}
 use Rattle.rules.specs.Paths.{pathOf, directoryKey, Found, nothing, aFile, aDirectory, find, Site, atRoot, below, inDirectory, directoryAt}
 use Rattle.rules.specs.Calls.{bytesOf, fileAt, readBytes}
 use Rattle.rules.specs.Format.{format}
+use Rattle.rules.specs.Put.{writable}
+use Rattle.rules.specs.Delete.{present, delete}
 use Rattle.lookup.proofs.Resolving.{at-next}
 use Rattle.rules.specs.Soundness.{tokenPages, pages-tokens, JudgeSound, entry-sound, sub-sound, map-sound}
 
@@ -239,3 +241,21 @@ read-tells path out i =
 pub format-tells : (g : Geometry) (local : Bool) (image : List ℕ) → Tells (format g local image)
 unfolding format
 format-tells g local image = tells-test _ 4 _ _ (omega arith) λ _. tells-ok
+
+present-tells : (f : Found) → Tells (present f)
+unfolding present
+present-tells nothing = tells-err (omega arith)
+present-tells (aFile l ls) = tells-ok
+present-tells (aDirectory l d) = tells-err (omega arith)
+
+writable-tells : (f : Found) → Tells (writable f)
+unfolding writable
+writable-tells nothing = tells-ok
+writable-tells (aFile l ls) = tells-refuse _ 16 _ (omega arith)
+writable-tells (aDirectory l d) = tells-ok
+
+pub delete-tells : (g : Geometry) → g .pages ≤ 65535 → (path image : List ℕ) → Tells (delete g path image)
+unfolding delete
+delete-tells g few path image =
+    tells-then _ _ (check-tells g few (viewOf g image)) λ i _. tells-then _ _ (path-tells path) λ q _. tells-then _ _ (place-tells (q .directories) atRoot theRoot (i .tree)) λ d _.
+    tells-then _ _ (present-tells _) λ _ _. tells-then _ _ (writable-tells _) λ _ _. tells-ok

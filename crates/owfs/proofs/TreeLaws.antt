@@ -2,10 +2,11 @@
 use mathlib.Core.Path.{_≡_, refl, ap, sym, _∙_, subst}
 use mathlib.Core.Logic.{_⊎_, inl, inr}
 use mathlib.Core.List.{List}
-use Prim.Native.Nat.{ℕ}
+use Prim.Native.Nat.{ℕ, _≤_}
 use native.Mathlib.Omega.{arith}
 use lib.ListN.{length}
 use Rattle.geometry.specs.Number.{Bytes}
+use Rattle.geometry.specs.declared.Geometry.{Geometry}
 use Rattle.geometry.specs.declared.Shape.{Shape}
 use Rattle.geometry.specs.declared.Shape.the-variants.{Fits, Wrong}
 use Rattle.geometry.specs.Geometry.{geometryOf}
@@ -13,23 +14,26 @@ use Rattle.packet.specs.Packet.{viewOf}
 use Rattle.rules.specs.declared.Totals.{Totals}
 use Rattle.rules.specs.declared.Line.{Line}
 use Rattle.rules.specs.Result.{Res, ok, err}
-use Rattle.rules.specs.RefusalLaws.{Between, between-ok, between-then, between-wider, between-err, check-faults, line-faults, read-faults}
+use Rattle.rules.specs.ResultLaws.{clash}
+use Rattle.rules.specs.RefusalLaws.{Between, between-ok, between-then, between-wider, between-err, check-faults, line-faults, read-faults, delete-faults}
 use Rattle.rules.specs.Tree.{Image}
 use Rattle.rules.specs.Owners.{totals}
 use Rattle.rules.specs.Listing.{linesOf, lineAt}
-use Rattle.rules.specs.Calls.{readBytes, lengthOf, filled, asked, checkCall, listCall, readCall, formatCall}
-use Rattle.rules.specs.CallLaws.{asked-fits, asked-wrong, format-refused}
+use Rattle.rules.specs.Delete.{delete}
+use Rattle.rules.specs.Calls.{readBytes, lengthOf, filled, inGeometry, asked, done as doneCall, checkCall, listCall, readCall, formatCall, deleteCall}
+use Rattle.rules.specs.CallLaws.{asked-fits, asked-wrong, format-refused, delete-refused}
 use Rattle.reading.specs.CheckCall.{asked-formed, asked-answered}
 use Rattle.editing.specs.FormatLaws.{Formatted}
-use Rattle.editing.specs.CallEdits.{format-call}
+use Rattle.editing.specs.CallEdits.{format-call, delete-call}
+use Rattle.editing.specs.DeleteLaws.{Deleted}
 use Rattle.format.proofs.Calling.{format-number}
 use Rattle.table.specs.Table.{numbersOf}
 use Rattle.owfs.specs.declared.OwfsTotals.{OwfsTotals}
 use Rattle.owfs.specs.declared.OwfsEntry.{OwfsEntry}
 use Rattle.owfs.specs.declared.OwfsLength.{OwfsLength}
 use Rattle.owfs.specs.declared.OwfsAnswer.{OwfsAnswer}
-use Rattle.owfs.specs.Answers.{totalsFor, entryFor, lengthFor, answerFor, asksLocal, checkAnswer, listAnswer, readAnswer, formatAnswer}
-use Rattle.owfs.specs.Trees.{AcceptsTree, ListsTree, ReadsTree, Formats}
+use Rattle.owfs.specs.Answers.{totalsFor, entryFor, lengthFor, answerFor, asksLocal, checkAnswer, listAnswer, readAnswer, formatAnswer, deleteAnswer}
+use Rattle.owfs.specs.Trees.{AcceptsTree, ListsTree, ReadsTree, Formats, Deletes}
 
 -- no refusal has the number 0
 module _ {A : Type 0} (P N : ℕ) (image t : List ℕ) (question : Image → Res A) (h : (i : Image) → Between 1 18 (question i)) where
@@ -116,3 +120,39 @@ module _ (P N : ℕ) (image owners : List ℕ) (local : ℕ) where
   unfolding formatAnswer
   formats r after b e =
       formats-as r after (ap (λ (x : OwfsAnswer × List ℕ × List ℕ). x .0) e) (ap (λ (x : OwfsAnswer × List ℕ × List ℕ). x .1) e) (call .0) refl
+
+-- ---- a delete
+module _ (P N : ℕ) (image owners : List ℕ) (bytes : Bytes image) (path : List ℕ) where
+  abbrev deletion : Res (Unit {0}) × List ℕ × List ℕ
+  deletion = deleteCall P N image (numbersOf owners) path
+
+  -- no refusal has the number 0
+  delete-number : (n p : ℕ) → deletion .0 ≡ err n p → 1 ≤ n
+  unfolding deleteCall
+  delete-number n p e = go (geometryOf P N (length image) (length (numbersOf owners))) e
+    where
+      left : (g : Geometry) (r : Res (List ℕ)) → delete g path image ≡ r → doneCall P N image (numbersOf owners) g r .0 ≡ err n p → 1 ≤ n
+      left g (ok after) q e = clash (sym e)
+      left g (err m o) q e = let i : m ≡ n = cc in omega (arith, delete-faults g path image .number m o q .0)
+
+      go : (s : Shape) → inGeometry s (err 1 0, image, numbersOf owners) (λ g. doneCall P N image (numbersOf owners) g (delete g path image)) .0 ≡ err n p → 1 ≤ n
+      go Wrong e = let i : 1 ≡ n = cc in omega arith
+      go (Fits g) e = left g (delete g path image) refl e
+
+  module _ (r : OwfsAnswer) (after : List ℕ) (told : r ≡ answerFor (deletion .0)) (left : after ≡ deletion .1) where
+    told-number : (q : Res (Unit {0})) → deletion .0 ≡ q → r .number ≡ answerFor q .number
+    told-number q k = ap (λ (x : OwfsAnswer). x .number) told ∙ ap (λ (x : Res (Unit {0})). answerFor x .number) k
+
+    deletes-as : (q : Res (Unit {0})) → deletion .0 ≡ q → Deletes P N image owners path r after
+    deletes-as (ok u) k = record {
+      done = λ g f z. subst (Deleted g path image) (sym left) (delete-call P N image (numbersOf owners) g f bytes path k);
+      refused = λ z. absurd (z (told-number (ok u) k));
+    }
+    deletes-as (err n p) k = record {
+      done = λ g f z. absurd (omega (arith, delete-number n p k, told-number (err n p) k, z));
+      refused = λ z. left ∙ delete-refused P N image (numbersOf owners) path n p k;
+    }
+
+  pub deletes : (r : OwfsAnswer) (after b : List ℕ) → (r, after, b) ≡ deleteAnswer P N image owners path → Deletes P N image owners path r after
+  unfolding deleteAnswer
+  deletes r after b e = deletes-as r after (ap (λ (x : OwfsAnswer × List ℕ × List ℕ). x .0) e) (ap (λ (x : OwfsAnswer × List ℕ × List ℕ). x .1) e) (deletion .0) refl

@@ -14,6 +14,7 @@ use Rattle.rules.specs.Listing.{linesOf, lineAt}
 use Rattle.rules.specs.Calls.{readBytes, lengthOf, filled}
 use Rattle.reading.specs.CheckCall.{WellFormedAt}
 use Rattle.editing.specs.FormatLaws.{Formatted}
+use Rattle.editing.specs.DeleteLaws.{Deleted}
 use Rattle.table.specs.Table.{numbersOf}
 use Rattle.owfs.specs.declared.OwfsTotals.{OwfsTotals}
 use Rattle.owfs.specs.declared.OwfsEntry.{OwfsEntry}
@@ -41,6 +42,11 @@ module _ (P N : ℕ) (image owners : List ℕ) where
   pub record Formats (local : ℕ) (r : OwfsAnswer) (after : List ℕ) : Type 0 where
     pub done : (g : Geometry) → geometryOf P N (length image) (length (numbersOf owners)) ≡ Fits g → r .number ≡ 0 → Formatted g (asksLocal local) image after
     pub refused : (r .number ≡ 0 → ⊥) → ((r .number ≡ 1) ⊎ (r .number ≡ 4)) × (after ≡ image)
+
+  -- 0: an accepted image without the path's file, all else as before; else no byte changed
+  pub record Deletes (path : List ℕ) (r : OwfsAnswer) (after : List ℕ) : Type 0 where
+    pub done : (g : Geometry) → geometryOf P N (length image) (length (numbersOf owners)) ≡ Fits g → r .number ≡ 0 → Deleted g path image after
+    pub refused : (r .number ≡ 0 → ⊥) → after ≡ image
 
 -- the numbers of an answer are small
 abbrev pub Small : {A : Type 0} → (A → Type 0) → Res A → Type 0

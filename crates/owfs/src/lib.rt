@@ -10,8 +10,8 @@ ghost use Rattle.crc16.specs.Crc16.{crc16};
 ghost use Rattle.volume.specs.Scans.{told};
 ghost use Rattle.query.specs.Questions.{lineTold, lengthTold};
 ghost use Rattle.volume.specs.Edits.{editTold};
-ghost use Rattle.owfs.specs.Answers.{totalsFor, entryFor, lengthFor, answerFor, checkAnswer, listAnswer, readAnswer, formatAnswer};
-ghost use Rattle.owfs.specs.Trees.{Small, TotalsSmall, LineSmall, LengthSmall, DoneSmall, AcceptsTree, ListsTree, ReadsTree, Formats};
+ghost use Rattle.owfs.specs.Answers.{totalsFor, entryFor, lengthFor, answerFor, checkAnswer, listAnswer, readAnswer, formatAnswer, deleteAnswer};
+ghost use Rattle.owfs.specs.Trees.{Small, TotalsSmall, LineSmall, LengthSmall, DoneSmall, AcceptsTree, ListsTree, ReadsTree, Formats, Deletes};
 
 // What check answers: 0 and the totals, or a fault's number and the page told.
 #[repr(C)]
@@ -228,6 +228,24 @@ fn format_over(
     tell_answer(answer)
 }
 
+// Deletes the file at a path over such a table.
+fn delete_over(
+    size: u32,
+    pages: u32,
+    image: &mut [u8],
+    path: &[u8],
+    table: &mut [u16],
+    owners: &mut [u8],
+) -> OwfsAnswer
+    requires { ⌜ length (now table) ≡ min (length (now owners) / 2) 65535 ⌝ }
+    ensures { λ r. ⌜ (r, now (image .exit), now (owners .exit)) ≡ deleteAnswer size pages (now (image .entry)) (now (owners .entry)) (now (path .entry)) ⌝ }
+{
+    table::load(owners, table);
+    let answer = delete::delete(image, size, pages, path, table);
+    table::store(table, owners);
+    tell_answer(answer)
+}
+
 // Checks an image: pages in use, files and directories, or the first fault. Fills the owner table.
 #[no_mangle]
 pub extern "C" fn owfs_check(size: u32, pages: u32, image: &[u8], owners: &mut [u8]) -> OwfsTotals
@@ -289,4 +307,21 @@ pub extern "C" fn owfs_format(
     let n = count(owners.len());
     let mut table = [0u16; 65535];
     format_over(size, pages, image, &mut table[..n], owners, local)
+}
+
+// Deletes the file at a path. Fills the owner table.
+#[no_mangle]
+pub extern "C" fn owfs_delete(
+    size: u32,
+    pages: u32,
+    image: &mut [u8],
+    path: &[u8],
+    owners: &mut [u8],
+) -> OwfsAnswer
+    ensures { λ r. ⌜ (r, now (image .exit), now (owners .exit)) ≡ deleteAnswer size pages (now (image .entry)) (now (owners .entry)) (now (path .entry)) ⌝ }
+    ensures { λ r. ⌜ Deletes size pages (now (image .entry)) (now (owners .entry)) (now (path .entry)) r (now (image .exit)) ⌝ }
+{
+    let n = count(owners.len());
+    let mut table = [0u16; 65535];
+    delete_over(size, pages, image, path, &mut table[..n], owners)
 }
