@@ -1,57 +1,14 @@
 // The calls for C and Rust programs.
-use query::Length;
-use query::Listed;
-use volume::Edited;
-use walk::Walk;
+use answers::OwfsAnswer;
+use answers::OwfsEntry;
+use answers::OwfsLength;
+use answers::OwfsTotals;
 ghost use mathlib.Core.Path.{_≡_};
 ghost use Prim.Native.Nat.{_/_, min};
 ghost use lib.ListN.{length};
 ghost use Rattle.crc16.specs.Crc16.{crc16};
-ghost use Rattle.volume.specs.Scans.{told};
-ghost use Rattle.query.specs.Questions.{lineTold, lengthTold};
-ghost use Rattle.volume.specs.Edits.{editTold};
-ghost use Rattle.owfs.specs.Answers.{totalsFor, entryFor, lengthFor, answerFor, checkAnswer, listAnswer, readAnswer, formatAnswer, deleteAnswer};
-ghost use Rattle.owfs.specs.Trees.{Small, TotalsSmall, LineSmall, LengthSmall, DoneSmall, AcceptsTree, ListsTree, ReadsTree, Formats, Deletes};
-
-// What check answers: 0 and the totals, or a fault's number and the page told.
-#[repr(C)]
-pub struct OwfsTotals {
-    pub number: u32,
-    pub page: u32,
-    pub used: u32,
-    pub files: u32,
-    pub directories: u32,
-}
-
-// What listing answers: 0 and a line, or a fault's number and the page told.
-#[repr(C)]
-pub struct OwfsEntry {
-    pub number: u32,
-    pub page: u32,
-    pub level: u32,
-    // four bytes as stored, the first lowest
-    pub name: u32,
-    pub extension: u32,
-    pub attribute: u32,
-    pub start: u32,
-    pub pages: u32,
-    pub length: u32,
-}
-
-// What reading answers: 0 and the bytes read, or a fault's number and the page told.
-#[repr(C)]
-pub struct OwfsLength {
-    pub number: u32,
-    pub page: u32,
-    pub length: u32,
-}
-
-// What an edit answers: 0, or a refusal's number and the page told.
-#[repr(C)]
-pub struct OwfsAnswer {
-    pub number: u32,
-    pub page: u32,
-}
+ghost use Rattle.answers.specs.Answers.{checkAnswer, listAnswer, readAnswer, formatAnswer, deleteAnswer};
+ghost use Rattle.answers.specs.Trees.{AcceptsTree, ListsTree, ReadsTree, Formats, Deletes};
 
 // The CRC-16 register after the bytes of a slice, not inverted.
 #[no_mangle]
@@ -69,93 +26,6 @@ fn count(bytes: usize) -> usize
     if n <= 65535 { n } else { 65535 }
 }
 
-// An answer of the check as the caller sees it.
-fn tell(answer: Walk) -> OwfsTotals
-    requires { ⌜ Small TotalsSmall (told answer) ⌝ }
-    ensures { λ r. ⌜ r ≡ totalsFor (told answer) ⌝ }
-{
-    match answer {
-        Walk::Done(totals) => OwfsTotals {
-            number: 0,
-            page: 0,
-            used: totals.used as u32,
-            files: totals.files as u32,
-            directories: totals.directories as u32,
-        },
-        Walk::Refused(number, page) => OwfsTotals {
-            number: number as u32,
-            page: page as u32,
-            used: 0,
-            files: 0,
-            directories: 0,
-        },
-    }
-}
-
-// An answer of listing as the caller sees it.
-fn tell_entry(answer: Listed) -> OwfsEntry
-    requires { ⌜ Small LineSmall (lineTold answer) ⌝ }
-    ensures { λ r. ⌜ r ≡ entryFor (lineTold answer) ⌝ }
-{
-    match answer {
-        Listed::Entry(line) => OwfsEntry {
-            number: 0,
-            page: 0,
-            level: line.level as u32,
-            name: line.name,
-            extension: line.extension as u32,
-            attribute: line.attribute as u32,
-            start: line.start as u32,
-            pages: line.pages as u32,
-            length: line.length as u32,
-        },
-        Listed::Refused(number, page) => OwfsEntry {
-            number: number as u32,
-            page: page as u32,
-            level: 0,
-            name: 0,
-            extension: 0,
-            attribute: 0,
-            start: 0,
-            pages: 0,
-            length: 0,
-        },
-    }
-}
-
-// An answer of reading as the caller sees it.
-fn tell_length(answer: Length) -> OwfsLength
-    requires { ⌜ Small LengthSmall (lengthTold answer) ⌝ }
-    ensures { λ r. ⌜ r ≡ lengthFor (lengthTold answer) ⌝ }
-{
-    match answer {
-        Length::Done(length) => OwfsLength {
-            number: 0,
-            page: 0,
-            length: length as u32,
-        },
-        Length::Refused(number, page) => OwfsLength {
-            number: number as u32,
-            page: page as u32,
-            length: 0,
-        },
-    }
-}
-
-// An answer of an edit as the caller sees it.
-fn tell_answer(answer: Edited) -> OwfsAnswer
-    requires { ⌜ Small DoneSmall (editTold answer) ⌝ }
-    ensures { λ r. ⌜ r ≡ answerFor (editTold answer) ⌝ }
-{
-    match answer {
-        Edited::Done => OwfsAnswer { number: 0, page: 0 },
-        Edited::Refused(number, page) => OwfsAnswer {
-            number: number as u32,
-            page: page as u32,
-        },
-    }
-}
-
 // Checks an image over a table for the numbers of its owner bytes.
 fn check_over(
     size: u32,
@@ -170,7 +40,7 @@ fn check_over(
     table::load(owners, table);
     let answer = volume::check(image, size, pages, table);
     table::store(table, owners);
-    tell(answer)
+    answers::tell(answer)
 }
 
 // Lists the entry at a walk position over such a table.
@@ -188,7 +58,7 @@ fn list_over(
     table::load(owners, table);
     let answer = query::list(image, size, pages, table, position as usize);
     table::store(table, owners);
-    tell_entry(answer)
+    answers::tell_entry(answer)
 }
 
 // Reads the file at a path over such a table.
@@ -207,7 +77,7 @@ fn read_over(
     table::load(owners, table);
     let answer = query::read(image, size, pages, path, out, table);
     table::store(table, owners);
-    tell_length(answer)
+    answers::tell_length(answer)
 }
 
 // Formats an image over such a table.
@@ -225,7 +95,7 @@ fn format_over(
     table::load(owners, table);
     let answer = format::format(image, size, pages, table, local != 0);
     table::store(table, owners);
-    tell_answer(answer)
+    answers::tell_answer(answer)
 }
 
 // Deletes the file at a path over such a table.
@@ -243,7 +113,7 @@ fn delete_over(
     table::load(owners, table);
     let answer = delete::delete(image, size, pages, path, table);
     table::store(table, owners);
-    tell_answer(answer)
+    answers::tell_answer(answer)
 }
 
 // Checks an image: pages in use, files and directories, or the first fault. Fills the owner table.

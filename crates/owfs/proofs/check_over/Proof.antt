@@ -3,8 +3,8 @@ use native.Mathlib.Omega.{arith}
 use lib.ListN.{length}
 use Rattle.rules.specs.Calls.{checkCall}
 use Rattle.volume.specs.Scans.{told}
-use Rattle.owfs.proofs.SmallLaws.{check-small}
-use Rattle.owfs.proofs.CallLaws.{checked}
+use Rattle.answers.proofs.SmallLaws.{check-small}
+use Rattle.answers.proofs.CallLaws.{checked}
 use borrow.Author.Needs.{needs}
 use Rattle.owfs.proofs.check_over.Statement.{statement}
 use Rattle.owfs.proofs.check_over.Tie as tie

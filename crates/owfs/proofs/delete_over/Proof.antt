@@ -5,8 +5,8 @@ use native.Mathlib.Omega.{arith}
 use lib.ListN.{length}
 use Rattle.rules.specs.Calls.{deleteCall}
 use Rattle.volume.specs.Edits.{editTold}
-use Rattle.owfs.proofs.SmallLaws.{delete-small}
-use Rattle.owfs.proofs.CallLaws.{deleted}
+use Rattle.answers.proofs.SmallLaws.{delete-small}
+use Rattle.answers.proofs.CallLaws.{deleted}
 use borrow.Author.Needs.{needs}
 use Rattle.owfs.proofs.delete_over.Statement.{statement}
 use Rattle.owfs.proofs.delete_over.Tie as tie

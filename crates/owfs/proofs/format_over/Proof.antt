@@ -5,9 +5,9 @@ use native.Mathlib.Omega.{arith}
 use lib.ListN.{length}
 use Rattle.rules.specs.Calls.{formatCall}
 use Rattle.volume.specs.Edits.{editTold}
-use Rattle.owfs.specs.Answers.{asksLocal}
-use Rattle.owfs.proofs.SmallLaws.{format-small}
-use Rattle.owfs.proofs.CallLaws.{formatted}
+use Rattle.answers.specs.Answers.{asksLocal}
+use Rattle.answers.proofs.SmallLaws.{format-small}
+use Rattle.answers.proofs.CallLaws.{formatted}
 use borrow.Author.Needs.{needs}
 use Rattle.owfs.proofs.format_over.Statement.{statement}
 use Rattle.owfs.proofs.format_over.Tie as tie

@@ -5,8 +5,8 @@ use native.Mathlib.Omega.{arith}
 use lib.ListN.{length}
 use Rattle.rules.specs.Calls.{listCall}
 use Rattle.query.specs.Questions.{lineTold}
-use Rattle.owfs.proofs.SmallLaws.{list-small}
-use Rattle.owfs.proofs.CallLaws.{listed}
+use Rattle.answers.proofs.SmallLaws.{list-small}
+use Rattle.answers.proofs.CallLaws.{listed}
 use borrow.Author.Needs.{needs}
 use Rattle.owfs.proofs.list_over.Statement.{statement}
 use Rattle.owfs.proofs.list_over.Tie as tie

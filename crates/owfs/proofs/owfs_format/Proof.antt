@@ -1,7 +1,7 @@
 use mathlib.Core.Path.{sym, _∙_}
 use native.Mathlib.Omega.{arith}
-use Rattle.owfs.proofs.Telling.{front}
-use Rattle.owfs.proofs.TreeLaws.{formats}
+use Rattle.answers.proofs.Telling.{front}
+use Rattle.answers.proofs.TreeLaws.{formats}
 use borrow.Author.Needs.{needs}
 use Rattle.owfs.proofs.owfs_format.Statement.{statement}
 use Rattle.owfs.proofs.owfs_format.Tie as tie

@@ -1,8 +1,8 @@
 use mathlib.Core.Path.{sym, _∙_}
 use native.Mathlib.Omega.{arith}
 use Rattle.reading.specs.CheckCall.{bytes-known}
-use Rattle.owfs.proofs.Telling.{front}
-use Rattle.owfs.proofs.TreeLaws.{reads-tree}
+use Rattle.answers.proofs.Telling.{front}
+use Rattle.answers.proofs.TreeLaws.{reads-tree}
 use borrow.Author.Needs.{needs}
 use Rattle.owfs.proofs.owfs_read.Statement.{statement}
 use Rattle.owfs.proofs.owfs_read.Tie as tie

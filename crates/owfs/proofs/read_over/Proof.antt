@@ -5,8 +5,8 @@ use native.Mathlib.Omega.{arith}
 use lib.ListN.{length}
 use Rattle.rules.specs.Calls.{readCall}
 use Rattle.query.specs.Questions.{lengthTold}
-use Rattle.owfs.proofs.SmallLaws.{read-small}
-use Rattle.owfs.proofs.CallLaws.{read}
+use Rattle.answers.proofs.SmallLaws.{read-small}
+use Rattle.answers.proofs.CallLaws.{read}
 use borrow.Author.Needs.{needs}
 use Rattle.owfs.proofs.read_over.Statement.{statement}
 use Rattle.owfs.proofs.read_over.Tie as tie

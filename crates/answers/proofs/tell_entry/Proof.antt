@@ -1,8 +1,8 @@
 use native.Mathlib.Omega.{arith}
-use Rattle.owfs.proofs.Telling.{entry-told, no-entry-told}
+use Rattle.answers.proofs.Telling.{entry-told, no-entry-told}
 use borrow.Author.Needs.{needs}
-use Rattle.owfs.proofs.tell_entry.Statement.{statement}
-use Rattle.owfs.proofs.tell_entry.Tie as tie
+use Rattle.answers.proofs.tell_entry.Statement.{statement}
+use Rattle.answers.proofs.tell_entry.Tie as tie
 
 cast-t6 : tie.Need-cast-t6
 cast-t6 c = omega (arith, entry-told _ _ (c .before .before .before .before .pre) (c .before .before .answer .given .1) .0)

@@ -8,10 +8,10 @@ use Rattle.rules.specs.declared.Line.{Line}
 use Rattle.rules.specs.Result.{Res, ok, err}
 use Rattle.rules.specs.Calls.{checkCall, listCall, readCall, formatCall, deleteCall}
 use Rattle.table.specs.Table.{numbersOf, bytesWith}
-use Rattle.owfs.specs.declared.OwfsTotals.{OwfsTotals}
-use Rattle.owfs.specs.declared.OwfsEntry.{OwfsEntry}
-use Rattle.owfs.specs.declared.OwfsLength.{OwfsLength}
-use Rattle.owfs.specs.declared.OwfsAnswer.{OwfsAnswer}
+use Rattle.answers.specs.declared.OwfsTotals.{OwfsTotals}
+use Rattle.answers.specs.declared.OwfsEntry.{OwfsEntry}
+use Rattle.answers.specs.declared.OwfsLength.{OwfsLength}
+use Rattle.answers.specs.declared.OwfsAnswer.{OwfsAnswer}
 
 -- 0 and what is told, or the number and page of a refusal; every other field is 0
 abbrev pub totalsFor : Res Totals → OwfsTotals

@@ -1,8 +1,8 @@
 use native.Mathlib.Omega.{arith}
-use Rattle.owfs.proofs.Telling.{edit-told}
+use Rattle.answers.proofs.Telling.{edit-told}
 use borrow.Author.Needs.{needs}
-use Rattle.owfs.proofs.tell_answer.Statement.{statement}
-use Rattle.owfs.proofs.tell_answer.Tie as tie
+use Rattle.answers.proofs.tell_answer.Statement.{statement}
+use Rattle.answers.proofs.tell_answer.Tie as tie
 
 cast-t6 : tie.Need-cast-t6
 cast-t6 c = omega (arith, edit-told _ _ _ (c .before .before .before .pre) (c .before .answer .given .1))

@@ -17,7 +17,7 @@ use Rattle.query.specs.Questions.{lineTold, lengthTold}
 use Rattle.volume.specs.declared.Edited.{Edited}
 use Rattle.volume.specs.declared.Edited.the-variants as edited
 use Rattle.volume.specs.Edits.{editTold}
-use Rattle.owfs.specs.Trees.{Small, TotalsSmall, LineSmall, LengthSmall, DoneSmall}
+use Rattle.answers.specs.Trees.{Small, TotalsSmall, LineSmall, LengthSmall, DoneSmall}
 
 pub totals-told : (a : Walk) (t : Totals) → Small TotalsSmall (told a) → a ≡ w.Done t → TotalsSmall t
 totals-told a t h e = subst (λ (x : Walk). Small TotalsSmall (told x)) e h

@@ -27,11 +27,11 @@ use Rattle.rules.specs.Format.{format}
 use Rattle.rules.specs.Delete.{delete}
 use Rattle.table.specs.Table.{numbersOf, bytesWith}
 use Rattle.table.specs.TableLaws.{AreBytes, length-numbers, stored-same, stored-front}
-use Rattle.owfs.specs.declared.OwfsTotals.{OwfsTotals}
-use Rattle.owfs.specs.declared.OwfsEntry.{OwfsEntry}
-use Rattle.owfs.specs.declared.OwfsLength.{OwfsLength}
-use Rattle.owfs.specs.declared.OwfsAnswer.{OwfsAnswer}
-use Rattle.owfs.specs.Answers.{totalsFor, entryFor, lengthFor, answerFor, asksLocal, checkAnswer, listAnswer, readAnswer, formatAnswer, deleteAnswer}
+use Rattle.answers.specs.declared.OwfsTotals.{OwfsTotals}
+use Rattle.answers.specs.declared.OwfsEntry.{OwfsEntry}
+use Rattle.answers.specs.declared.OwfsLength.{OwfsLength}
+use Rattle.answers.specs.declared.OwfsAnswer.{OwfsAnswer}
+use Rattle.answers.specs.Answers.{totalsFor, entryFor, lengthFor, answerFor, asksLocal, checkAnswer, listAnswer, readAnswer, formatAnswer, deleteAnswer}
 
 room-same : (N n k : ℕ) → N ≤ 65535 → n ≡ min k 65535 → leb N n ≡ leb N k
 room-same N n k h e = go (leb N k) refl

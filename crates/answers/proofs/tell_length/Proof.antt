@@ -1,8 +1,8 @@
 use native.Mathlib.Omega.{arith}
-use Rattle.owfs.proofs.Telling.{length-told, no-length-told}
+use Rattle.answers.proofs.Telling.{length-told, no-length-told}
 use borrow.Author.Needs.{needs}
-use Rattle.owfs.proofs.tell_length.Statement.{statement}
-use Rattle.owfs.proofs.tell_length.Tie as tie
+use Rattle.answers.proofs.tell_length.Statement.{statement}
+use Rattle.answers.proofs.tell_length.Tie as tie
 
 cast-t6 : tie.Need-cast-t6
 cast-t6 c = omega (arith, length-told _ _ (c .before .before .before .pre) (c .before .answer .given .1))

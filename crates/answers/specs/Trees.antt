@@ -16,11 +16,11 @@ use Rattle.reading.specs.CheckCall.{WellFormedAt}
 use Rattle.editing.specs.FormatLaws.{Formatted}
 use Rattle.editing.specs.DeleteLaws.{Deleted}
 use Rattle.table.specs.Table.{numbersOf}
-use Rattle.owfs.specs.declared.OwfsTotals.{OwfsTotals}
-use Rattle.owfs.specs.declared.OwfsEntry.{OwfsEntry}
-use Rattle.owfs.specs.declared.OwfsLength.{OwfsLength}
-use Rattle.owfs.specs.declared.OwfsAnswer.{OwfsAnswer}
-use Rattle.owfs.specs.Answers.{entryFor, lengthFor, asksLocal}
+use Rattle.answers.specs.declared.OwfsTotals.{OwfsTotals}
+use Rattle.answers.specs.declared.OwfsEntry.{OwfsEntry}
+use Rattle.answers.specs.declared.OwfsLength.{OwfsLength}
+use Rattle.answers.specs.declared.OwfsAnswer.{OwfsAnswer}
+use Rattle.answers.specs.Answers.{entryFor, lengthFor, asksLocal}
 
 module _ (P N : ℕ) (image owners : List ℕ) where
   -- the image is well formed in the geometry that the sizes give

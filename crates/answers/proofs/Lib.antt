@@ -2,4 +2,4 @@ pub mod ToldLaws
 pub mod SmallLaws
 pub mod CallLaws
 pub mod TreeLaws
-mod Telling
+pub mod Telling

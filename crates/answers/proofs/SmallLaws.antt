@@ -34,8 +34,8 @@ use Rattle.chain.proofs.Following.{first-stands, small-view}
 use Rattle.listing.specs.Standing.{Below}
 use Rattle.listing.proofs.Accepting.{accepted-stands}
 use Rattle.lookup.proofs.Resolving.{FoundStands, find-stands, place-below}
-use Rattle.owfs.specs.Trees.{Small, TotalsSmall, LineSmall, LengthSmall, DoneSmall}
-use Rattle.owfs.proofs.ToldLaws.{Tells, check-tells, read-tells, format-tells, delete-tells}
+use Rattle.answers.specs.Trees.{Small, TotalsSmall, LineSmall, LengthSmall, DoneSmall}
+use Rattle.answers.proofs.ToldLaws.{Tells, check-tells, read-tells, format-tells, delete-tells}
 
 -- an answer is small if it is for every accepted image
 module _ {A : Type 0} (P N : ℕ) (image t : List ℕ) (few : A → Type 0) (question : Image → Res A)

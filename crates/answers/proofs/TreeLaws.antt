@@ -28,12 +28,12 @@ use Rattle.editing.specs.CallEdits.{format-call, delete-call}
 use Rattle.editing.specs.DeleteLaws.{Deleted}
 use Rattle.format.proofs.Calling.{format-number}
 use Rattle.table.specs.Table.{numbersOf}
-use Rattle.owfs.specs.declared.OwfsTotals.{OwfsTotals}
-use Rattle.owfs.specs.declared.OwfsEntry.{OwfsEntry}
-use Rattle.owfs.specs.declared.OwfsLength.{OwfsLength}
-use Rattle.owfs.specs.declared.OwfsAnswer.{OwfsAnswer}
-use Rattle.owfs.specs.Answers.{totalsFor, entryFor, lengthFor, answerFor, asksLocal, checkAnswer, listAnswer, readAnswer, formatAnswer, deleteAnswer}
-use Rattle.owfs.specs.Trees.{AcceptsTree, ListsTree, ReadsTree, Formats, Deletes}
+use Rattle.answers.specs.declared.OwfsTotals.{OwfsTotals}
+use Rattle.answers.specs.declared.OwfsEntry.{OwfsEntry}
+use Rattle.answers.specs.declared.OwfsLength.{OwfsLength}
+use Rattle.answers.specs.declared.OwfsAnswer.{OwfsAnswer}
+use Rattle.answers.specs.Answers.{totalsFor, entryFor, lengthFor, answerFor, asksLocal, checkAnswer, listAnswer, readAnswer, formatAnswer, deleteAnswer}
+use Rattle.answers.specs.Trees.{AcceptsTree, ListsTree, ReadsTree, Formats, Deletes}
 
 -- no refusal has the number 0
 module _ {A : Type 0} (P N : ℕ) (image t : List ℕ) (question : Image → Res A) (h : (i : Image) → Between 1 18 (question i)) where
