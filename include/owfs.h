@@ -102,4 +102,47 @@ struct owfs_length {
 struct owfs_length owfs_read(uint32_t page_length, uint32_t page_count, const uint8_t *image, size_t image_length, const uint8_t *path, size_t path_length,
                              uint8_t *out, size_t out_length, uint8_t *owners, size_t owners_length);
 
+/* What an edit answers: number 0 and page 0, or a refusal's number and page. */
+struct owfs_answer {
+    uint32_t number;
+    uint32_t page;
+};
+
+/* Formats an image: page 0 is made an empty root and, if `local` is 0, a bitmap file is laid from page 1 upward, all its packets full but the last.
+ * With any other `local` the bitmap stands in page 0, which only an image of less than 32 pages may have. The image may hold any bytes before.
+ *
+ * number  meaning, in the order in which it is judged              page
+ *      0  done                                                     0
+ *      1  page length, page count, image length or owner table     0
+ *      4  local bitmap with 32 pages or more                       0
+ *
+ * In a page written only the bytes of its packet change; every other byte of the image stays. A refusal changes no byte of the image.
+ * `owners` are bytes, two for each page, low byte first; at least 2 * page_count of them are needed (1). After 0 they tell of the new image: the
+ * number of page 0 is 1, that of the bitmap file's pages 2, every other 0. After 4 they tell of the image as it stands, as owfs_check leaves them:
+ * its owners if it is accepted, all 0 if not. After 1 no byte is changed; bytes past the first 2 * page_count never change. Any arguments are
+ * taken. Image and owners must not overlap.
+ * Stack: 131,070 bytes for a table of 65,535 numbers, and less than 9 KiB more, however many entries a directory has. */
+struct owfs_answer owfs_format(uint32_t page_length, uint32_t page_count, uint8_t *image, size_t image_length, uint8_t *owners, size_t owners_length,
+                               uint32_t local);
+
+/* Checks an image as owfs_check does, then deletes a file: its entry is removed, later entries of the same directory page move up, and its pages
+ * are free in the bitmap. The path is as for owfs_read and is not written. Files below hidden directories are deleted like others.
+ *
+ * number  meaning, in the order in which it is judged              page
+ *      0  done                                                     0
+ *   1-13  the check's faults, as for owfs_check                    as there
+ *     14  path malformed: its length, a name or its last byte      0
+ *     15  directory or file absent                                 0
+ *     16  file is read-only                                        0
+ *
+ * Only the packets of the entry's page and of the bitmap change: the directory keeps its pages, also one that is left without entries, and a bitmap
+ * file keeps its packets' lengths. In a page written only the bytes of its new packet change; every other byte of the image stays, those of the
+ * file's pages too. A refusal changes no byte of the image.
+ * `owners` are left as owfs_check leaves them: after 0 they tell of the new image, after 14, 15 and 16 of the image as it stands; at least
+ * 2 * page_count bytes are needed (1); all numbers are 0 after the faults 2 to 13; after 1 no byte is changed; bytes past the first 2 * page_count
+ * never change. Any arguments are taken. Image, path and owners must not overlap.
+ * Stack: 131,070 bytes for a table of 65,535 numbers, and less than 9 KiB more, however many entries a directory has. */
+struct owfs_answer owfs_delete(uint32_t page_length, uint32_t page_count, uint8_t *image, size_t image_length, const uint8_t *path, size_t path_length,
+                               uint8_t *owners, size_t owners_length);
+
 #endif

@@ -1,4 +1,4 @@
-/* Calls check, list and read as firmware calls them, with numbers and byte slices, and prints each answer and each byte lent.
+/* Calls check, list, read, format and delete as firmware calls them, with numbers and byte slices, and prints each answer and each byte lent.
  *
  * The argument names a file: page length and page count (4 bytes each, low byte first), then the image, which ends the file.
  * Standard input has the calls; a number is 4 bytes, low byte first:
@@ -6,11 +6,15 @@
  *   c  bytes of the owner table
  *   l  bytes of the owner table, position
  *   r  bytes of the owner table, bytes of the path, bytes of the output, then the path
+ *   f  bytes of the owner table, 0 for a bitmap file or any other number for a local bitmap
+ *   d  bytes of the owner table, bytes of the path, then the path
  *   s  bytes of stack to use in blocks of 1,024, to show that a limit of the stack holds
  *
- * For each call it prints the letter and the fields of the answer, then a line with the owner table and for `r` one with the output, in hexadecimal.
+ * For each call it prints the letter and the fields of the answer, then a line with the owner table, for `r` one with the output and for `f` and
+ * `d` one with the image, in hexadecimal. The calls after an edit have the image as it left it.
  * Owner table and output hold the byte C7 before each call. A slice of no bytes has no address.
- * It ends with 1 if a call changed the image, the path, or bytes next to a lent slice, and with 2 if its input is not as above.
+ * It ends with 1 if a call changed the path, bytes next to a lent slice, or the image where it must not (c, l, r and every refusal), and with 2 if
+ * its input is not as above.
  */
 #include <inttypes.h>
 #include <stdio.h>
@@ -35,11 +39,11 @@ struct lent {
     size_t length;
 };
 
-static uint8_t image[MOST_IMAGE], image_before[MOST_IMAGE];
+static uint8_t image_bytes[MARGIN + MOST_IMAGE + MARGIN], image_before[MOST_IMAGE];
 static uint8_t owner_bytes[MARGIN + MOST_OWNERS + MARGIN];
 static uint8_t out_bytes[MARGIN + MOST_OUT + MARGIN];
 static uint8_t path[MOST_PATH], path_before[MOST_PATH];
-static size_t image_length;
+static struct lent image;
 static uint32_t page_length, page_count;
 
 /* Ends the program because its input is not as it must be. */
@@ -74,6 +78,14 @@ static size_t length_up_to(size_t most)
     return length;
 }
 
+/* Lends `length` bytes of a buffer, all with the same byte before the call; none of them has no address. */
+static struct lent lend(uint8_t *buffer, size_t length)
+{
+    struct lent lent = {length == 0 ? NULL : buffer + MARGIN, length};
+    memset(buffer, BEFORE, MARGIN + length + MARGIN);
+    return lent;
+}
+
 /* Reads page length, page count and image. */
 static void read_image(const char *name)
 {
@@ -82,17 +94,9 @@ static void read_image(const char *name)
         wrong_input("no image");
     page_length = number(file);
     page_count = number(file);
-    image_length = fread(image, 1, sizeof image, file);
-    memcpy(image_before, image, image_length);
+    image = lend(image_bytes, fread(image_before, 1, sizeof image_before, file));
+    memcpy(image_bytes + MARGIN, image_before, image.length);
     fclose(file);
-}
-
-/* Lends `length` bytes of a buffer, all with the same byte before the call; none of them has no address. */
-static struct lent lend(uint8_t *buffer, size_t length)
-{
-    struct lent lent = {length == 0 ? NULL : buffer + MARGIN, length};
-    memset(buffer, BEFORE, MARGIN + length + MARGIN);
-    return lent;
 }
 
 /* Sees that the margins of a lent buffer are as before. */
@@ -114,11 +118,28 @@ static void print_bytes(const struct lent *lent)
     putchar('\n');
 }
 
-/* After a call: sees that nothing but the lent slices was written, and prints the owner table. */
+/* Reads a path; one of no bytes has no address. */
+static const uint8_t *read_path(size_t length)
+{
+    if (fread(path, 1, length, stdin) != length)
+        wrong_input("a path is missing");
+    memcpy(path_before, path, length);
+    return length == 0 ? NULL : path;
+}
+
+/* Sees that the path is as before. */
+static void see_path(size_t length)
+{
+    if (memcmp(path, path_before, length) != 0)
+        wrong_write("path");
+}
+
+/* After a call that must not change the image: sees that it did not, nor bytes next to a slice, and prints the owner table. */
 static void after_call(const struct lent *owners)
 {
-    if (memcmp(image, image_before, image_length) != 0)
+    if (memcmp(image_bytes + MARGIN, image_before, image.length) != 0)
         wrong_write("image");
+    see_margins(image_bytes, image.length, "margin of the image");
     see_margins(owner_bytes, owners->length, "margin of the owner table");
     print_bytes(owners);
 }
@@ -127,7 +148,7 @@ static void after_call(const struct lent *owners)
 static void call_check(void)
 {
     struct lent owners = lend(owner_bytes, length_up_to(MOST_OWNERS));
-    struct owfs_totals told = owfs_check(page_length, page_count, image, image_length, owners.bytes, owners.length);
+    struct owfs_totals told = owfs_check(page_length, page_count, image.bytes, image.length, owners.bytes, owners.length);
     printf("c %" PRIu32 " %" PRIu32 " %" PRIu32 " %" PRIu32 " %" PRIu32 "\n", told.number, told.page, told.used, told.files, told.directories);
     after_call(&owners);
 }
@@ -137,7 +158,7 @@ static void call_list(void)
 {
     struct lent owners = lend(owner_bytes, length_up_to(MOST_OWNERS));
     uint32_t position = number(stdin);
-    struct owfs_entry told = owfs_list(page_length, page_count, image, image_length, owners.bytes, owners.length, position);
+    struct owfs_entry told = owfs_list(page_length, page_count, image.bytes, image.length, owners.bytes, owners.length, position);
     printf("l %" PRIu32 " %" PRIu32 " %" PRIu32 " %" PRIu32 " %" PRIu32, told.number, told.page, told.level, told.name, told.extension);
     printf(" %" PRIu32 " %" PRIu32 " %" PRIu32 " %" PRIu32 "\n", told.attribute, told.start, told.pages, told.length);
     after_call(&owners);
@@ -149,17 +170,44 @@ static void call_read(void)
     struct lent owners = lend(owner_bytes, length_up_to(MOST_OWNERS));
     size_t path_length = length_up_to(MOST_PATH);
     struct lent out = lend(out_bytes, length_up_to(MOST_OUT));
-    if (fread(path, 1, path_length, stdin) != path_length)
-        wrong_input("a path is missing");
-    memcpy(path_before, path, path_length);
-    struct owfs_length told = owfs_read(page_length, page_count, image, image_length, path_length == 0 ? NULL : path, path_length, out.bytes, out.length,
-                                        owners.bytes, owners.length);
+    const uint8_t *wanted = read_path(path_length);
+    struct owfs_length told = owfs_read(page_length, page_count, image.bytes, image.length, wanted, path_length, out.bytes, out.length, owners.bytes,
+                                        owners.length);
     printf("r %" PRIu32 " %" PRIu32 " %" PRIu32 "\n", told.number, told.page, told.length);
     after_call(&owners);
     see_margins(out_bytes, out.length, "margin of the output");
-    if (memcmp(path, path_before, path_length) != 0)
-        wrong_write("path");
+    see_path(path_length);
     print_bytes(&out);
+}
+
+/* After an edit: prints its answer, the owner table and the image. If it was done, the image is the one that later calls must keep. */
+static void after_edit(char letter, struct owfs_answer told, const struct lent *owners)
+{
+    printf("%c %" PRIu32 " %" PRIu32 "\n", letter, told.number, told.page);
+    if (told.number == 0)
+        memcpy(image_before, image_bytes + MARGIN, image.length);
+    after_call(owners);
+    print_bytes(&image);
+}
+
+/* f: a format. */
+static void call_format(void)
+{
+    struct lent owners = lend(owner_bytes, length_up_to(MOST_OWNERS));
+    uint32_t local = number(stdin);
+    struct owfs_answer told = owfs_format(page_length, page_count, image.bytes, image.length, owners.bytes, owners.length, local);
+    after_edit('f', told, &owners);
+}
+
+/* d: a delete. */
+static void call_delete(void)
+{
+    struct lent owners = lend(owner_bytes, length_up_to(MOST_OWNERS));
+    size_t path_length = length_up_to(MOST_PATH);
+    const uint8_t *wanted = read_path(path_length);
+    struct owfs_answer told = owfs_delete(page_length, page_count, image.bytes, image.length, wanted, path_length, owners.bytes, owners.length);
+    see_path(path_length);
+    after_edit('d', told, &owners);
 }
 
 /* Writes to so many bytes of the stack, a block at a time, and counts the blocks. */
@@ -188,6 +236,8 @@ int main(int count, char **arguments)
         case 'c': call_check(); break;
         case 'l': call_list(); break;
         case 'r': call_read(); break;
+        case 'f': call_format(); break;
+        case 'd': call_delete(); break;
         case 's': call_stack(); break;
         default: wrong_input("no such call");
         }

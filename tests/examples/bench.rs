@@ -183,6 +183,45 @@ fn warm<T>(mut call: impl FnMut() -> T) -> u32 {
     (ROUND_TIME.as_nanos() / one.as_nanos().max(1)).clamp(1, 100_000) as u32
 }
 
+/// The time of the call alone on a fresh copy of an image.
+fn on_a_copy<T>(fresh: &[u8], copy: &mut [u8], call: &mut impl FnMut(&mut [u8]) -> T) -> Duration {
+    copy.copy_from_slice(fresh);
+    let start = Instant::now();
+    black_box(call(copy));
+    start.elapsed()
+}
+
+/// Times an edit of the library and of the second program in turn, each call on a fresh copy of the image; their answers and what they leave
+/// of the image must be equal. Making the copy is part of neither time.
+fn edit_times<T: PartialEq + Debug>(
+    fresh: &[u8],
+    mut library: impl FnMut(&mut [u8]) -> T,
+    mut second: impl FnMut(&mut [u8]) -> T,
+) -> Times {
+    let mut copy = fresh.to_vec();
+    let mut second_copy = fresh.to_vec();
+    assert_eq!(library(&mut copy), second(&mut second_copy));
+    assert!(copy == second_copy, "the images afterwards");
+    let calls = warm(|| on_a_copy(fresh, &mut copy, &mut library));
+    let second_calls = warm(|| on_a_copy(fresh, &mut second_copy, &mut second));
+    let mut library_times = Vec::new();
+    let mut second_times = Vec::new();
+    for _ in 0..ROUNDS {
+        let round: Duration = (0..calls)
+            .map(|_| on_a_copy(fresh, &mut copy, &mut library))
+            .sum();
+        library_times.push(round / calls);
+        let round: Duration = (0..second_calls)
+            .map(|_| on_a_copy(fresh, &mut second_copy, &mut second))
+            .sum();
+        second_times.push(round / second_calls);
+    }
+    Times {
+        library: median(library_times),
+        second: median(second_times),
+    }
+}
+
 /// The time of one call in a round.
 fn round<T>(calls: u32, mut call: impl FnMut() -> T) -> Duration {
     let start = Instant::now();
@@ -261,6 +300,27 @@ impl Bench {
             },
         )
     }
+
+    /// Times a format with a bitmap file.
+    fn format(&mut self) -> Times {
+        let (p, n) = (self.built.page_length, self.built.page_count);
+        edit_times(
+            &self.built.image,
+            |image| library::format(p, n, image, &mut self.owners, 0),
+            |image| referee::format(p, n, image, &mut self.second_owners, 0),
+        )
+    }
+
+    /// Times a delete of the last file.
+    fn delete(&mut self) -> Times {
+        let (p, n) = (self.built.page_length, self.built.page_count);
+        let last = &self.built.entries[self.built.entries.len() - 1].path;
+        edit_times(
+            &self.built.image,
+            |image| library::delete(p, n, image, last, &mut self.owners),
+            |image| referee::delete(p, n, image, last, &mut self.second_owners),
+        )
+    }
 }
 
 /// The check sum alone.
@@ -313,6 +373,10 @@ fn print_method() {
          and an output of the file's length, all written before."
     );
     println!(
+        "Edits: each format and each delete gets a fresh copy of the image; making the copy is part of neither time. \
+         Both programs leave the same image."
+    );
+    println!(
         "Warmed: each program is called for {} ms before it is timed. Then {ROUNDS} rounds of about {} ms \
          or one call, the programs in turn.",
         WARM_TIME.as_millis(),
@@ -336,6 +400,8 @@ fn main() {
             bench.check().print("check", &bench.what);
             bench.list().print("list of the last entry", &bench.what);
             bench.read().print("read of the last file", &bench.what);
+            bench.delete().print("delete of the last file", &bench.what);
+            bench.format().print("format over it", &bench.what);
         }
     }
     println!();

@@ -9,8 +9,8 @@ use std::process::{Command, Output, Stdio};
 use std::sync::OnceLock;
 
 use common::generators::{
-    damaged_case, fault_case, labelled_out_bytes, labelled_owner_bytes, labelled_position,
-    largest_image, random_path, sound_case, Case, Made,
+    damaged_case, fault_case, labelled_local, labelled_out_bytes, labelled_owner_bytes,
+    labelled_position, largest_image, random_path, sound_case, Case, Made,
 };
 use common::{Button, Seed, Tally};
 use referee::builder::plan::Built;
@@ -36,6 +36,14 @@ enum Call {
         path: Vec<u8>,
         out_bytes: usize,
     },
+    Format {
+        owner_bytes: usize,
+        local: u32,
+    },
+    Delete {
+        owner_bytes: usize,
+        path: Vec<u8>,
+    },
 }
 
 impl Call {
@@ -57,12 +65,18 @@ impl Call {
                 bytes.extend(path);
                 bytes
             }
+            Call::Format { owner_bytes, local } => request(b'f', &[*owner_bytes as u32, *local]),
+            Call::Delete { owner_bytes, path } => {
+                let mut bytes = request(b'd', &[*owner_bytes as u32, path.len() as u32]);
+                bytes.extend(path);
+                bytes
+            }
         }
     }
 
-    /// The lines that the C program must print, from the second program's answer.
-    fn expected(&self, button: &Button) -> String {
-        let (p, n, image) = (button.page_length, button.page_count, &button.image);
+    /// The lines that the C program must print, from the second program's answer; an edit is left in the button.
+    fn expected(&self, button: &mut Button) -> String {
+        let (p, n, image) = (button.page_length, button.page_count, &mut button.image);
         match self {
             Call::Check { owner_bytes } => {
                 let mut owners = vec![BEFORE; *owner_bytes];
@@ -98,6 +112,18 @@ impl Call {
                 let told = referee::read(p, n, image, path, &mut out, &mut owners);
                 let first = line('r', told.number, &[told.page, told.length]);
                 format!("{first}{}{}", hex(&owners), hex(&out))
+            }
+            Call::Format { owner_bytes, local } => {
+                let mut owners = vec![BEFORE; *owner_bytes];
+                let told = referee::format(p, n, image, &mut owners, *local);
+                let first = line('f', told.number, &[told.page]);
+                format!("{first}{}{}", hex(&owners), hex(image))
+            }
+            Call::Delete { owner_bytes, path } => {
+                let mut owners = vec![BEFORE; *owner_bytes];
+                let told = referee::delete(p, n, image, path, &mut owners);
+                let first = line('d', told.number, &[told.page]);
+                format!("{first}{}{}", hex(&owners), hex(image))
             }
         }
     }
@@ -193,26 +219,49 @@ fn limited(image: &Path) -> Command {
     command
 }
 
+/// The characters of a line around a place in it; a line can be an image.
+fn around(line: &str, place: usize) -> String {
+    line.chars()
+        .skip(place.saturating_sub(40))
+        .take(80)
+        .collect()
+}
+
 /// Demands success and this text.
 fn printed(output: &Output, expected: &str) {
     let said = String::from_utf8_lossy(&output.stderr);
     assert!(output.status.success(), "{}: {said}", output.status);
     let text = String::from_utf8_lossy(&output.stdout);
     for (place, (line, expected)) in text.lines().zip(expected.lines()).enumerate() {
-        assert_eq!(line, expected, "line {place}");
+        let mut pairs = line.bytes().zip(expected.bytes());
+        let same = pairs.position(|(byte, other)| byte != other);
+        let same = same.unwrap_or(line.len().min(expected.len()));
+        let (line, expected) = (around(line, same), around(expected, same));
+        assert_eq!(line, expected, "line {place}, character {same}");
     }
     assert!(text == expected, "as many lines");
 }
 
-/// Some calls with a generated image.
+/// Some calls with a generated image, deletes among them; near the end there may be a format.
 fn random_calls(case: &Case, rng: &mut Rng, tally: &mut Tally) -> Vec<Call> {
     let mut calls = Vec::new();
-    for _ in 0..12 {
+    let format_at = if rng.chance(50) { 14 } else { usize::MAX };
+    for place in 0..16 {
         let (label, owner_bytes) = labelled_owner_bytes(case.button.page_count, rng);
         tally.add(label);
-        calls.push(match rng.below(5) {
+        if place == format_at {
+            let (label, local) = labelled_local(rng);
+            tally.add(label);
+            calls.push(Call::Format { owner_bytes, local });
+            continue;
+        }
+        calls.push(match rng.below(8) {
             0 => Call::Check { owner_bytes },
-            1 | 2 => {
+            1..=3 => {
+                let path = random_path(&case.built, rng).path;
+                Call::Delete { owner_bytes, path }
+            }
+            4 | 5 => {
                 let (label, position) = labelled_position(case.built.entries.len(), rng);
                 tally.add(label);
                 Call::List {
@@ -239,7 +288,7 @@ fn random_calls(case: &Case, rng: &mut Rng, tally: &mut Tally) -> Vec<Call> {
 #[test]
 fn answers_in_c() {
     let mut tally = Tally::default();
-    for seed in 0x7000_0000..0x7000_0000 + 300 {
+    for seed in 0x7000_0000..0x7000_0000 + 400 {
         let _seed = Seed(seed);
         let mut rng = Rng::new(seed);
         let case = match seed % 5 {
@@ -251,10 +300,11 @@ fn answers_in_c() {
         let image = scratch("some.image");
         write_image(&image, &case.button);
         let calls = random_calls(&case, &mut rng, &mut tally);
+        let mut button = case.button;
         let mut input = Vec::new();
         let mut expected = String::new();
         for call in &calls {
-            let lines = call.expected(&case.button);
+            let lines = call.expected(&mut button);
             tally.add(lines.split(' ').take(2).collect::<Vec<&str>>().join(" "));
             input.extend(call.bytes());
             expected += &lines;
@@ -265,6 +315,8 @@ fn answers_in_c() {
     tally.demand_numbers("c", 5, [0, 1]);
     tally.demand_numbers("l", 5, (0..=13).filter(|&number| number != 5).chain([15]));
     tally.demand_numbers("r", 5, (0..=13).chain([14, 15, 18]));
+    tally.demand_numbers("f", 5, [0, 1, 4]);
+    tally.demand_numbers("d", 5, (0..=13).chain([14, 15, 16]));
 }
 
 /// 50,000 entries in the root, and the file of the image for the C program.
@@ -283,7 +335,7 @@ fn largest() -> &'static (Built, PathBuf) {
 fn with_limited_stack(call: &Call, what: &str) {
     let (built, image) = largest();
     let output = run(limited(image), image, &call.bytes(), what);
-    printed(&output, &call.expected(&Button::from(built)));
+    printed(&output, &call.expected(&mut Button::from(built)));
 }
 
 #[test]
@@ -310,6 +362,29 @@ fn read_of_50000_entries_with_a_limited_stack() {
         out_bytes: last.bytes.len() + 3,
     };
     with_limited_stack(&call, "read");
+}
+
+#[test]
+fn delete_of_50000_entries_with_a_limited_stack() {
+    let entries = &largest().0.entries;
+    let last = entries
+        .iter()
+        .rev()
+        .find(|entry| entry.listing.attribute == 0);
+    let call = Call::Delete {
+        owner_bytes: 131_071,
+        path: last.expect("a file to delete").path.clone(),
+    };
+    with_limited_stack(&call, "delete");
+}
+
+/// Format is refused over the largest directory, whose owners it tells, and done with a bitmap file.
+#[test]
+fn format_of_50000_entries_with_a_limited_stack() {
+    for (local, what) in [(1, "local"), (0, "file")] {
+        let owner_bytes = 131_070;
+        with_limited_stack(&Call::Format { owner_bytes, local }, what);
+    }
 }
 
 /// The limit is a limit: the C program itself may use less and not more.

@@ -1,11 +1,12 @@
-//! The library, called through its exported functions: check sums and the examples of document 01 that read, by their numbers there.
+//! The library, called through its exported functions: check sums, and the examples of document 01 that read, format or delete, by their
+//! numbers there.
 //! The archive is made by `rt staticlib owfs`.
 
 mod common;
 
 use common::{answer, both, library, numbers, Button};
 use referee::rng::Rng;
-use referee::{Length, Listing, Totals};
+use referee::{Answer, Length, Listing, Totals};
 
 /// The check bytes of a packet, from the library's sum.
 fn check_bytes(page: u16, packet: &[u8]) -> [u8; 2] {
@@ -86,9 +87,38 @@ fn example_01_check_of_page_1() {
     assert_eq!(check_bytes(1, &packet), [0x07, 0xA0]);
 }
 
-/// The printed page 0 is accepted, and is what the second program formats.
+/// The library's format, with the owner numbers it leaves.
+fn formatted(button: &mut Button, local: u32) -> (Answer, Vec<u16>) {
+    let mut owners = vec![0x5A; 2 * button.page_count as usize];
+    let (p, n) = (button.page_length, button.page_count);
+    let done = library::format(p, n, &mut button.image, &mut owners, local);
+    (done, numbers(&owners))
+}
+
+/// An image of pages of 32 bytes that hold this byte throughout.
+fn filled(page_count: u32, fill: u8) -> Button {
+    let mut button = Button::zeros(32, page_count);
+    button.image.fill(fill);
+    button
+}
+
+/// The printed page 0 is written, and no byte after it.
 #[test]
 fn example_02_format() {
+    for fill in [0x00, 0xFF, 0x5A] {
+        let mut button = filled(16, fill);
+        let (done, owners) = formatted(&mut button, 1);
+        assert_eq!(done, answer(0, 0));
+        assert_eq!(owners[0], 1);
+        assert!(owners[1..].iter().all(|&owner| owner == 0));
+        assert_eq!(button.page(0)[..11], PAGE_0_FORMATTED);
+        assert!(button.image[11..].iter().all(|&byte| byte == fill));
+    }
+}
+
+/// The printed page 0 is accepted, and is what the second program formats.
+#[test]
+fn example_02_formatted_image() {
     let button = button_of(&[&PAGE_0_FORMATTED]);
     assert_eq!(button, Button::formatted(32, 16, true));
     let (told, owners) = checked(&button);
@@ -130,11 +160,64 @@ fn example_03_put() {
     assert_eq!(out, *b"TEST..");
 }
 
+/// The image of example 3 as the second program puts it, with the printed bytes, and the delete that leaves those of example 4.
+#[test]
+fn example_04_delete() {
+    for fill in [0x00, 0xFF, 0x5A] {
+        let mut button = filled(16, fill);
+        assert_eq!(formatted(&mut button, 1).0, answer(0, 0));
+        assert_eq!(button.put(b"DEMO\x0C", b"TEST").0, answer(0, 0));
+        assert_eq!(button.page(0)[..18], PAGE_0_DEMO);
+        assert_eq!(button.page(1)[..8], PAGE_1_DEMO);
+        let before = button.clone();
+        let mut owners = [0x5A; 35];
+        let path = b"DEMO\x0C";
+        let done = library::delete(32, 16, &mut button.image, path, &mut owners);
+        assert_eq!(done, answer(0, 0));
+        assert_eq!(owners[..2], [1, 0]);
+        assert!(owners[2..32].iter().all(|&byte| byte == 0));
+        assert_eq!(owners[32..], [0x5A; 3]);
+        assert_eq!(button.page(0)[..11], PAGE_0_FORMATTED);
+        let stays = [0x4F, 0x0C, 0x01, 0x01, 0x00, 0x73, 0xA5];
+        assert_eq!(button.page(0)[11..18], stays);
+        assert_eq!(button.page(1)[..8], PAGE_1_DEMO);
+        assert_eq!(button.image[18..], before.image[18..]);
+        let again = library::delete(32, 16, &mut button.image, path, &mut owners);
+        assert_eq!(again, answer(15, 0));
+    }
+}
+
 #[test]
 fn example_05_checks_that_document_001_misprints() {
     let page_3 = [0x05, 0x54, 0x45, 0x53, 0x54, 0x00];
     assert_eq!(check_bytes(3, &page_3), [0x15, 0x88]);
     assert_eq!(check_bytes(2, &[5, 0, 0, 0, 0, 0]), [0xFE, 0x48]);
+}
+
+/// N 31 with a local bitmap is formatted; N 32 is 4 and changes nothing, and its owners are those of the image as it stands.
+#[test]
+fn example_09_format() {
+    let mut button = filled(31, 0xFF);
+    let (done, owners) = formatted(&mut button, 1);
+    assert_eq!(done, answer(0, 0));
+    assert_eq!(owners[0], 1);
+    assert!(owners[1..].iter().all(|&owner| owner == 0));
+    assert_eq!(button.page(0)[..11], PAGE_0_FORMATTED);
+    assert!(button.image[11..].iter().all(|&byte| byte == 0xFF));
+
+    let mut button = filled(32, 0xFF);
+    let (done, owners) = formatted(&mut button, 1);
+    assert_eq!(done, answer(4, 0));
+    assert!(owners.iter().all(|&owner| owner == 0));
+    assert_eq!(button, filled(32, 0xFF));
+    let (done, owners) = formatted(&mut button, 0);
+    assert_eq!(done, answer(0, 0));
+    assert_eq!(owners[..3], [1, 2, 0]);
+    let accepted = button.clone();
+    let (done, owners) = formatted(&mut button, 1);
+    assert_eq!(done, answer(4, 0));
+    assert_eq!(owners[..3], [1, 2, 0]);
+    assert_eq!(button, accepted);
 }
 
 /// N 31 with a local bitmap is accepted; the same page 0 with N 32 is 4.
@@ -151,6 +234,40 @@ fn example_09_local_bitmap() {
     assert_eq!(checked(&button).0, refused);
     let file = Button::formatted(32, 32, false);
     assert_eq!(checked(&file).0, totals(2, 0, 0));
+}
+
+/// Page numbers of one byte with N 256 and of two with N 257: length byte, marker, map address, bitmap control and the bitmap file's place
+/// in page 0, and the file's packets on pages 1 and 2.
+#[test]
+fn example_10_format() {
+    let roots: [(u32, &[u8]); 2] = [
+        (256, &[8, 0xAA, 0, 0, 0, 0, 1, 2, 0]),
+        (257, &[10, 0xAB, 0, 0, 0, 1, 0, 2, 0, 0, 0]),
+    ];
+    for (page_count, root) in roots {
+        let mut button = filled(page_count, 0xFF);
+        let (done, owners) = formatted(&mut button, 0);
+        assert_eq!(done, answer(0, 0));
+        assert_eq!(owners[..3], [1, 2, 2]);
+        assert!(owners[3..].iter().all(|&owner| owner == 0));
+        assert_eq!(button.page(0)[..root.len()], *root);
+        let n = if page_count == 256 { 1 } else { 2 };
+        let lengths = [
+            root.len() - 1,
+            29,
+            page_count.div_ceil(8) as usize - (29 - n) + n,
+        ];
+        for (page, length) in lengths.into_iter().enumerate() {
+            let (packet, after) = button.page(page).split_at(1 + length);
+            assert_eq!(usize::from(packet[0]), length);
+            assert_eq!(after[..2], check_bytes(page as u16, packet));
+            assert!(after[2..].iter().all(|&byte| byte == 0xFF));
+        }
+        let pages = button.pages();
+        assert_eq!(pages.body(1)[..2], [0x07, 0x00]);
+        assert_eq!((pages.pointer(1), pages.pointer(2)), (2, 0));
+        assert!(button.image[3 * 32..].iter().all(|&byte| byte == 0xFF));
+    }
 }
 
 /// Page numbers of one byte with N 256 and of two with N 257: the other layout is refused at page 0.

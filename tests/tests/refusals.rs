@@ -3,9 +3,9 @@
 
 mod common;
 
-use common::generators::{damaged_case, deep_image, fault_case, Case, Made};
+use common::generators::{damaged_case, deep_image, fault_case, files, Case, Made};
 use common::{answer, library, Button, Seed};
-use referee::builder::plan::{Built, BuiltEntry, ChainOf};
+use referee::builder::plan::Built;
 use referee::rng::Rng;
 use referee::{Answer, Length, Listing, Totals};
 
@@ -15,9 +15,10 @@ const BEFORE: u8 = 0xC7;
 /// Bytes of the owner table past the first 2N.
 const EXTRA: usize = 7;
 
-/// The calls of the library with an owner table that is longer than needed.
+/// The calls of the library with a copy of the image and an owner table that is longer than needed.
 struct Lent<'a> {
     button: &'a Button,
+    image: Vec<u8>,
     owners: Vec<u8>,
     out: Vec<u8>,
 }
@@ -28,6 +29,7 @@ impl<'a> Lent<'a> {
         let needed = 2 * (button.page_count as usize).min(70_000);
         Lent {
             button,
+            image: button.image.clone(),
             owners: vec![BEFORE; needed + EXTRA],
             out: vec![BEFORE; out_bytes],
         }
@@ -38,7 +40,7 @@ impl<'a> Lent<'a> {
         library::check(
             self.button.page_length,
             self.button.page_count,
-            &self.button.image,
+            &self.image,
             &mut self.owners,
         )
     }
@@ -48,7 +50,7 @@ impl<'a> Lent<'a> {
         library::list(
             self.button.page_length,
             self.button.page_count,
-            &self.button.image,
+            &self.image,
             &mut self.owners,
             position,
         )
@@ -59,15 +61,38 @@ impl<'a> Lent<'a> {
         library::read(
             self.button.page_length,
             self.button.page_count,
-            &self.button.image,
+            &self.image,
             path,
             &mut self.out,
             &mut self.owners,
         )
     }
 
-    /// Demands an output as before the call, and an owner table with these bytes in front and all others as before.
+    /// A format.
+    fn format(&mut self, local: u32) -> Answer {
+        library::format(
+            self.button.page_length,
+            self.button.page_count,
+            &mut self.image,
+            &mut self.owners,
+            local,
+        )
+    }
+
+    /// A delete.
+    fn delete(&mut self, path: &[u8]) -> Answer {
+        library::delete(
+            self.button.page_length,
+            self.button.page_count,
+            &mut self.image,
+            path,
+            &mut self.owners,
+        )
+    }
+
+    /// Demands image and output as before the call, and an owner table with these bytes in front and all others as before.
     fn holds(&self, front: &[u8]) {
+        assert!(self.image == self.button.image, "image");
         assert!(self.out.iter().all(|&byte| byte == BEFORE), "output");
         let (first, rest) = self.owners.split_at(front.len());
         assert_eq!(first, front, "owners");
@@ -118,6 +143,49 @@ fn refused_by_all(case: &Case, refusal: Answer) {
             lent.holds(&zeros);
         }
     }
+}
+
+/// Demands that delete refuses an image with this and nothing else, whatever the path: of entries, malformed, of nothing, of any bytes.
+/// Afterwards the owner numbers are all 0, but after 1 the table is as before.
+fn delete_refused_by_image(case: &Case, refusal: Answer, rng: &mut Rng) {
+    let zeros = match refusal.number {
+        1 => Vec::new(),
+        _ => vec![0; 2 * case.button.page_count as usize],
+    };
+    let paths = case.built.entries.iter().map(|entry| entry.path.clone());
+    let mut paths: Vec<Vec<u8>> = paths.take(5).collect();
+    paths.extend([b"".to_vec(), b"bad".to_vec(), b"NONE\x01".to_vec()]);
+    for length in [5, 9, rng.below(50)] {
+        paths.push(rng.bytes(length));
+    }
+    for path in &paths {
+        let mut lent = Lent::new(&case.button, 0);
+        assert_eq!(lent.delete(path), refusal, "{path:?}");
+        lent.holds(&zeros);
+    }
+}
+
+/// Demands a delete's refusal with this number (2 to 13) and the page known by construction.
+fn delete_refused_with(number: u32) {
+    let first = 0x6600_0000 + 1_000 * u64::from(number);
+    for seed in first..first + 40 {
+        let _seed = Seed(seed);
+        let mut rng = Rng::new(seed);
+        let case = fault_case(number, &mut rng);
+        let Made::OneFault(refusal) = case.made else {
+            panic!("a case with one fault");
+        };
+        assert_eq!(refusal.number, number);
+        delete_refused_by_image(&case, refusal, &mut rng);
+    }
+}
+
+/// Demands that a delete is refused with this number and nothing else, and leaves the accepted image's owners.
+fn delete_refused(built: &Built, path: &[u8], number: u32) {
+    let button = Button::from(built);
+    let mut lent = Lent::new(&button, 0);
+    assert_eq!(lent.delete(path), answer(number, 0), "{path:?}");
+    lent.holds(&built.owners);
 }
 
 #[test]
@@ -171,12 +239,6 @@ fn numbers_2_to_13() {
             refused_by_all(&case, refusal);
         }
     }
-}
-
-/// The files of an image.
-fn files(built: &Built) -> Vec<&BuiltEntry> {
-    let is_file = |entry: &&BuiltEntry| built.chains[entry.chain].of == ChainOf::File;
-    built.entries.iter().filter(is_file).collect()
 }
 
 /// Demands that a read is refused with this number and nothing else, and leaves the accepted image's owners.
@@ -261,4 +323,286 @@ fn number_18() {
         }
     }
     assert!(met >= 100, "met {met} times");
+}
+
+/// Page length, page count or image length.
+#[test]
+fn delete_number_1() {
+    for seed in 0x6600_0000..0x6600_0000 + 100 {
+        let _seed = Seed(seed);
+        let mut rng = Rng::new(seed);
+        let case = damaged_case(Made::Misfit, &mut rng);
+        delete_refused_by_image(&case, answer(1, 0), &mut rng);
+    }
+}
+
+/// An owner table that is too short is 1 and is not touched, for a file that could be deleted and for one that could not.
+#[test]
+fn delete_number_1_for_the_owner_table() {
+    let seed = Seed(0x6600_1000);
+    let built = deep_image(&mut Rng::new(seed.0));
+    let button = Button::from(&built);
+    let needed = 2 * button.page_count as usize;
+    for owner_bytes in [0, 1, needed / 2, needed - 2, needed - 1] {
+        let paths = built.entries.iter().map(|entry| entry.path.as_slice());
+        for path in paths.chain([&b"bad"[..], b"NONE\x01"]) {
+            let mut lent = Lent::new(&button, 0);
+            lent.owners.truncate(owner_bytes);
+            assert_eq!(lent.delete(path), answer(1, 0));
+            lent.holds(&[]);
+        }
+    }
+}
+
+#[test]
+fn delete_number_2_packet() {
+    delete_refused_with(2);
+}
+
+#[test]
+fn delete_number_3_marker() {
+    delete_refused_with(3);
+}
+
+#[test]
+fn delete_number_4_control_field() {
+    delete_refused_with(4);
+}
+
+#[test]
+fn delete_number_5_in_progress() {
+    delete_refused_with(5);
+}
+
+#[test]
+fn delete_number_6_page_number() {
+    delete_refused_with(6);
+}
+
+#[test]
+fn delete_number_7_crossed() {
+    delete_refused_with(7);
+}
+
+#[test]
+fn delete_number_8_count() {
+    delete_refused_with(8);
+}
+
+#[test]
+fn delete_number_9_name() {
+    delete_refused_with(9);
+}
+
+#[test]
+fn delete_number_10_extension() {
+    delete_refused_with(10);
+}
+
+#[test]
+fn delete_number_11_twice() {
+    delete_refused_with(11);
+}
+
+#[test]
+fn delete_number_12_too_deep() {
+    delete_refused_with(12);
+}
+
+#[test]
+fn delete_number_13_bitmap() {
+    delete_refused_with(13);
+}
+
+/// Any bytes as image and path: whatever fault they have, nothing but the owner numbers is written.
+#[test]
+fn delete_from_any_bytes() {
+    for seed in 0x6700_0000..0x6700_0000 + 200 {
+        let _seed = Seed(seed);
+        let mut rng = Rng::new(seed);
+        let mut case = damaged_case(Made::Packets, &mut rng);
+        if rng.chance(50) {
+            case.button.image = rng.bytes(case.button.image.len());
+        }
+        let totals = Lent::new(&case.button, 0).check();
+        if totals.number != 0 {
+            let refusal = answer(totals.number, totals.page);
+            delete_refused_by_image(&case, refusal, &mut rng);
+        }
+    }
+}
+
+#[test]
+fn delete_number_14_path() {
+    for seed in 0x6800_0000..0x6800_0000 + 20 {
+        let _seed = Seed(seed);
+        let mut rng = Rng::new(seed);
+        let built = deep_image(&mut rng);
+        for path in [
+            &b""[..],
+            b"A",
+            b"FILE",
+            b"FILE\x64",
+            b"FILE\x7F",
+            b"FILE\xFF",
+            b"a   \x01",
+            b" A  \x01",
+            b"A B \x01",
+            b"    \x01",
+            b"A.B \x01",
+            b"\xC1   \x01",
+        ] {
+            delete_refused(&built, path, 14);
+        }
+        for length in 0..=60 {
+            if length % 4 != 1 || !(5..=37).contains(&length) {
+                delete_refused(&built, &rng.bytes(length), 14);
+                delete_refused(&built, &b"ROOT".repeat(16)[..length], 14);
+            }
+        }
+        for entry in &built.entries {
+            // The names alone, and with an extension above 99, which a read-only file has as stored.
+            let mut path = entry.path.clone();
+            path.truncate(path.len() / 4 * 4);
+            delete_refused(&built, &path, 14);
+            for extension in [100, 127, 128, entry.listing.extension as u8 | 0x80] {
+                path.push(extension);
+                delete_refused(&built, &path, 14);
+                path.pop();
+            }
+        }
+    }
+}
+
+#[test]
+fn delete_number_15_absent() {
+    for seed in 0x6900_0000..0x6900_0000 + 20 {
+        let _seed = Seed(seed);
+        let built = deep_image(&mut Rng::new(seed));
+        for path in [&b"NONE\x07"[..], b"NONEFILE\x07", b"NONENONENONE\x07"] {
+            delete_refused(&built, path, 15);
+        }
+        for entry in &built.entries {
+            // A file's or directory's name in the place of a directory; none has NONE.7.
+            let names = entry.path.len() / 4 * 4;
+            let mut path = entry.path[..names].to_vec();
+            path.extend(*b"NONE\x07");
+            if path.len() <= 37 {
+                delete_refused(&built, &path, 15);
+            }
+            // A directory's name in the place of a file.
+            let mut path = entry.path.clone();
+            if entry.listing.extension == 127 {
+                path.push(99);
+                if !built.entries.iter().any(|other| other.path == path) {
+                    delete_refused(&built, &path, 15);
+                }
+            }
+        }
+    }
+}
+
+#[test]
+fn delete_number_16_read_only() {
+    let mut met = 0;
+    for seed in 0x6A00_0000..0x6A00_0000 + 40 {
+        let _seed = Seed(seed);
+        let built = deep_image(&mut Rng::new(seed));
+        for file in files(&built) {
+            if file.listing.attribute == 1 {
+                delete_refused(&built, &file.path, 16);
+                met += 1;
+            }
+        }
+    }
+    assert!(met >= 100, "met {met} times");
+}
+
+/// Page length, page count or image length; also where a local bitmap is not allowed.
+#[test]
+fn format_number_1() {
+    for seed in 0x6B00_0000..0x6B00_0000 + 100 {
+        let _seed = Seed(seed);
+        let case = damaged_case(Made::Misfit, &mut Rng::new(seed));
+        for local in [0, 1, u32::MAX] {
+            let mut lent = Lent::new(&case.button, 0);
+            assert_eq!(lent.format(local), answer(1, 0));
+            lent.holds(&[]);
+        }
+    }
+}
+
+/// An owner table that is too short is 1 and is not touched, before a local bitmap is 4.
+#[test]
+fn format_number_1_for_the_owner_table() {
+    for page_count in [2, 31, 32, 300] {
+        let button = Button::formatted(32, page_count, false);
+        let needed = 2 * page_count as usize;
+        for owner_bytes in [0, 1, needed / 2, needed - 2, needed - 1] {
+            for local in [0, 1] {
+                let mut lent = Lent::new(&button, 0);
+                lent.owners.truncate(owner_bytes);
+                assert_eq!(lent.format(local), answer(1, 0));
+                lent.holds(&[]);
+            }
+        }
+    }
+}
+
+/// A local bitmap with 32 pages or more: the table tells of the old image as it stands, which may be accepted.
+#[test]
+fn format_number_4_over_an_accepted_image() {
+    let mut met = 0;
+    for seed in 0x6C00_0000..0x6C00_0000 + 100 {
+        let _seed = Seed(seed);
+        let built = deep_image(&mut Rng::new(seed));
+        if built.page_count < 32 {
+            continue;
+        }
+        let button = Button::from(&built);
+        for local in [1, 2, 256, 65_536, u32::MAX] {
+            let mut lent = Lent::new(&button, 0);
+            assert_eq!(lent.format(local), answer(4, 0));
+            lent.holds(&built.owners);
+            met += 1;
+        }
+    }
+    assert!(met >= 300, "met {met} times");
+}
+
+/// A local bitmap with 32 pages or more: if the old image is not accepted, for any fault, the owner numbers are all 0.
+#[test]
+fn format_number_4_over_a_refused_image() {
+    let mut met = [0; 14];
+    for seed in 0x6D00_0000..0x6D00_0000 + 480 {
+        let _seed = Seed(seed);
+        let mut rng = Rng::new(seed);
+        let number = 2 + (seed % 12) as u32;
+        let case = fault_case(number, &mut rng);
+        if case.button.page_count < 32 {
+            continue;
+        }
+        let mut lent = Lent::new(&case.button, 0);
+        assert_eq!(lent.format(1 + rng.below(3) as u32), answer(4, 0));
+        lent.holds(&vec![0; 2 * case.button.page_count as usize]);
+        met[number as usize] += 1;
+    }
+    assert!(met[2..].iter().all(|&times| times >= 5), "{met:?}");
+}
+
+/// A local bitmap with 32 pages or more over any bytes.
+#[test]
+fn format_number_4_over_any_bytes() {
+    let seed = Seed(0x6E00_0000);
+    let mut rng = Rng::new(seed.0);
+    for page_count in (32..=300).chain([65_535]) {
+        let button = Button {
+            page_length: 32,
+            page_count,
+            image: rng.bytes(32 * page_count as usize),
+        };
+        let mut lent = Lent::new(&button, 0);
+        assert_eq!(lent.format(1), answer(4, 0));
+        lent.holds(&vec![0; 2 * page_count as usize]);
+    }
 }

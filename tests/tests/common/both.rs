@@ -1,14 +1,14 @@
 //! One call of the library and one of the second program with equal arguments.
 //!
-//! Every field of the answers is compared, and every byte of the lent memory afterwards: of the owner table and of the
-//! output with some bytes before and after them, of the image and of the path.
+//! Every field of the answers is compared, and every byte of the lent memory afterwards: of the owner table, of the output and
+//! of an image that is edited with some bytes before and after them, of the path and of any other image.
 
 use std::fmt::Debug;
 
 use super::library;
 use super::Button;
 use referee::rng::Rng;
-use referee::{Length, Listing, Totals};
+use referee::{Answer, Length, Listing, Totals};
 
 /// The bytes before and after a lent slice, which no call may change.
 const MARGIN: usize = 24;
@@ -25,6 +25,16 @@ impl Lent {
         Lent {
             bytes: rng.bytes(length + 2 * MARGIN),
         }
+    }
+
+    /// A slice of these bytes.
+    fn of(bytes: &[u8], rng: &mut Rng) -> Lent {
+        let mut lent = Lent {
+            bytes: rng.bytes(MARGIN),
+        };
+        lent.bytes.extend_from_slice(bytes);
+        lent.bytes.extend(rng.bytes(MARGIN));
+        lent
     }
 
     /// The lent slice.
@@ -110,4 +120,72 @@ pub fn read_bytes(
     assert!(out == expected_out, "output bytes");
     assert!(path == path_before, "the path is not written");
     (length, out.slice()[..length.length as usize].to_vec())
+}
+
+/// Formats an image with both.
+pub fn format(button: &mut Button, owner_bytes: usize, local: u32, rng: &mut Rng) -> Answer {
+    let (p, n) = (button.page_length, button.page_count);
+    edit(
+        button,
+        owner_bytes,
+        rng,
+        |image, owners| referee::format(p, n, image, owners, local),
+        |image, owners| library::format(p, n, image, owners, local),
+    )
+}
+
+/// Deletes a file with both.
+pub fn delete(button: &mut Button, owner_bytes: usize, path: &[u8], rng: &mut Rng) -> Answer {
+    let (p, n) = (button.page_length, button.page_count);
+    let path_before = path.to_vec();
+    let told = edit(
+        button,
+        owner_bytes,
+        rng,
+        |image, owners| referee::delete(p, n, image, path, owners),
+        |image, owners| library::delete(p, n, image, path, owners),
+    );
+    assert!(path == path_before, "the path is not written");
+    told
+}
+
+/// Demands one answer from two edits, each of its own copy of the image, and equal bytes in the copies and the owner tables afterwards.
+/// A refusal changes no byte of the image. The button is left with the image as it then stands.
+fn edit(
+    button: &mut Button,
+    owner_bytes: usize,
+    rng: &mut Rng,
+    second: impl FnOnce(&mut [u8], &mut [u8]) -> Answer,
+    library: impl FnOnce(&mut [u8], &mut [u8]) -> Answer,
+) -> Answer {
+    let mut expected_image = Lent::of(&button.image, rng);
+    let mut image = expected_image.clone();
+    let told = equal(
+        button,
+        owner_bytes,
+        rng,
+        |owners| second(expected_image.slice(), owners),
+        |owners| library(image.slice(), owners),
+    );
+    same_image(button.page_length, &image, &expected_image);
+    if told.number != 0 {
+        let same = image.slice() == button.image;
+        assert!(same, "a refusal changes no byte of the image");
+    }
+    button.image.copy_from_slice(image.slice());
+    told
+}
+
+/// Demands equal bytes of two images and next to them; the first that differs is told by its page and its place there.
+fn same_image(page_length: u32, image: &Lent, expected: &Lent) {
+    let mut pairs = image.bytes.iter().zip(&expected.bytes);
+    if let Some(place) = pairs.position(|(byte, other)| byte != other) {
+        let place = place as i64 - MARGIN as i64;
+        let length = i64::from(page_length.max(1));
+        panic!(
+            "image byte {} of page {}",
+            place.rem_euclid(length),
+            place.div_euclid(length)
+        );
+    }
 }

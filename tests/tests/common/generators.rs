@@ -5,7 +5,9 @@ use referee::builder::fault::{
     with_fault, with_random_changes, with_sealed_flips, with_two_faults,
 };
 use referee::builder::pages::Pages;
-use referee::builder::plan::{Built, BuiltChain, BuiltEntry, ChainOf, Fill};
+use referee::builder::plan::{
+    BitmapPlan, Built, BuiltChain, BuiltEntry, Chain, ChainOf, DirectoryPlan, Fill, ImagePlan, Item,
+};
 use referee::builder::random::{random_image, random_name, random_packets, random_plan, Shape};
 use referee::geometry::Geometry;
 use referee::rng::Rng;
@@ -106,6 +108,115 @@ pub fn largest_image(
         fill: Fill::Byte(0xFF),
     };
     random_plan(page_length, 65_535, shape, &mut Rng::new(seed)).build()
+}
+
+/// A plan with something to delete: chains mostly scattered, packets often partly filled or empty, those of a bitmap file too;
+/// one in five is nested down to level eight.
+pub fn worn_plan(rng: &mut Rng) -> ImagePlan {
+    let limit = random_limit(rng).min(1_000);
+    let (page_length, page_count) = random_sizes(rng, limit);
+    let geometry = Geometry::new(page_length, page_count).expect("P and N within their limits");
+    let shape = if rng.chance(20) {
+        deep_shape(&geometry, rng)
+    } else {
+        Shape::random(&geometry, rng)
+    };
+    let shape = Shape {
+        scattered: rng.chance(85),
+        least_entries: rng.between(1, 4),
+        free_pages: [0, 0, 1, shape.free_pages][rng.below(4)],
+        odd_packet_percent: [15, 60, 60, 90][rng.below(4)],
+        ..shape
+    };
+    random_plan(page_length, page_count, shape, rng)
+}
+
+/// The plan of a formatted image: an empty root, and from page 1 upward a bitmap file with full packets unless the bitmap is local.
+pub fn formatted_plan(page_length: u32, page_count: u32, local: bool) -> ImagePlan {
+    let geometry = Geometry::new(page_length, page_count).expect("P and N within their limits");
+    let total = geometry.bitmap_file_length();
+    let pages: Vec<usize> = (1..=total.div_ceil(geometry.max_data())).collect();
+    let bitmap = if local {
+        BitmapPlan::Local
+    } else {
+        BitmapPlan::File(Chain::full(&pages, total, geometry.max_data()))
+    };
+    ImagePlan {
+        page_length,
+        page_count,
+        bitmap,
+        root: DirectoryPlan {
+            pages: vec![0],
+            counts: vec![0],
+            items: Vec::new(),
+        },
+        fill: Fill::Byte(0),
+    }
+}
+
+/// The plan without the file of this path; none if there is no such file.
+pub fn plan_without(plan: &ImagePlan, path: &[u8]) -> Option<ImagePlan> {
+    let mut plan = plan.clone();
+    remove_file(&mut plan.root, path)?;
+    Some(plan)
+}
+
+/// Removes the file of this path from a directory or one below it; the page that held its entry has one less.
+fn remove_file(directory: &mut DirectoryPlan, path: &[u8]) -> Option<()> {
+    if path.len() > 5 {
+        let below = directory.items.iter_mut().find_map(|item| match item {
+            Item::Directory {
+                name, directory, ..
+            } if *name == path[..4] => Some(directory),
+            _ => None,
+        })?;
+        return remove_file(below, &path[4..]);
+    }
+    let is_file = |item: &Item| match item {
+        Item::File(file) => file.name == path[..4] && file.extension == path[4],
+        Item::Directory { .. } => false,
+    };
+    let mut place = directory.items.iter().position(is_file)?;
+    directory.items.remove(place);
+    for count in &mut directory.counts {
+        if place < *count {
+            *count -= 1;
+            return Some(());
+        }
+        place -= *count;
+    }
+    None
+}
+
+/// An image with the packets of another laid over it: each page in use there has its packet, every other byte stays.
+pub fn overlaid(image: &Button, built: &Built) -> Vec<u8> {
+    let mut after = image.pages();
+    let packets = Button::from(built);
+    for &page in built.chains.iter().flat_map(|chain| &chain.pages) {
+        let packet = packets.page(page);
+        let length = 3 + usize::from(packet[0]);
+        after.page_mut(page)[..length].copy_from_slice(&packet[..length]);
+    }
+    after.image
+}
+
+/// A number that asks format for a bitmap file (0) or a local bitmap, with a label.
+pub fn labelled_local(rng: &mut Rng) -> (&'static str, u32) {
+    match rng.below(10) {
+        0..=4 => ("bitmap file asked for", 0),
+        5..=7 => ("local bitmap asked for by 1", 1),
+        8 => {
+            let numbers = [2, 0x80, 0x100, 0x1_0000, 0x8000_0000, u32::MAX];
+            (
+                "local bitmap asked for by another number",
+                numbers[rng.below(numbers.len())],
+            )
+        }
+        _ => {
+            let number = 1 + (rng.next_u64() as u32 >> 1);
+            ("local bitmap asked for by any number", number)
+        }
+    }
 }
 
 /// A sound image of any shape; one in eight is nested down to level eight.
@@ -311,15 +422,21 @@ pub struct Wanted {
     pub file_bytes: usize,
 }
 
+/// The entries of a built image whose chain is of this kind.
+fn entries_of(built: &Built, of: ChainOf) -> Vec<&BuiltEntry> {
+    let is_such = |entry: &&BuiltEntry| built.chains[entry.chain].of == of;
+    built.entries.iter().filter(is_such).collect()
+}
+
+/// The files of a built image in walk order.
+pub fn files(built: &Built) -> Vec<&BuiltEntry> {
+    entries_of(built, ChainOf::File)
+}
+
 /// A path for a built image: of a file that is there, of something near it, or of any bytes.
 pub fn random_path(built: &Built, rng: &mut Rng) -> Wanted {
-    let is_file = |entry: &&BuiltEntry| built.chains[entry.chain].of == ChainOf::File;
-    let files: Vec<&BuiltEntry> = built.entries.iter().filter(is_file).collect();
-    let directories: Vec<&BuiltEntry> = built
-        .entries
-        .iter()
-        .filter(|entry| !is_file(entry))
-        .collect();
+    let files = files(built);
+    let directories = entries_of(built, ChainOf::Directory);
     if rng.chance(25) {
         return any_path(rng);
     }
@@ -349,7 +466,7 @@ fn any_path(rng: &mut Rng) -> Wanted {
 }
 
 /// Whether a directory on the path of an entry is hidden.
-fn is_below_hidden(built: &Built, entry: &BuiltEntry) -> bool {
+pub fn is_below_hidden(built: &Built, entry: &BuiltEntry) -> bool {
     let names = entry.listing.level as usize;
     built.entries.iter().any(|other| {
         let hidden = other.listing.extension == 127 && other.listing.attribute == 1;
@@ -465,7 +582,7 @@ pub fn features(built: &Built) -> Vec<&'static str> {
 }
 
 /// What a chain has: empty packets, partly filled packets before its end, pages in another order than rising.
-fn chain_features(pages: &Pages, chain: &BuiltChain) -> Vec<&'static str> {
+pub fn chain_features(pages: &Pages, chain: &BuiltChain) -> Vec<&'static str> {
     let [empty, part, unordered] = match chain.of {
         ChainOf::Root => [
             "empty packet in the root's chain",

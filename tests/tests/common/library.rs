@@ -2,7 +2,7 @@
 //! The archive is made by `rt staticlib owfs`.
 #![allow(dead_code)]
 
-use referee::{Length, Listing, Totals};
+use referee::{Answer, Length, Listing, Totals};
 
 /// `struct owfs_totals`.
 #[repr(C)]
@@ -34,6 +34,13 @@ struct OwfsLength {
     number: u32,
     page: u32,
     length: u32,
+}
+
+/// `struct owfs_answer`.
+#[repr(C)]
+struct OwfsAnswer {
+    number: u32,
+    page: u32,
 }
 
 #[link(name = "owfs", kind = "static")]
@@ -71,6 +78,27 @@ extern "C" {
         owners: *mut u8,
         owners_length: usize,
     ) -> OwfsLength;
+
+    fn owfs_format(
+        page_length: u32,
+        page_count: u32,
+        image: *mut u8,
+        image_length: usize,
+        owners: *mut u8,
+        owners_length: usize,
+        local: u32,
+    ) -> OwfsAnswer;
+
+    fn owfs_delete(
+        page_length: u32,
+        page_count: u32,
+        image: *mut u8,
+        image_length: usize,
+        path: *const u8,
+        path_length: usize,
+        owners: *mut u8,
+        owners_length: usize,
+    ) -> OwfsAnswer;
 }
 
 /// The CRC-16 register after `bytes`, started with `start`, not inverted.
@@ -158,5 +186,56 @@ pub fn read(
         number: told.number,
         page: told.page,
         length: told.length,
+    }
+}
+
+/// Formats an image: `local` 0 asks for a bitmap file, any other number for a local bitmap.
+pub fn format(
+    page_length: u32,
+    page_count: u32,
+    image: &mut [u8],
+    owners: &mut [u8],
+    local: u32,
+) -> Answer {
+    let told = unsafe {
+        owfs_format(
+            page_length,
+            page_count,
+            image.as_mut_ptr(),
+            image.len(),
+            owners.as_mut_ptr(),
+            owners.len(),
+            local,
+        )
+    };
+    Answer {
+        number: told.number,
+        page: told.page,
+    }
+}
+
+/// Deletes a file.
+pub fn delete(
+    page_length: u32,
+    page_count: u32,
+    image: &mut [u8],
+    path: &[u8],
+    owners: &mut [u8],
+) -> Answer {
+    let told = unsafe {
+        owfs_delete(
+            page_length,
+            page_count,
+            image.as_mut_ptr(),
+            image.len(),
+            path.as_ptr(),
+            path.len(),
+            owners.as_mut_ptr(),
+            owners.len(),
+        )
+    };
+    Answer {
+        number: told.number,
+        page: told.page,
     }
 }

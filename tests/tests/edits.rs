@@ -1,0 +1,807 @@
+//! The library's format and delete, called as C calls them, against the second program: the answer, every byte of the image and of the
+//! owner table, and the bytes next to them. Where an image is known by construction, so are the answer and the image afterwards.
+//! The archive is made by `rt staticlib owfs`.
+
+mod common;
+
+use std::ops::Range;
+
+use common::generators::{
+    chain_features, damaged_case, deep_image, fault_case, files, flip, formatted_plan,
+    is_below_hidden, labelled_local, labelled_owner_bytes, largest_image, misfit, overlaid,
+    plan_without, random_path, random_sizes, sound_case, two_faults_case, worn_plan, Case, Made,
+};
+use common::{answer, both, Button, Seed, Tally};
+use referee::builder::pages::{path, Pages};
+use referee::builder::plan::{Built, BuiltEntry, ChainOf, ImagePlan};
+use referee::builder::random::random_name;
+use referee::geometry::Geometry;
+use referee::rng::Rng;
+use referee::Answer;
+
+/// Runs so many cases, each from a seed of its own.
+fn run_seeds(seeds: Range<u64>, mut case: impl FnMut(u64, &mut Rng)) {
+    println!("seeds {seeds:?}");
+    for seed in seeds {
+        let _seed = Seed(seed);
+        case(seed, &mut Rng::new(seed));
+    }
+}
+
+/// Bytes of an owner table, counted by their label.
+fn owner_bytes(page_count: u32, rng: &mut Rng, tally: &mut Tally) -> usize {
+    let (label, bytes) = labelled_owner_bytes(page_count, rng);
+    tally.add(label);
+    bytes
+}
+
+/// Whether an owner table of so many bytes is long enough.
+fn is_enough(page_count: u32, owner_bytes: usize) -> bool {
+    owner_bytes >= 2 * page_count as usize
+}
+
+/// The labels of owner tables.
+const OWNER_TABLES: [&str; 6] = [
+    "owner table just long enough",
+    "owner table one byte longer",
+    "owner table longer",
+    "owner table one byte too short",
+    "owner table too short",
+    "no owner table",
+];
+
+/// The labels of paths with the answers that a delete must have given to them.
+const PATHS: [&str; 24] = [
+    "path of a file: 0",
+    "path of a read-only file: 16",
+    "path below a hidden directory: 0",
+    "path below a hidden directory: 16",
+    "path of a file with any extension number: 15",
+    "path of a file with the top bit: 14",
+    "path of a file with an extension above 99: 14",
+    "path with a file's name in the place of a directory: 15",
+    "path cut short: 14",
+    "path cut short: 15",
+    "path with a byte more: 14",
+    "path with a bit flipped: 14",
+    "path with a bit flipped: 15",
+    "path with a name more: 14",
+    "path with a name more: 15",
+    "path of a directory: 14",
+    "path of a directory with its extension: 14",
+    "path with a directory's name in the place of a file: 15",
+    "path of any file in a directory: 15",
+    "path of any bytes: 14",
+    "path of any names: 14",
+    "path of any names: 15",
+    "path of a file below a directory: 0",
+    "path of a file below a directory: 16",
+];
+
+/// What deletes that were done must have met.
+const DONE: [&str; 33] = [
+    "one-byte page numbers",
+    "two-byte page numbers",
+    "local bitmap",
+    "bitmap file",
+    "empty packet in the bitmap file's chain",
+    "partly filled packet in the bitmap file's chain",
+    "bitmap file's chain scattered",
+    "bits changed in several packets of the bitmap file",
+    "empty packet in a file's chain",
+    "partly filled packet in a file's chain",
+    "file's chain scattered",
+    "file of one page",
+    "file of several pages",
+    "file without bytes",
+    "every page was in use",
+    "entry in the root's first page",
+    "entry in a later page of the root",
+    "entry in a subdirectory's first page",
+    "entry in a later page of a subdirectory",
+    "entry on page 0 with a local bitmap",
+    "entry on page 0 with a bitmap file",
+    "first of several entries of its page",
+    "middle entry of its page",
+    "last of several entries of its page",
+    "continuation page left empty",
+    "empty packet in the root's chain",
+    "partly filled packet in the root's chain",
+    "root's chain scattered",
+    "empty packet in a directory's chain",
+    "partly filled packet in a directory's chain",
+    "directory's chain scattered",
+    "file at level 8",
+    "file below a hidden directory",
+];
+
+/// The label of an entry's place among those of its page, and of a continuation page that has no other.
+fn place_in_page(built: &Built, entry: &BuiltEntry) -> &'static str {
+    let offsets = built
+        .entries
+        .iter()
+        .filter(|other| other.page == entry.page);
+    let offsets: Vec<usize> = offsets.map(|other| other.offset).collect();
+    let least = offsets.iter().min() == Some(&entry.offset);
+    let greatest = offsets.iter().max() == Some(&entry.offset);
+    let continued = built.chains[entry.directory].pages[0] != entry.page;
+    match (least, greatest) {
+        (true, true) if continued => "continuation page left empty",
+        (true, true) => "first page left without entries",
+        (true, false) => "first of several entries of its page",
+        (false, true) => "last of several entries of its page",
+        (false, false) => "middle entry of its page",
+    }
+}
+
+/// What the delete of an entry has to do with, as labels to be counted.
+fn delete_features(built: &Built, entry: &BuiltEntry, after: &Button) -> Vec<&'static str> {
+    let before = Button::from(built);
+    let pages = before.pages();
+    let bitmap = built
+        .chains
+        .iter()
+        .find(|chain| chain.of == ChainOf::Bitmap);
+    let directory = &built.chains[entry.directory];
+    let file = &built.chains[entry.chain];
+    let mut labels = vec![place_in_page(built, entry)];
+    labels.push(match pages.geometry.number_length() {
+        1 => "one-byte page numbers",
+        _ => "two-byte page numbers",
+    });
+    labels.push(match bitmap {
+        Some(_) => "bitmap file",
+        None => "local bitmap",
+    });
+    labels.push(match (directory.of, directory.pages[0] == entry.page) {
+        (ChainOf::Root, true) => "entry in the root's first page",
+        (ChainOf::Root, false) => "entry in a later page of the root",
+        (_, true) => "entry in a subdirectory's first page",
+        (_, false) => "entry in a later page of a subdirectory",
+    });
+    labels.push(match file.pages.len() {
+        1 => "file of one page",
+        _ => "file of several pages",
+    });
+    let changed = |page: &&usize| before.page(**page) != after.page(**page);
+    let changes = bitmap.map_or(0, |chain| chain.pages.iter().filter(changed).count());
+    let met = [
+        (
+            entry.page == 0 && bitmap.is_none(),
+            "entry on page 0 with a local bitmap",
+        ),
+        (
+            entry.page == 0 && bitmap.is_some(),
+            "entry on page 0 with a bitmap file",
+        ),
+        (
+            changes > 1,
+            "bits changed in several packets of the bitmap file",
+        ),
+        (entry.bytes.is_empty(), "file without bytes"),
+        (entry.listing.level == 8, "file at level 8"),
+        (
+            is_below_hidden(built, entry),
+            "file below a hidden directory",
+        ),
+        (
+            built.totals.used == built.page_count,
+            "every page was in use",
+        ),
+    ];
+    labels.extend(met.iter().filter(|(is, _)| *is).map(|(_, label)| *label));
+    for chain in [Some(directory), Some(file), bitmap].into_iter().flatten() {
+        labels.extend(chain_features(&pages, chain));
+    }
+    labels
+}
+
+/// A plan, its image, and the counts of what was met.
+struct Worn<'a> {
+    plan: &'a ImagePlan,
+    built: &'a Built,
+    tally: &'a mut Tally,
+}
+
+impl Worn<'_> {
+    /// Deletes the file of a path from a copy of the image; the answer and the image afterwards are the plan's.
+    fn delete(&mut self, label: &str, path: &[u8], rng: &mut Rng) {
+        let mut button = Button::from(self.built);
+        let owner_bytes = owner_bytes(button.page_count, rng, self.tally);
+        let told = both::delete(&mut button, owner_bytes, path, rng);
+        self.tally.add(format!("delete {}", told.number));
+        if !is_enough(button.page_count, owner_bytes) {
+            assert_eq!(told, answer(1, 0));
+            return;
+        }
+        self.tally.add(format!("{label}: {}", told.number));
+        let mut found = files(self.built).into_iter();
+        let Some(entry) = found.find(|entry| entry.path == path) else {
+            let missing = told == answer(14, 0) || told == answer(15, 0);
+            assert!(missing, "{told:?} for a path of no file");
+            return;
+        };
+        if path.len() > 5 {
+            let number = told.number;
+            self.tally
+                .add(format!("path of a file below a directory: {number}"));
+        }
+        if entry.listing.attribute == 1 {
+            assert_eq!(told, answer(16, 0), "read-only");
+            return;
+        }
+        assert_eq!(told, answer(0, 0), "known by construction");
+        self.demand_without(path, &button, rng);
+        for label in delete_features(self.built, entry, &button) {
+            self.tally.add(label);
+        }
+    }
+
+    /// Demands the image of the plan without the file, laid over the image as it was, and a check that tells of it.
+    fn demand_without(&self, path: &[u8], button: &Button, rng: &mut Rng) {
+        let without = plan_without(self.plan, path).expect("the plan has the file");
+        let without = without.build();
+        let expected = overlaid(&Button::from(self.built), &without);
+        assert!(button.image == expected, "known by construction");
+        let table = 2 * button.page_count as usize;
+        assert_eq!(both::check(button, table, rng), without.totals);
+    }
+}
+
+/// Deletes of files that are there, and of paths near them, from images with scattered chains, odd packets and nested directories.
+#[test]
+fn deletes_from_sound_images() {
+    let mut tally = Tally::default();
+    run_seeds(0xA000_0000..0xA000_0000 + 4_000, |_, rng| {
+        let plan = worn_plan(rng);
+        let built = plan.build();
+        let mut worn = Worn {
+            plan: &plan,
+            built: &built,
+            tally: &mut tally,
+        };
+        let writable: Vec<&BuiltEntry> = files(&built)
+            .into_iter()
+            .filter(|entry| entry.listing.attribute == 0)
+            .collect();
+        if let Some(entry) = rng.pick(&writable) {
+            worn.delete("path of a file to delete", &entry.path, rng);
+        }
+        for _ in 0..2 {
+            let wanted = random_path(&built, rng);
+            worn.delete(wanted.label, &wanted.path, rng);
+        }
+    });
+    tally.print();
+    tally.demand(20, &DONE);
+    tally.demand(20, &OWNER_TABLES);
+    tally.demand(10, &PATHS);
+    tally.demand_numbers("delete", 100, [0, 1, 14, 15, 16]);
+}
+
+/// Every file of an image is deleted, one after the other; those that stay are read each time.
+#[test]
+fn deletes_one_after_the_other() {
+    let mut deletes = 0;
+    run_seeds(0xA100_0000..0xA100_0000 + 150, |_, rng| {
+        let mut plan = worn_plan(rng);
+        let built = plan.build();
+        let mut button = Button::from(&built);
+        let table = 2 * button.page_count as usize;
+        let mut left: Vec<&BuiltEntry> = files(&built);
+        rng.shuffle(&mut left);
+        left.truncate(60);
+        while let Some(entry) = left.pop() {
+            let before = button.clone();
+            let told = both::delete(&mut button, table + 3, &entry.path, rng);
+            deletes += 1;
+            if entry.listing.attribute == 1 {
+                assert_eq!(told, answer(16, 0));
+                continue;
+            }
+            assert_eq!(told, answer(0, 0));
+            plan = plan_without(&plan, &entry.path).expect("the plan has the file");
+            let now = plan.build();
+            assert!(
+                button.image == overlaid(&before, &now),
+                "known by construction"
+            );
+            assert_eq!(both::check(&button, table, rng), now.totals);
+            let told = both::delete(&mut button, table, &entry.path, rng);
+            assert_eq!(told, answer(15, 0), "deleted before");
+            if let Some(other) = rng.pick(&left) {
+                let length = other.bytes.len();
+                let (_, bytes) = both::read_bytes(&button, table, &other.path, length, rng);
+                assert_eq!(bytes, other.bytes);
+            }
+        }
+    });
+    println!("deletes: {deletes}");
+    assert!(deletes > 1_000, "{deletes} deletes");
+}
+
+/// A delete from an image that is not accepted, or with arguments that do not fit.
+fn delete_from(case: &Case, tally: &mut Tally, rng: &mut Rng) {
+    for _ in 0..2 {
+        let wanted = random_path(&case.built, rng);
+        let mut button = case.button.clone();
+        let owner_bytes = owner_bytes(button.page_count, rng, tally);
+        let told = both::delete(&mut button, owner_bytes, &wanted.path, rng);
+        tally.add(format!("delete {}", told.number));
+        let refusal = match case.made {
+            _ if !is_enough(button.page_count, owner_bytes) => answer(1, 0),
+            Made::OneFault(fault) => fault,
+            Made::Misfit => answer(1, 0),
+            _ => continue,
+        };
+        assert_eq!(told, refusal, "known by construction");
+    }
+}
+
+/// Each number from 2 to 13, with the page known; pairs of them; damage of any kind; arguments that do not fit.
+#[test]
+fn deletes_from_faulty_images() {
+    let mut tally = Tally::default();
+    run_seeds(0xA200_0000..0xA200_0000 + 3_000, |seed, rng| {
+        let case = match seed % 20 {
+            0..=9 => fault_case(2 + (seed / 20 % 12) as u32, rng),
+            10..=12 => {
+                let pair = (seed / 20 % 144) as u32;
+                two_faults_case([2 + pair / 12, 2 + pair % 12], rng)
+            }
+            13..=15 => damaged_case(Made::Sealed, rng),
+            16 | 17 => damaged_case(Made::Flipped, rng),
+            18 => damaged_case(Made::Packets, rng),
+            _ => damaged_case(Made::Misfit, rng),
+        };
+        delete_from(&case, &mut tally, rng);
+    });
+    tally.print();
+    tally.demand_numbers("delete", 40, 1..=13);
+}
+
+/// Demands a format's answer and image by the plan of a formatted image, and gives the answer.
+fn format_known(button: &mut Button, owner_bytes: usize, local: u32, rng: &mut Rng) -> Answer {
+    let before = button.clone();
+    let told = both::format(button, owner_bytes, local, rng);
+    let (p, n) = (button.page_length, button.page_count);
+    let fits = Geometry::new(p, n).is_some_and(|known| known.image_length() == before.image.len());
+    if !fits || !is_enough(n, owner_bytes) {
+        assert_eq!(told, answer(1, 0), "arguments");
+    } else if local != 0 && n >= 32 {
+        assert_eq!(told, answer(4, 0), "local bitmap");
+    } else {
+        assert_eq!(told, answer(0, 0), "known by construction");
+        let formatted = formatted_plan(p, n, local != 0).build();
+        let expected = overlaid(&before, &formatted);
+        assert!(button.image == expected, "known by construction");
+        let totals = both::check(button, 2 * n as usize, rng);
+        assert_eq!(totals, formatted.totals);
+    }
+    told
+}
+
+/// An image to format and a label: accepted, with faults, any bytes, or one that does not fit.
+fn image_to_format(kind: u64, rng: &mut Rng) -> (&'static str, Button) {
+    match kind % 8 {
+        0 | 1 => ("accepted", sound_case(rng).button),
+        2 => ("accepted", Button::from(&worn_plan(rng).build())),
+        3 => {
+            let number = rng.between(2, 13) as u32;
+            ("refused", fault_case(number, rng).button)
+        }
+        4 => {
+            let mut button = sound_case(rng).button;
+            flip(&mut button.image, rng);
+            ("flipped", button)
+        }
+        5 => ("misfit", damaged_case(Made::Misfit, rng).button),
+        _ => {
+            let (page_length, page_count) = random_sizes(rng, 400);
+            let mut button = Button::zeros(page_length, page_count);
+            button.image = rng.bytes(button.image.len());
+            ("any bytes", button)
+        }
+    }
+}
+
+/// Format over images of every kind; after 4 the table tells of the old image as it stands.
+#[test]
+fn formats_of_any_image() {
+    let mut tally = Tally::default();
+    run_seeds(0xA300_0000..0xA300_0000 + 3_000, |seed, rng| {
+        let (label, mut button) = image_to_format(seed, rng);
+        let (local_label, local) = labelled_local(rng);
+        let bitmap = if local == 0 { "bitmap file" } else { "local" };
+        tally.add(local_label);
+        let owner_bytes = owner_bytes(button.page_count, rng, &mut tally);
+        let told = format_known(&mut button, owner_bytes, local, rng);
+        tally.add(format!("format {}", told.number));
+        tally.add(format!("{label}, {bitmap}: {}", told.number));
+        if told.number == 0 && rng.chance(20) {
+            // A second format writes the same bytes.
+            let once = button.clone();
+            assert_eq!(format_known(&mut button, owner_bytes, local, rng), told);
+            assert_eq!(button, once);
+        }
+    });
+    tally.print();
+    let met = [
+        "accepted, bitmap file: 0",
+        "accepted, local: 0",
+        "accepted, local: 4",
+        "refused, bitmap file: 0",
+        "refused, local: 0",
+        "refused, local: 4",
+        "any bytes, bitmap file: 0",
+        "any bytes, local: 0",
+        "any bytes, local: 4",
+        "misfit, bitmap file: 1",
+        "misfit, local: 1",
+        "local bitmap asked for by another number",
+        "local bitmap asked for by any number",
+    ];
+    tally.demand(20, &met);
+    tally.demand(10, &OWNER_TABLES);
+    tally.demand_numbers("format", 100, [0, 1, 4]);
+}
+
+/// Every page count from 2 to 300 with pages of 32 bytes, and some page lengths more, over random bytes.
+#[test]
+fn formats_of_every_page_count() {
+    let mut formats = 0;
+    let lengths = [32, 33, 40, 63, 128, 255, 256];
+    run_seeds(0xA400_0000 + 2..0xA400_0000 + 301, |seed, rng| {
+        let page_count = (seed - 0xA400_0000) as u32;
+        for page_length in lengths {
+            if page_length > 32 && page_count % 9 != 4 && page_count > 34 {
+                continue;
+            }
+            for local in [0, 1] {
+                let mut button = Button::zeros(page_length, page_count);
+                button.image = rng.bytes(button.image.len());
+                let table = 2 * page_count as usize + rng.below(4);
+                format_known(&mut button, table, local, rng);
+                formats += 1;
+            }
+        }
+    });
+    println!("formats: {formats}");
+    assert!(formats >= 2 * 299, "{formats} formats");
+}
+
+/// The lengths of the bitmap file's packets around those page counts that fill them.
+#[test]
+fn full_packets() {
+    let seed = Seed(0xA500_0000);
+    let mut rng = Rng::new(seed.0);
+    for (page_length, page_count, lengths) in [
+        (32, 2, vec![1]),
+        (32, 8, vec![1]),
+        (32, 9, vec![2]),
+        (32, 224, vec![28]),
+        (32, 225, vec![28, 1]),
+        (32, 256, vec![28, 4]),
+        (32, 257, vec![27, 6]),
+        (32, 432, vec![27, 27]),
+        (32, 433, vec![27, 27, 1]),
+        (256, 2_008, vec![251]),
+        (256, 2_009, vec![251, 1]),
+    ] {
+        let mut button = Button::zeros(page_length, page_count);
+        button.image = rng.bytes(button.image.len());
+        let table = 2 * page_count as usize;
+        assert_eq!(format_known(&mut button, table, 0, &mut rng), answer(0, 0));
+        let pages = button.pages();
+        for (place, &length) in lengths.iter().enumerate() {
+            let last = place + 1 == lengths.len();
+            assert_eq!(pages.body(1 + place).len(), length);
+            let next = if last { 0 } else { place + 2 };
+            assert_eq!(pages.pointer(1 + place), next);
+        }
+        let totals = both::check(&button, table, &mut rng);
+        assert_eq!(totals.used as usize, 1 + lengths.len());
+    }
+}
+
+/// Format of 65,535 pages and of nearly so many, over any bytes and over an accepted image.
+#[test]
+fn formats_of_65535_pages() {
+    let seed = Seed(0xA600_0000);
+    let mut rng = Rng::new(seed.0);
+    for (page_length, page_count) in [(32, 65_535), (33, 65_534), (64, 65_528), (256, 65_535)] {
+        let table = 2 * page_count as usize;
+        let mut button = Button::zeros(page_length, page_count);
+        button.image = rng.bytes(button.image.len());
+        for (local, number) in [(1, 4), (0, 0), (u32::MAX, 4), (0, 0)] {
+            let told = format_known(&mut button, table + 1, local, &mut rng);
+            assert_eq!(told, answer(number, 0));
+        }
+        let told = format_known(&mut button, table - 1, 0, &mut rng);
+        assert_eq!(told, answer(1, 0));
+        button.page_count = 65_536;
+        button.image.resize(65_536 * page_length as usize, 0);
+        let told = format_known(&mut button, 2 * 65_536, 0, &mut rng);
+        assert_eq!(told, answer(1, 0));
+    }
+}
+
+/// Deletes from images of 65,535 pages: the first, the last and some other files.
+#[test]
+fn deletes_from_65535_pages() {
+    let shapes = [
+        (32, 150, 40, 40),
+        (33, 300, 500, 10),
+        (64, 60, 2_000, 0),
+        (256, 100, 800, 5),
+    ];
+    for (place, (page_length, entries, file_pages, directory_percent)) in
+        shapes.into_iter().enumerate()
+    {
+        let seed = 0xA700_0000 + place as u64;
+        let _seed = Seed(seed);
+        let mut rng = Rng::new(seed);
+        let built = largest_image(page_length, entries, file_pages, directory_percent, seed);
+        let mut button = Button::from(&built);
+        let files = files(&built);
+        let last = files.len() - 1;
+        let any = rng.between(1, last - 1);
+        for entry in [files[last], files[0], files[any]] {
+            let told = both::delete(&mut button, 131_071, &entry.path, &mut rng);
+            let expected = if entry.listing.attribute == 1 { 16 } else { 0 };
+            assert_eq!(told, answer(expected, 0));
+        }
+        let totals = both::check(&button, 131_070, &mut rng);
+        assert_eq!(totals.number, 0);
+        flip(&mut button.image, &mut rng);
+        both::delete(&mut button, 131_070, &files[any].path, &mut rng);
+    }
+}
+
+/// A number for P or N that is often just inside or outside its limits.
+fn any_number(limits: &[u32], rng: &mut Rng) -> u32 {
+    match rng.below(5) {
+        0 => rng.next_u64() as u32 >> rng.below(32),
+        _ => limits[rng.below(limits.len())],
+    }
+}
+
+/// A length that fits, or nearly, or not at all.
+fn any_length(fitting: u64, rng: &mut Rng) -> usize {
+    let fitting = fitting.min(100_000) as usize;
+    match rng.below(6) {
+        0 => rng.below(2_000),
+        1 => (fitting + rng.below(3)).saturating_sub(1),
+        _ => fitting,
+    }
+}
+
+/// Any numbers, image, path and table: both calls answer as the second program does.
+#[test]
+fn any_arguments() {
+    let mut tally = Tally::default();
+    run_seeds(0xA800_0000..0xA800_0000 + 4_000, |_, rng| {
+        let page_length = any_number(&[0, 31, 32, 33, 64, 256, 257, 65_568], rng);
+        let page_count = any_number(&[0, 1, 2, 16, 31, 32, 256, 257, 65_535, 65_536], rng);
+        let image_bytes = any_length(u64::from(page_length) * u64::from(page_count), rng);
+        let table = any_length(2 * u64::from(page_count), rng);
+        let path_bytes = rng.below(60);
+        let path = rng.bytes(path_bytes);
+        let mut button = Button {
+            page_length,
+            page_count,
+            image: rng.bytes(image_bytes),
+        };
+        let told = both::delete(&mut button, table, &path, rng);
+        tally.add(format!("delete {}", told.number));
+        let local = labelled_local(rng).1;
+        let told = both::format(&mut button, table, local, rng);
+        tally.add(format!("format {}", told.number));
+        let formatted = told.number == 0;
+        let told = both::delete(&mut button, table, &path, rng);
+        tally.add(format!("delete after format {}", told.number));
+        assert!(!formatted || told == answer(14, 0) || told == answer(15, 0));
+    });
+    tally.print();
+    tally.demand_numbers("format", 100, [0, 1, 4]);
+    tally.demand_numbers("delete", 100, [1, 2]);
+    tally.demand_numbers("delete after format", 100, [1, 2, 14]);
+}
+
+/// Slices of no bytes.
+#[test]
+fn empty_slices() {
+    let seed = Seed(0xA810_0000);
+    let mut rng = Rng::new(seed.0);
+    for (page_length, page_count) in [(0, 0), (32, 0), (32, 2), (256, 65_535)] {
+        let mut button = Button {
+            page_length,
+            page_count,
+            image: Vec::new(),
+        };
+        for table in 0..6 {
+            for local in [0, 1] {
+                let told = both::format(&mut button, table, local, &mut rng);
+                assert_eq!(told, answer(1, 0));
+            }
+            let told = both::delete(&mut button, table, b"", &mut rng);
+            assert_eq!(told, answer(1, 0));
+        }
+    }
+    let mut button = Button::formatted(32, 16, true);
+    let told = both::delete(&mut button, 32, b"", &mut rng);
+    assert_eq!(told, answer(14, 0));
+    let told = both::delete(&mut button, 0, b"", &mut rng);
+    assert_eq!(told, answer(1, 0));
+}
+
+/// Paths of every length from 0 to 40, and longer: any bytes, and the front of a file's path with names after it, as it is and with an
+/// extension number at its end.
+#[test]
+fn paths_of_every_length() {
+    let mut tally = Tally::default();
+    run_seeds(0xA900_0000..0xA900_0000 + 20, |_, rng| {
+        let built = deep_image(rng);
+        let mut button = Button::from(&built);
+        let table = 2 * button.page_count as usize;
+        let deepest = built.entries.iter().max_by_key(|entry| entry.path.len());
+        let deepest = deepest.map_or(Vec::new(), |entry| entry.path.clone());
+        for length in (0..=40).chain([41, 45, 69, 261, 65_541, 100_001]) {
+            let mut near = deepest.clone();
+            near.extend(random_name(rng).repeat(length / 4 + 1));
+            near.truncate(length);
+            let mut ended = near.clone();
+            if let Some(last) = ended.last_mut() {
+                *last = rng.below(100) as u8;
+            }
+            for path in [rng.bytes(length), near, ended] {
+                let told = both::delete(&mut button, table, &path, rng);
+                tally.add(format!("delete {}", told.number));
+                let well_formed = length % 4 == 1 && (5..=37).contains(&length);
+                if !well_formed {
+                    assert_eq!(told, answer(14, 0), "{path:?}");
+                }
+            }
+        }
+        for entry in &built.entries {
+            let told = both::delete(&mut button, table, &entry.path, rng);
+            tally.add(format!("delete {}", told.number));
+        }
+    });
+    tally.print();
+    tally.demand_numbers("delete", 20, [0, 14, 15, 16]);
+}
+
+/// An image of 16 pages, 0 to 8 in use: files A and B and a directory S on page 0, C and D on the root's second page 4, E in S.
+fn two_pages_of_entries() -> Pages {
+    let mut pages = Pages::new(32, 16);
+    let mut root = pages.local_control(&(0..9).collect::<Vec<usize>>());
+    root.extend(pages.entry("A", 1, 1, 1));
+    root.extend(pages.entry("B", 1, 2, 1));
+    root.extend(pages.entry("S", 0x7F, 6, 0));
+    let mut more = pages.entry("C", 1, 3, 1);
+    more.extend(pages.entry("D", 1, 5, 1));
+    let mut sub = pages.sub_control("ROOT", 0);
+    sub.extend(pages.entry("E", 1, 8, 1));
+    pages.packet(0, &root, 4).packet(4, &more, 0);
+    pages.packet(6, &sub, 7).packet(7, b"", 0);
+    for file in [1, 2, 3, 5, 8] {
+        pages.packet(file, b"a file", 0);
+    }
+    pages
+}
+
+/// Entries of the same page move up, those of later pages do not, and a page left without entries stays in its chain.
+#[test]
+fn entries_move_up_in_their_page_only() {
+    let seed = Seed(0xAB00_0000);
+    let mut rng = Rng::new(seed.0);
+    let first = two_pages_of_entries();
+    let mut button = Button::from(&first);
+    let entries_of = |button: &Button, page: usize| -> Vec<u8> {
+        let control = if page == 4 { 0 } else { 7 };
+        let body = button.pages().body(page)[control..].to_vec();
+        body.chunks(7).map(|entry| entry[0]).collect()
+    };
+    for (path, root, second, sub) in [
+        (path(&[], "A", 1), "BS", "CD", "E"),
+        (path(&[], "C", 1), "BS", "D", "E"),
+        (path(&[], "D", 1), "BS", "", "E"),
+        (path(&["S"], "E", 1), "BS", "", ""),
+        (path(&[], "B", 1), "S", "", ""),
+    ] {
+        assert_eq!(both::delete(&mut button, 32, &path, &mut rng), answer(0, 0));
+        for (page, names, next) in [(0, root, 4), (4, second, 0), (6, sub, 7)] {
+            assert_eq!(entries_of(&button, page), names.as_bytes());
+            assert_eq!(button.pages().pointer(page), next);
+        }
+    }
+    let totals = both::check(&button, 32, &mut rng);
+    assert_eq!((totals.used, totals.files, totals.directories), (4, 0, 1));
+    // The freed pages have the bytes that they had.
+    for page in [1, 2, 3, 5, 8] {
+        assert_eq!(button.page(page), first.page(page));
+    }
+}
+
+/// A bitmap file keeps its packets' lengths, also empty ones, and only changes bits.
+#[test]
+fn bitmap_file_with_odd_packets() {
+    let seed = Seed(0xAC00_0000);
+    let mut rng = Rng::new(seed.0);
+    let layout = [(9, 0, 5), (5, 1, 7), (7, 2, 6), (6, 0, 8), (8, 2, 0)];
+    let empty = [0xE1, 0x03, 0, 0, 0];
+    let full = [0xFF; 5];
+    let mut pages = Pages::new(32, 40);
+    let root = pages.file_control(9, 5);
+    pages.packet(0, &root, 0);
+    let mut done = 0;
+    for (page, length, next) in layout {
+        pages.packet(page, &empty[done..done + length], next);
+        done += length;
+    }
+    let mut button = Button::from(&pages);
+    let large = vec![3; 28 * 34];
+    assert_eq!(button.put(b"F   \x01", &large).0, answer(0, 0));
+    let bits = |button: &Button| -> Vec<u8> {
+        let pages = button.pages();
+        layout
+            .iter()
+            .flat_map(|(page, ..)| pages.body(*page))
+            .collect()
+    };
+    assert_eq!(bits(&button), full);
+    let told = both::delete(&mut button, 80, b"F   \x01", &mut rng);
+    assert_eq!(told, answer(0, 0));
+    assert_eq!(bits(&button), empty);
+    let after = button.pages();
+    for (page, length, next) in layout {
+        let packet = (after.body(page).len(), after.pointer(page));
+        assert_eq!(packet, (length, next));
+    }
+}
+
+/// A file and a directory of one name are two entries: the file's is removed, and its name in the other place is 15.
+#[test]
+fn file_and_directory_of_one_name() {
+    let seed = Seed(0xAD00_0000);
+    let mut rng = Rng::new(seed.0);
+    let mut pages = Pages::new(32, 8);
+    let mut root = pages.local_control(&[0, 1, 2, 3]);
+    root.extend(pages.entry("X", 0x7F, 1, 0));
+    root.extend(pages.entry("X", 5, 3, 1));
+    let mut sub = pages.sub_control("ROOT", 0);
+    sub.extend(pages.entry("X", 5, 2, 1));
+    pages.packet(0, &root, 0).packet(1, &sub, 0);
+    pages.packet(2, b"below", 0).packet(3, b"above", 0);
+    let mut button = Button::from(&pages);
+    for (path, number) in [
+        (path(&["X", "X"], "X", 5), 15),
+        (path(&[], "X", 5), 0),
+        (path(&[], "X", 5), 15),
+        (path(&[], "X", 127), 14),
+        (path(&["X"], "X", 5), 0),
+        (path(&["X"], "X", 5), 15),
+    ] {
+        let told = both::delete(&mut button, 16, &path, &mut rng);
+        assert_eq!(told, answer(number, 0));
+    }
+    let totals = both::check(&button, 16, &mut rng);
+    assert_eq!((totals.used, totals.files, totals.directories), (2, 0, 1));
+}
+
+/// Arguments that fit another image: format and delete judge them alone.
+#[test]
+fn arguments_come_first() {
+    run_seeds(0xAE00_0000..0xAE00_0000 + 300, |seed, rng| {
+        let (page_length, page_count) = random_sizes(rng, 80);
+        let mut button = Button::zeros(page_length, page_count.max(32));
+        misfit(&mut button, rng);
+        let table = 2 * (button.page_count as usize).min(70_000);
+        let local = (seed % 2) as u32;
+        let told = both::format(&mut button, table, local, rng);
+        assert_eq!(told, answer(1, 0));
+        let told = both::delete(&mut button, table, b"bad", rng);
+        assert_eq!(told, answer(1, 0));
+    });
+}
