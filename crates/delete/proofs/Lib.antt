@@ -1,4 +1,3 @@
-pub mod Stages
 pub mod Unlinking
 pub mod PathDelete
 pub mod Calling

@@ -24,7 +24,7 @@ fn unlink(image: &mut [u8], g: Geometry, seat: Seat, e: Entry, owners: &mut [u16
     ensures { λ _. ⌜ Unlinks g (now (image .entry)) (now (owners .entry)) seat e (now (image .exit)) ⌝ }
 {
     marks::release(image, g, e.start, owners);
-    slots::remove_entry(image, g, seat);
+    slots::exchange(image, g, seat, seat.at, seat.at + 1, b"");
     marks::write_map(image, g, owners);
 }
 

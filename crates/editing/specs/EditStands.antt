@@ -105,7 +105,7 @@ module _ (g : Geometry) (image : List ℕ) (i : Image) (well : WellFormed g imag
 
   module _ (e : Items) (chain : List Link) (kept : List ℕ) (edit : DirectoryEdit g (place .items) e chain kept) (chainFits : WritesFit g (linked chain))
       (apart : Within (g .pages) (allPages (changeAt names (λ _. e) (i .tree)) ++ mapPages (i .map))) where
-    abbrev theEdit : Edit
+    abbrev pub theEdit : Edit
     theEdit = record { site = place .site; before = place .items; after = e; chain = chain }
 
     abbrev pub t′ : Items
@@ -127,10 +127,10 @@ module _ (g : Geometry) (image : List ℕ) (i : Image) (well : WellFormed g imag
     abbrev pub image₁ : List ℕ
     image₁ = play g (linked chain) image
 
-    abbrev v₁ : View
+    abbrev pub v₁ : View
     v₁ = viewOf g image₁
 
-    fit₁ : Fit g image₁
+    pub fit₁ : Fit g image₁
     fit₁ = play-fit g (linked chain) chainFits image fit
 
     stays₁ : (x : ℕ) → count x (pages chain) ≡ 0 → v₁ x ≡ v₀ x
@@ -152,7 +152,7 @@ module _ (g : Geometry) (image : List ℕ) (i : Image) (well : WellFormed g imag
     abbrev pub ws₂ : List Write
     ws₂ = backwards (changes old new)
 
-    new-fits : WritesFit g new
+    pub new-fits : WritesFit g new
     new-fits =
         let l = control-length g valid marks (i .map) (well .holds .room) (place .site) in
         let m = place-shaped in
@@ -160,7 +160,7 @@ module _ (g : Geometry) (image : List ℕ) (i : Image) (well : WellFormed g imag
         (λ k h. omega (arith, l, holds-first g valid k h)) e (edit .shaped (m .0) (m .1) .entries) (edit .holds place-holds)
         (λ x. omega (arith, within x, all-filled-all x cs e, all-split x e))
 
-    fits₂ : WritesFit g ws₂
+    pub fits₂ : WritesFit g ws₂
     fits₂ = backwards-fit g (changes old new) (changes-fit g old new new-fits)
 
     abbrev pub image₂ : List ℕ
@@ -172,8 +172,11 @@ module _ (g : Geometry) (image : List ℕ) (i : Image) (well : WellFormed g imag
     pub fit₂ : Fit g image₂
     fit₂ = play-fit g ws₂ fits₂ image₁ fit₁
 
+    pub bytes₁ : Bytes image₁
+    bytes₁ = bytes-play g (linked chain) chainFits image fit bytes
+
     pub bytes₂ : Bytes image₂
-    bytes₂ = bytes-play g ws₂ fits₂ image₁ fit₁ (bytes-play g (linked chain) chainFits image fit bytes)
+    bytes₂ = bytes-play g ws₂ fits₂ image₁ fit₁ bytes₁
 
     pub pages₂ : (x : ℕ) → count x (writePages ws₂) ≤ count x (ownPages e)
     pages₂ x = omega (arith, count-backwards x (changes old new), changes-less x old new, count-directory g x control e)
@@ -185,9 +188,12 @@ module _ (g : Geometry) (image : List ℕ) (i : Image) (well : WellFormed g imag
     stays : (x : ℕ) → count x (ownPages e) ≡ 0 → count x (pages chain) ≡ 0 → v₂ x ≡ v₀ x
     stays x h k = stays₂ x h ∙ stays₁ x k
 
+    -- the directory as it stands before its own pages are written
+    pub own₁ : Stand v₁ old
+    own₁ = stand-same v₀ v₁ old (λ x j. stays₁ x (omega (arith, clear x, edit .own x, count-directory g x control d))) (hereStands .own)
+
     own₂ : Stand v₂ new
-    own₂ = changes-stand v₁ v₂ old new (λ x. omega (arith, clear x, count-directory g x control e))
-        (stand-same v₀ v₁ old (λ x j. stays₁ x (omega (arith, clear x, edit .own x, count-directory g x control d))) (hereStands .own))
+    own₂ = changes-stand v₁ v₂ old new (λ x. omega (arith, clear x, count-directory g x control e)) own₁
         (backwards-stand v₂ (changes old new) (play-stands g ws₂ fits₂ image₁ fit₁ (λ x. omega (arith, clear x, pages₂ x))))
         (λ x j k. view-stays g ws₂ fits₂ image₁ fit₁ x (omega (arith, count-backwards x (changes old new))))
 

@@ -176,7 +176,7 @@ module _ (g : Geometry) (image path bytes : List ℕ) (a : Asked g image path by
     taken : (x : ℕ) → count x (take extra spare) + count x (pages (chain spare)) ≤ count x spare
     taken x = omega (arith, ap (count x) pages-chain, count-split x extra spare, count-split x wanted (drop extra spare))
 
-    chain-fits : WritesFit g (linked (chain spare))
+    pub chain-fits : WritesFit g (linked (chain spare))
     chain-fits = spread-fits g valid (take wanted (drop extra spare)) bytes (λ x. omega (arith, taken x, ap (count x) pages-chain, clear x)) (a .areBytes)
 
     named : Named label

@@ -144,13 +144,25 @@ module _ (g : Geometry) (image : List ℕ) (fit : Fit g image) where
                 subst (λ (x : Seat). PageAt g v total x (linkTokens g 0 (link p b ∷ ls))) (sym o) (page-tokens total 0 p (opened g 0 (s .next) (good b (first ls))) b ls (n .1) few refl refl (h .next-is))
 
     -- past all entries of its page
+    pub page-past : TokensAt g v total (atEntry s (s .count)) (linkTokens g 0 more)
+    page-past =
+        let z : s .count - s .count ≡ 0 = omega arith in
+        record {
+          bytes = bytes;
+          more = more;
+          seated = seated-at g v total s bytes more (s .count) seated;
+          few = few;
+          at-most = omega arith;
+          are = sym (ap (λ (x : ℕ). entriesIn g x (entriesAt g (s .skip) (s .count) bytes) ++ linkTokens g 0 more) z);
+        }
+
+    -- as keys
     pub page-end : (later : List Token) × TokensAt g v total (atEntry s (s .count)) later × (length (tokenKeys ts) ≡ (s .count - s .at) + length (tokenKeys later))
     page-end =
         let n = s .count - s .at in
         let b = entriesAt g (s .skip) (s .at) bytes in
-        let later = linkTokens g 0 more in
-        let z : s .count - s .count ≡ 0 = omega arith in (
+        let later = linkTokens g 0 more in (
           later,
-          record { bytes = bytes; more = more; seated = seated-at g v total s bytes more (s .count) seated; few = few; at-most = omega arith; are = sym (ap (λ (x : ℕ). entriesIn g x (entriesAt g (s .skip) (s .count) bytes) ++ later) z) },
+          page-past,
           ap (λ (x : List Token). length (tokenKeys x)) are ∙ ap length (token-keys-in g n b later) ∙ length-append (keysFrom g n b) (tokenKeys later) ∙ ap (λ (x : ℕ). x + length (tokenKeys later)) (length-keys g n b),
         )

@@ -10,10 +10,10 @@ use Rattle.geometry.specs.declared.Geometry.{Geometry}
 use Rattle.geometry.specs.Geometry.{entrySize, controlSize, Fit}
 use Rattle.geometry.specs.ChooseLaws.{choose-true, choose-false}
 use Rattle.geometry.specs.Page.{pageOf}
-use Rattle.packet.specs.Packet.{View, viewOf}
+use Rattle.packet.specs.Packet.{good, View, viewOf}
 use Rattle.rules.specs.declared.Entry.{Entry}
 use Rattle.rules.specs.Names.{key, entryOf}
-use Rattle.rules.specs.Chain.{Link}
+use Rattle.rules.specs.Chain.{Link, first}
 use Rattle.rules.specs.Tree.{Label, keyOf, Items, end, page, file, dir, fileEntry, directoryEntry, Token, newPage, entry, tokens}
 use Rattle.rules.specs.Paths.{Found, nothing, aFile, aDirectory, find}
 use Rattle.rules.specs.Put.{replace}
@@ -130,7 +130,7 @@ entries-on : (es : List Entry) (e : Entry) (ts : List Token) → entryTokens (es
 entries-on [] e ts = refl
 entries-on (x ∷ es) e ts = ap (λ (xs : List Token). entry x ∷ xs) (entries-on es e ts)
 
-no-control : (n : ℕ) (control : List ℕ) (a : List Token) (p : ℕ) (es : List Entry) → controlOn n control (a ++ (newPage p ∷ entryTokens es)) ≡ []
+pub no-control : (n : ℕ) (control : List ℕ) (a : List Token) (p : ℕ) (es : List Entry) → controlOn n control (a ++ (newPage p ∷ entryTokens es)) ≡ []
 no-control n control [] p es = go es
   where
     go : (es : List Entry) → controlOn n [] (entryTokens es) ≡ []
@@ -138,6 +138,10 @@ no-control n control [] p es = go es
     go (e ∷ es) = go es
 no-control n control (newPage q ∷ a) p es = no-control n [] a p es
 no-control n control (entry e ∷ a) p es = no-control n control a p es
+
+-- a page has one pointer
+pub pointer-of : (v : View) (p : ℕ) (b c : List ℕ) (n m : ℕ) → v p ≡ good b n → v p ≡ good c m → {x : ℕ} → x ≡ m → x ≡ n
+pointer-of v p b c n m h k e = let q : good b n ≡ good c m = sym h ∙ k in let i : m ≡ n = cc in e ∙ i
 
 module _ (g : Geometry) (image : List ℕ) (fit : Fit g image) (k : ℕ) (t₀ : Items) where
   abbrev v : View
@@ -192,6 +196,7 @@ module _ (g : Geometry) (image : List ℕ) (fit : Fit g image) (k : ℕ) (t₀ :
             under = i;
             fits = ahead .seated .fits;
             skip-is = skip-is;
+            next-is = λ b n z. pointer-of v (s .page) b (ahead .bytes) n (first (ahead .more)) z (ahead .seated .here) (ahead .seated .next-is);
           }
 
       pub find-on : (key (e .name) (e .extension) ≡ k → ⊥) → (s′ : Seat) → s′ ≡ advanced s → Finding g v k t₀ s′

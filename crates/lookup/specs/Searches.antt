@@ -5,7 +5,7 @@ use Prim.Native.Nat.{ℕ, _<_}
 use lib.ListN.{length, drop}
 use Rattle.geometry.specs.declared.Geometry.{Geometry}
 use Rattle.geometry.specs.Geometry.{controlSize}
-use Rattle.packet.specs.Packet.{View}
+use Rattle.packet.specs.Packet.{good, View}
 use Rattle.rules.specs.declared.Entry.{Entry}
 use Rattle.rules.specs.Result.{Res, ok, err}
 use Rattle.rules.specs.Chain.{Link}
@@ -55,6 +55,7 @@ module _ (g : Geometry) (v : View) where
     pub under : s .at < s .count
     pub fits : Fits g s
     pub skip-is : (control : List ℕ) → length control ≡ controlSize g → length (controlOn (g .width) control before) ≡ s .skip
+    pub next-is : (b : List ℕ) (n : ℕ) → v (s .page) ≡ good b n → s .next .page ≡ n
 
   abbrev pub IsPlace : ℕ → Items → Spot → Type 0
   IsPlace k t (spot.At s e) = PlaceOf k t s e

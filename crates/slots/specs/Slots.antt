@@ -1,7 +1,7 @@
--- For contracts: the entry at a place of a page, and the page written with that entry changed.
+-- For contracts: a page written again with some of its data exchanged, and where its entries begin.
 use mathlib.Core.Path.{_≡_}
 use mathlib.Core.List.{List, _++_}
-use Prim.Native.Nat.{ℕ, _+_, _*_, _≤_}
+use Prim.Native.Nat.{ℕ, _+_, _-_, _*_, _≤_}
 use lib.ListN.{length, take, drop}
 use Rattle.geometry.specs.declared.Geometry.{Geometry}
 use Rattle.geometry.specs.Geometry.{entrySize}
@@ -12,23 +12,26 @@ use Rattle.entries.specs.declared.Seat.{Seat}
 abbrev pub overFront : List ℕ → List ℕ → List ℕ
 overFront xs b = xs ++ drop (length xs) b
 
--- where the entry at a place begins in the data of its page
-abbrev pub entryFrom : Geometry → Seat → ℕ
-entryFrom g s = s .skip + entrySize g * s .at
+-- bytes with those from one place to another exchanged for others
+abbrev pub spliced : ℕ → ℕ → List ℕ → List ℕ → List ℕ
+spliced from to new b = take from b ++ (new ++ drop to b)
 
--- a page's data and pointer, with the whole entry in them
-pub record EntryIn (g : Geometry) (v : View) (s : Seat) (bytes : List ℕ) (next : ℕ) : Type 0 where
-  pub packet : v (s .page) ≡ good bytes next
-  pub inside : entryFrom g s + entrySize g ≤ length bytes
+-- a page's data with such places in them, and n others fit in their stead
+pub record SpanIn (g : Geometry) (v : View) (page from to n : ℕ) (bytes : List ℕ) (next : ℕ) : Type 0 where
+  pub packet : v page ≡ good bytes next
+  pub order : from ≤ to
+  pub inside : to ≤ length bytes
+  pub room : from + n + (length bytes - to) + g .width + 3 ≤ g .size
 
-pub record HasEntry (g : Geometry) (v : View) (s : Seat) : Type 0 where
+pub record HasSpan (g : Geometry) (v : View) (page from to n : ℕ) : Type 0 where
   pub bytes : List ℕ
   pub next : ℕ
-  pub entry : EntryIn g v s bytes next
+  pub span : SpanIn g v page from to n bytes next
 
--- the page written without the entry
-abbrev pub withoutEntry : Geometry → Seat → List ℕ → List ℕ
-withoutEntry g s bytes = take (entryFrom g s) bytes ++ drop (entryFrom g s + entrySize g) bytes
+-- the page written with them exchanged and with a pointer
+abbrev pub Rewrites : Geometry → ℕ → ℕ → ℕ → List ℕ → ℕ → List ℕ → List ℕ → Type 0
+Rewrites g page from to new next image after = (bytes : List ℕ) (n : ℕ) → viewOf g image page ≡ good bytes n → after ≡ writePage g (write page (spliced from to new bytes) next) image
 
-abbrev pub Removes : Geometry → Seat → List ℕ → List ℕ → Type 0
-Removes g s image after = (bytes : List ℕ) (next : ℕ) → EntryIn g (viewOf g image) s bytes next → after ≡ writePage g (write (s .page) (withoutEntry g s bytes) next) image
+-- where the entry of a number begins in the data of its page
+abbrev pub entryFrom : Geometry → Seat → ℕ → ℕ
+entryFrom g s i = s .skip + entrySize g * i

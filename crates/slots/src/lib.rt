@@ -1,45 +1,62 @@
-// A directory's page written with one entry changed.
+// A directory's page written again with some of its bytes exchanged.
 use chain::Cursor;
 use chain::Step;
 use entries::Seat;
 use geometry::Geometry;
 ghost use mathlib.Core.Path.{_≡_};
-ghost use mathlib.Core.List.{List, _++_};
-ghost use Prim.Native.Nat.{_≤_, _<_};
-ghost use lib.ListN.{length, take, drop};
+ghost use mathlib.Core.List.{List};
+ghost use Prim.Native.Nat.{_+_, _-_, _≤_, _<_};
+ghost use lib.ListN.{length};
 ghost use Rattle.geometry.specs.Geometry.{Fit};
 ghost use Rattle.packet.specs.Packet.{viewOf};
-ghost use Rattle.entries.specs.Seats.{Fits};
-ghost use Rattle.slots.specs.Slots.{overFront, HasEntry, Removes};
+ghost use Rattle.slots.specs.Slots.{overFront, spliced, HasSpan, Rewrites, entryFrom};
 
-// Copies bytes but for those from one place to another to the front of an output.
-fn cut(bytes: &[u8], from: usize, to: usize, out: &mut [u8])
-    requires { ⌜ (from ≤ to) × (to ≤ length (now bytes)) × (length (now bytes) ≤ length (now out)) ⌝ }
-    ensures { λ _. ⌜ now (out .exit) ≡ overFront (take from (now (bytes .entry)) ++ drop to (now (bytes .entry))) (now (out .entry)) ⌝ }
+// Copies bytes, with those from one place to another exchanged for others, to the front of an output.
+fn splice(bytes: &[u8], from: usize, to: usize, new: &[u8], out: &mut [u8])
+    requires { ⌜ (from ≤ to) × (to ≤ length (now bytes)) × (from + length (now new) + (length (now bytes) - to) ≤ length (now out)) ⌝ }
+    ensures { λ _. ⌜ now (out .exit) ≡ overFront (spliced from to (now (new .entry)) (now (bytes .entry))) (now (out .entry)) ⌝ }
 {
     geometry::put_bytes(out, 0, &bytes[..from]);
-    geometry::put_bytes(out, from, &bytes[to..]);
+    geometry::put_bytes(out, from, new);
+    geometry::put_bytes(out, from + new.len(), &bytes[to..]);
 }
 
-// Writes the page of an entry without it: later entries of the page move up.
-pub fn remove_entry(image: &mut [u8], g: Geometry, seat: Seat)
+// Writes a page again with the data from one place to another exchanged for others, and with a pointer.
+pub fn rewrite(
+    image: &mut [u8],
+    g: Geometry,
+    page: usize,
+    from: usize,
+    to: usize,
+    new: &[u8],
+    next: usize,
+)
     requires { ⌜ Fit g (now image) ⌝ }
-    requires { ⌜ (seat .page < g .pages) × HasEntry g (viewOf g (now image)) seat ⌝ }
-    ensures { λ _. ⌜ Removes g seat (now (image .entry)) (now (image .exit)) ⌝ }
+    requires { ⌜ (page < g .pages) × HasSpan g (viewOf g (now image)) page from to (length (now new)) ⌝ }
+    ensures { λ _. ⌜ Rewrites g page from to (now (new .entry)) next (now (image .entry)) (now (image .exit)) ⌝ }
 {
-    let page = seat.page;
     match Cursor::new(page, page).step(image, g, true) {
         Step::Refused(_, _) => {
             return;
         }
-        Step::Page(size, next) => {
-            let width = g.entry_size();
-            let from = seat.skip + width * seat.at;
+        Step::Page(size, _) => {
             let mut kept = [0u8; 256];
             let bytes = packet::data_of(geometry::page_of(image, g, page), size);
-            cut(bytes, from, from + width, &mut kept);
-            let left = size - width;
-            packet::write_page(image, g, page, &kept[..left], next.page);
+            splice(bytes, from, to, new, &mut kept);
+            let end = from + new.len() + (size - to);
+            packet::write_page(image, g, page, &kept[..end], next);
         }
     }
+}
+
+// Writes a directory's page with the entries from one number to another exchanged for others; later entries of the page follow them.
+pub fn exchange(image: &mut [u8], g: Geometry, seat: Seat, first: usize, last: usize, new: &[u8])
+    requires { ⌜ Fit g (now image) ⌝ }
+    requires { ⌜ (seat .page < g .pages) × HasSpan g (viewOf g (now image)) (seat .page) (entryFrom g seat first) (entryFrom g seat last) (length (now new)) ⌝ }
+    ensures { λ _. ⌜ Rewrites g (seat .page) (entryFrom g seat first) (entryFrom g seat last) (now (new .entry)) (seat .next .page) (now (image .entry)) (now (image .exit)) ⌝ }
+{
+    let width = g.entry_size();
+    let from = seat.skip + width * first;
+    let to = seat.skip + width * last;
+    rewrite(image, g, seat.page, from, to, new, seat.next.page);
 }

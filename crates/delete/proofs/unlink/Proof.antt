@@ -1,34 +1,31 @@
 -- The three steps, each on what the one before leaves.
 use Rattle.delete.specs.Deletes.{Unlinks}
-use Rattle.delete.proofs.Unlinking.{known-chain, has-entry, fit-then, has-root, unlinked}
+use Rattle.stages.specs.OneEdit.{fit₂, has-root}
+use Rattle.delete.proofs.Unlinking.{removal, known-chain, has-entry, staged, unlinked}
 use borrow.Author.Needs.{needs}
 use Rattle.delete.proofs.unlink.Statement.{statement}
 use Rattle.delete.proofs.unlink.Tie as tie
 
 release-requires : tie.Need-release-requires
-release-requires c κs =
-    let s = c .before .before .before .before .pre in
-    (s .0, (known-chain _ _ _ (s .0) _ _ _ (s .1 .1 .file), s .1 .0))
+release-requires c κs = let s = c .before .before .before .before .pre in (s .0, (known-chain _ _ _ (s .0) _ _ _ (s .1 .1 .file), s .1 .0))
 
-remove-entry-requires : tie.Need-remove-entry-requires
-remove-entry-requires c κs =
-    let s = c .before .before .before .before .before .before .before .before .pre in
-    let d = s .1 .1 .file in
-    (s .0, (d .at .fits .inside, has-entry _ _ _ (s .0) _ _ _ d))
+exchange-requires : tie.Need-exchange-requires
+exchange-requires c κs = let s = c .before .before .before .before .before .before .before .before .before .before .pre in let d = s .1 .1 .file in (s .0, (d .at .fits .inside, has-entry _ _ _ (s .0) _ _ _ d))
 
 write-map-requires : tie.Need-write-map-requires
 write-map-requires c κs =
-    let s = c .before .before .before .before .before .before .before .before .before .before .before .before .before .pre in
+    let s = c .before .before .before .before .before .before .before .before .before .before .before .before .before .before .before .pre in
     let d = s .1 .1 .file in
-    (fit-then _ _ _ (s .0) _ _ _ d _ (c .before .before .before .before .remove-entry .ensures), has-root _ _ _ (s .0) _ _ _ d _ (c .before .before .before .before .remove-entry .ensures))
+    let b = staged _ _ _ (s .0) _ _ _ d _ (c .before .before .before .before .exchange .ensures) in
+    (fit₂ _ _ (removal _ _ _ (s .0) _ _ _ d) _ b, has-root _ _ (removal _ _ _ (s .0) _ _ _ d) _ b)
 
 returns : tie.Need-returns
 unfolding Unlinks
 returns c = λ q d.
-    let s = c .before .before .before .before .before .before .before .before .before .before .before .before .before .before .before .before .pre in
-    unlinked _ _ _ (s .0) q _ _ d _ _ _ (c .before .before .before .before .before .before .before .before .before .before .before .release .ensures) (c .before .before .before .before .before .before .before .remove-entry .ensures) (c .before .before .write-map .ensures)
+    let s = c .before .before .before .before .before .before .before .before .before .before .before .before .before .before .before .before .before .before .pre in
+    unlinked _ _ _ (s .0) q _ _ d _ _ _ (c .before .before .before .before .before .before .before .before .before .before .before .before .before .release .ensures) (staged _ _ _ (s .0) q _ _ d _ (c .before .before .before .before .before .before .before .exchange .ensures)) (c .before .before .write-map .ensures)
 
 pub unlink-spec : {M : Type 1} → statement M
 unlink-spec =
     tie.close
-    (tie.spec release-requires remove-entry-requires write-map-requires (λ c. search needs) (λ c. search needs) returns)
+    (tie.spec release-requires (λ c. search needs) (λ c. search needs) exchange-requires write-map-requires (λ c. search needs) (λ c. search needs) returns)

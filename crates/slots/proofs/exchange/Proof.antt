@@ -1,0 +1,37 @@
+use mathlib.Core.Path.{ap, sym, _∙_, subst}
+use Prim.Native.Nat.{ℕ, _+_, _*_}
+use native.Mathlib.Omega.{arith}
+use lib.ListN.{length}
+use Rattle.packet.specs.Packet.{viewOf, write, writePage}
+use Rattle.slots.specs.Slots.{spliced, HasSpan}
+use Rattle.slots.proofs.Cutting.{span-few}
+use borrow.Author.Needs.{needs}
+use Rattle.slots.proofs.exchange.Statement.{statement}
+use Rattle.slots.proofs.exchange.Tie as tie
+
+mul-from : tie.Need-mul-from
+mul-from c = let k = span-few _ _ (c .before .before .before .pre .0) _ _ _ _ (c .before .before .before .pre .1 .1) in let z = ap (λ (x : ℕ). x * c .before .before .before .args .first) (c .entry-size .ensures .0) in omega (arith, k, z)
+
+add-from : tie.Need-add-from
+add-from c = let k = span-few _ _ (c .before .before .before .before .pre .0) _ _ _ _ (c .before .before .before .before .pre .1 .1) in let z = ap (λ (x : ℕ). x * c .before .before .before .before .args .first) (c .before .entry-size .ensures .0) in omega (arith, k, z)
+
+mul-to : tie.Need-mul-to
+mul-to c = let k = span-few _ _ (c .before .before .before .before .pre .0) _ _ _ _ (c .before .before .before .before .pre .1 .1) in let z = ap (λ (x : ℕ). x * c .before .before .before .before .args .last) (c .before .entry-size .ensures .0) in omega (arith, k, z)
+
+add-to : tie.Need-add-to
+add-to c = let k = span-few _ _ (c .before .before .before .before .before .pre .0) _ _ _ _ (c .before .before .before .before .before .pre .1 .1) in let z = ap (λ (x : ℕ). x * c .before .before .before .before .before .args .last) (c .before .before .entry-size .ensures .0) in omega (arith, k, z)
+
+rewrite-requires : tie.Need-rewrite-requires
+rewrite-requires c κs =
+    let a = c .before .before .before .before .before .before .args in
+    (c .before .before .before .before .before .before .pre .0, (c .before .before .before .before .before .before .pre .1 .0, subst (λ (w : ℕ). HasSpan (a .g) (viewOf (a .g) (a .image .now)) (a .seat .page) (a .seat .skip + w * a .first) (a .seat .skip + w * a .last) (length (a .new .now))) (sym (c .before .before .before .entry-size .ensures .0)) (c .before .before .before .before .before .before .pre .1 .1)))
+
+returns : tie.Need-returns
+returns c =
+    let a = c .before .before .before .before .before .before .before .before .before .args in
+    λ b n E. c .before .before .rewrite .ensures b n E ∙ ap (λ (w : ℕ). writePage (a .g) (write (a .seat .page) (spliced (a .seat .skip + w * a .first) (a .seat .skip + w * a .last) (a .new .now) b) (a .seat .next .page)) (a .image .now)) (c .before .before .before .before .before .before .entry-size .ensures .0)
+
+pub exchange-spec : {M : Type 1} → statement M
+exchange-spec =
+    tie.close
+    (tie.spec (λ c κs. search needs) mul-from add-from mul-to add-to rewrite-requires (λ c. search needs) returns)

@@ -1,0 +1,54 @@
+-- For contracts: the page of a directory that a new entry goes to.
+use mathlib.Core.Path.{_≡_}
+use mathlib.Core.Bool.{true, false}
+use mathlib.Core.List.{List, [], _∷_, _++_}
+use Prim.Native.Nat.{ℕ}
+use lib.ListN.{length}
+use Rattle.geometry.specs.declared.Geometry.{Geometry}
+use Rattle.geometry.specs.Geometry.{controlSize, firstEntries, laterEntries}
+use Rattle.packet.specs.Packet.{good, View}
+use Rattle.rules.specs.declared.Entry.{Entry}
+use Rattle.rules.specs.Chain.{Link}
+use Rattle.rules.specs.Tree.{Label, Items, file, fileEntry, Token, newPage, entry, tokens}
+use Rattle.rules.specs.Put.{insert, isFull}
+use Rattle.editing.specs.PageChange.{entryTokens, controlOn}
+use Rattle.entries.specs.declared.Seat.{Seat}
+use Rattle.entries.specs.Seats.{Fits}
+use Rattle.lookup.specs.Searches.{TreeAt}
+use Rattle.space.specs.declared.Space.{Space}
+use Rattle.space.specs.declared.Space.the-variants.{At, Full}
+
+module _ (g : Geometry) (v : View) where
+  -- the page s of the directory t with all its entries: the tokens before it, and those after its entries
+  pub record PageEnd (t : Items) (s : Seat) (before : List Token) (entries : List Entry) (later : List Token) : Type 0 where
+    pub shape : tokens t ≡ before ++ (newPage (s .page) ∷ (entryTokens entries ++ later))
+    pub count-is : length entries ≡ s .count
+    pub fits : Fits g s
+    pub skip-is : (control : List ℕ) → length control ≡ controlSize g → length (controlOn (g .width) control before) ≡ s .skip
+    pub next-is : (b : List ℕ) (n : ℕ) → v (s .page) ≡ good b n → s .next .page ≡ n
+
+  -- it has space: a new entry goes to its end
+  pub record SpaceAt (t : Items) (s : Seat) : Type 0 where
+    pub before : List Token
+    pub entries : List Entry
+    pub later : List Token
+    pub page : PageEnd t s before entries later
+    pub space : isFull (laterEntries g) (firstEntries g) 0 t ≡ false
+    pub inserted : (l : Label) (ls : List Link) (q : ℕ)
+        → tokens (insert (file l ls) (laterEntries g) q (firstEntries g) 0 t) ≡ before ++ (newPage (s .page) ∷ (entryTokens entries ++ (entry (fileEntry l ls) ∷ later)))
+
+  -- no page has space: page q joins after the last one
+  pub record NoSpace (t : Items) (s : Seat) : Type 0 where
+    pub before : List Token
+    pub entries : List Entry
+    pub page : PageEnd t s before entries []
+    pub full : isFull (laterEntries g) (firstEntries g) 0 t ≡ true
+    pub inserted : (l : Label) (ls : List Link) (q : ℕ)
+        → tokens (insert (file l ls) (laterEntries g) q (firstEntries g) 0 t) ≡ before ++ (newPage (s .page) ∷ (entryTokens entries ++ (newPage q ∷ (entry (fileEntry l ls) ∷ []))))
+
+  abbrev pub IsSpace : Items → Space → Type 0
+  IsSpace t (At s) = SpaceAt t s
+  IsSpace t (Full s) = NoSpace t s
+
+  abbrev pub Spaces : ℕ → Space → Type 0
+  Spaces start r = (t : Items) → TreeAt g v start t → IsSpace t r

@@ -1,0 +1,3 @@
+pub mod OneEdit
+pub mod PageStage
+pub mod GrownStage
