@@ -1,5 +1,5 @@
 -- The call: the check's fault first, and what a delete that is done leaves.
-use mathlib.Core.Path.{_≡_, ap, sym, _∙_, subst}
+use mathlib.Core.Path.{_≡_, ap, sym, _∙_}
 use mathlib.Core.List.{List, _++_}
 use Prim.Native.Nat.{ℕ, _<_}
 use lib.ListN.{length, getD, drop}
@@ -7,8 +7,7 @@ use Rattle.geometry.specs.declared.Geometry.{Geometry}
 use Rattle.geometry.specs.declared.Shape.the-variants.{Fits}
 use Rattle.geometry.specs.Geometry.{geometryOf, Fit}
 use Rattle.packet.specs.Packet.{viewOf}
-use Rattle.rules.specs.declared.Totals.{Totals}
-use Rattle.rules.specs.Result.{Res, ok, err}
+use Rattle.rules.specs.Result.{Res, err}
 use Rattle.rules.specs.ResultLaws.{then-err}
 use Rattle.rules.specs.Check.{check}
 use Rattle.rules.specs.Delete.{delete}
@@ -16,29 +15,14 @@ use Rattle.rules.specs.Calls.{deleteCall}
 use Rattle.rules.specs.CallLaws.{delete-refused}
 use Rattle.reading.specs.CheckCall.{bytes-known}
 use Rattle.editing.specs.CallEdits.{delete-call}
-use Rattle.walk.specs.declared.Walk.{Walk}
-use Rattle.walk.specs.declared.Walk.the-variants as w
 use Rattle.volume.specs.declared.Edited.{Edited}
-use Rattle.volume.specs.declared.Edited.the-variants as edited
-use Rattle.volume.specs.Scans.{TableChecked}
-use Rattle.volume.specs.Edits.{editTold, leaves, Answered, EditLeaves}
+use Rattle.volume.specs.Edits.{editTold, leaves, EditLeaves}
 use Rattle.volume.proofs.EditLaws.{changed-leaves}
-use Rattle.delete.specs.Deletes.{TableOf, DeleteDone}
+use Rattle.delete.specs.Deletes.{DeleteDone}
 
-pub fit-same : (g : Geometry) (a b : List ℕ) → Fit g a → length b ≡ length a → Fit g b
-fit-same g a b f e = record { valid = f .valid; whole = e ∙ f .whole }
-
-module _ (g : Geometry) (image path : List ℕ) (r : Walk) (u : List ℕ) (K : TableChecked g (viewOf g image) r u) where
-  fault : (n p : ℕ) → TableChecked g (viewOf g image) (w.Refused n p) u → delete g path image ≡ err n p
-  unfolding delete
-  fault n p k = simp (k .0, then-err)
-
-  -- the check's fault is the answer
-  pub fault-leaves : (n p : ℕ) → r ≡ w.Refused n p → EditLeaves g image (delete g path image) (edited.Refused n p) image u
-  fault-leaves n p e = record { answers = sym (ap (leaves image) (fault n p (subst (λ (x : Walk). TableChecked g (viewOf g image) x u) e K))); check = r; checked = K }
-
-  pub table-of : (h : (i : ℕ) → getD image i 0 < 256) (t : Totals) → r ≡ w.Done t → TableOf g image u
-  table-of h t e = let k = subst (λ (x : Walk). TableChecked g (viewOf g image) x u) e K in record { bytes = bytes-known image h; tree = k .0; accepted = k .1; table-is = k .3 }
+pub delete-fault : (g : Geometry) (path image : List ℕ) (n p : ℕ) → check g (viewOf g image) ≡ err n p → delete g path image ≡ err n p
+unfolding delete
+delete-fault g path image n p e = simp (e, then-err)
 
 module _ (P N : ℕ) (image table path : List ℕ) where
   pub deleted : (g : Geometry) → geometryOf P N (length image) (length table) ≡ Fits g → (r : Edited) (after u : List ℕ) → EditLeaves g image (delete g path image) r after u

@@ -29,8 +29,8 @@ use Rattle.lookup.specs.declared.Resolved.the-variants as resolved
 use Rattle.lookup.specs.Searches.{entryOf, TreeAt, Leads, PlaceOf, IsPlace}
 use Rattle.lookup.proofs.PathPlace.{PlaceAt, place-at, no-directory-at, FoundFile, found-file}
 use Rattle.volume.specs.declared.Edited.the-variants as edited
-use Rattle.volume.specs.Edits.{editTold, leaves, Answered}
-use Rattle.delete.specs.Deletes.{Deletable, HasFile, TableOf, Unlinks, PathDeleted}
+use Rattle.volume.specs.Edits.{editTold, leaves, Answered, TableOf}
+use Rattle.delete.specs.Deletes.{Deletable, HasFile, Unlinks, PathDeleted}
 
 module _ (g : Geometry) (image table path : List ℕ) (T : TableOf g image table) where
   open TableOf T using (bytes, tree, accepted, table-is)

@@ -49,13 +49,6 @@ pub record HasFile (g : Geometry) (image table : List ℕ) (s : Seat) (e : Entry
 unfoldable pub Unlinks : Geometry → List ℕ → List ℕ → Seat → Entry → List ℕ → Type 0
 Unlinks g image table s e after = (q : Path) (d : Deletable g image table q s e) → after ≡ plainEdit g (q .directories) (deleteEdit q (d .place)) (d .tree) image
 
--- the image is accepted, and the table tells of it
-pub record TableOf (g : Geometry) (image table : List ℕ) : Type 0 where
-  pub bytes : Bytes image
-  pub tree : Image
-  pub accepted : check g (viewOf g image) ≡ ok tree
-  pub table-is : table ≡ owners (g .pages) tree
-
 -- the answer and the image after it are the rule's
 abbrev pub PathDeleted : Geometry → List ℕ → List ℕ → Edited → List ℕ → Type 0
 PathDeleted g image path r after = Answered image (delete g path image) r after

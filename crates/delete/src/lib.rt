@@ -14,8 +14,8 @@ ghost use lib.ListN.{length};
 ghost use Rattle.geometry.specs.Geometry.{Fit};
 ghost use Rattle.rules.specs.Delete.{delete as deleted};
 ghost use Rattle.rules.specs.Calls.{deleteCall};
-ghost use Rattle.volume.specs.Edits.{editTold, EditLeaves};
-ghost use Rattle.delete.specs.Deletes.{HasFile, Unlinks, TableOf, PathDeleted, DeleteDone};
+ghost use Rattle.volume.specs.Edits.{editTold, TableOf, EditLeaves};
+ghost use Rattle.delete.specs.Deletes.{HasFile, Unlinks, PathDeleted, DeleteDone};
 
 // Deletes the file of an entry: its pages are released in the table, its directory's page is written without it, then the bitmap.
 fn unlink(image: &mut [u8], g: Geometry, seat: Seat, e: Entry, owners: &mut [u16])

@@ -1,20 +1,23 @@
--- Entries as the code reads them.
+-- Entries as the code reads and writes them.
 use mathlib.Core.Path.{_≡_, refl, sym, ap, ap₂, _∙_}
 use mathlib.Core.Bool.{Bool, true, false, not, _||_}
-use mathlib.Core.List.{List}
+use mathlib.Core.List.{List, [], _∷_, _++_, append-assoc}
 use Prim.Native.Nat.{ℕ, zero, suc, _+_, _-_, _*_, _%_, _^_, _≤_, _<_}
 use native.Mathlib.Nat.{pow-le-pow-right}
 use native.Mathlib.Omega.{arith}
 use lib.Dec.{leb, eqb}
-use lib.ListN.{length, getD, take, drop}
+use lib.ListN.{length, getD, take, drop, length-append}
 use lib.Seq.{drop-drop, getD-drop}
 use borrow.Author.Tests.{le-leb, lt-leb, eq-eqb, ne-eqb, not-true, not-false}
 use Rattle.geometry.specs.declared.Geometry.{Geometry}
 use Rattle.geometry.specs.Geometry.{entrySize}
-use Rattle.geometry.specs.Number.{number}
+use Rattle.geometry.specs.Number.{number, numberBytes}
+use Rattle.geometry.specs.NumberLaws.{length-number}
+use Rattle.geometry.specs.Page.{overwritten}
+use Rattle.packet.proofs.Fronts.{front, front-more, front-whole}
 use Rattle.rules.specs.declared.Entry.{Entry}
 use Rattle.rules.specs.Result.{andThen, refuse-unless}
-use Rattle.rules.specs.Names.{validName, fileNumber, directoryNumber, extensionNumber, entryOf}
+use Rattle.rules.specs.Names.{validName, fileNumber, directoryNumber, extensionNumber, entryOf, entryBytes}
 use Rattle.rules.specs.Control.{wholeEntries}
 use Rattle.rules.specs.Check.{judgeLabel}
 use Rattle.directory.specs.Faults.{faultAt, LabelFault, WholeFault}
@@ -34,6 +37,32 @@ entry-is at n name extension start pages b e₁ e₂ e₃ e₄ =
     let q₃ : start ≡ number (take n (drop 5 (drop at b))) = e₃ ∙ rw (drop-drop 5 at b) refl in
     let q₄ : pages ≡ number (take n (drop (5 + n) (drop at b))) = e₄ ∙ rw (drop-drop (5 + n) at b, i) refl in
     cc
+
+-- an entry's bytes, written in four parts as the code does it
+module _ (e : Entry) (n : ℕ) (b b₀ b₁ b₂ b₃ : List ℕ) (h : (length b ≡ 5 + 2 * n) × (n ≤ 2)) (x : e .extension < 256)
+    (e₀ : b₀ ≡ overwritten 0 (numberBytes 4 (e .name)) b) (e₁ : b₁ ≡ overwritten 4 (numberBytes 1 (e .extension)) b₀)
+    (e₂ : b₂ ≡ overwritten 5 (numberBytes n (e .start)) b₁) (e₃ : b₃ ≡ overwritten (5 + n) (numberBytes n (e .pages)) b₂) where
+  abbrev label : List ℕ
+  label = numberBytes 4 (e .name) ++ (e .extension ∷ [])
+
+  is₀ : b₀ ≡ front (numberBytes 4 (e .name)) b
+  is₀ = e₀ ∙ front-more [] (numberBytes 4 (e .name)) b 0 refl
+
+  is₁ : b₁ ≡ front label b
+  is₁ =
+      let i : e .extension % 256 ≡ e .extension = omega (arith, x) in
+      e₁ ∙ rw is₀ (front-more (numberBytes 4 (e .name)) (numberBytes 1 (e .extension)) b 4 refl) ∙ ap (λ (y : ℕ). front (numberBytes 4 (e .name) ++ (y ∷ [])) b) i
+
+  is₂ : b₂ ≡ front (label ++ numberBytes n (e .start)) b
+  is₂ = e₂ ∙ rw is₁ (front-more label (numberBytes n (e .start)) b 5 refl)
+
+  pub entry-filled : b₃ ≡ entryBytes n e
+  entry-filled =
+      let s = numberBytes n (e .start) in
+      let c = numberBytes n (e .pages) in
+      let l : length (label ++ s) ≡ 5 + n = length-append label s ∙ ap (λ (k : ℕ). 5 + k) (length-number n (e .start)) in
+      let w : length (entryBytes n e) ≡ length b = simp (length-append, length-number) (omega (arith, h .0)) in
+      e₃ ∙ rw is₂ (front-more (label ++ s) c b (5 + n) l) ∙ ap (λ (xs : List ℕ). front xs b) (append-assoc label s c) ∙ front-whole (entryBytes n e) b w
 
 -- the label's tests, one after the other
 module _ (e : Entry) where

@@ -6,7 +6,7 @@ ghost use mathlib.Core.Path.{_≡_};
 ghost use Prim.Native.Nat.{_+_, _*_, _≤_, _<_};
 ghost use lib.ListN.{length, drop};
 ghost use Rattle.geometry.specs.Geometry.{Valid};
-ghost use Rattle.rules.specs.Names.{entryOf};
+ghost use Rattle.rules.specs.Names.{entryOf, entryBytes};
 ghost use Rattle.directory.specs.Faults.{LabelFault, WholeFault};
 
 // The entry that stands at a place of a directory page's bytes.
@@ -23,6 +23,17 @@ pub fn entry_at(bytes: &[u8], at: usize, n: usize) -> Entry
         start: geometry::number_at(bytes, start, n),
         pages: geometry::number_at(bytes, pages, n),
     }
+}
+
+// Fills a slice with an entry's bytes: name, extension, start page, number of pages.
+pub fn put_entry(bytes: &mut [u8], e: Entry, n: usize)
+    requires { ⌜ (length (now bytes) ≡ 5 + 2 * n) × (n ≤ 2) ⌝ }
+    ensures { λ _. ⌜ now (bytes .exit) ≡ entryBytes n e ⌝ }
+{
+    geometry::put_number(bytes, 0, 4, e.name as usize);
+    geometry::put_number(bytes, 4, 1, e.extension as usize);
+    geometry::put_number(bytes, 5, n, e.start);
+    geometry::put_number(bytes, 5 + n, n, e.pages);
 }
 
 // The fault of an entry's first byte, name or extension number, 0 if there is none.

@@ -16,7 +16,7 @@ use Rattle.rules.specs.Tree.{Image, used}
 use Rattle.rules.specs.Put.{put}
 use Rattle.rules.specs.Check.{check}
 use Rattle.rules.specs.Paths.{Path, fileKey, find}
-use Rattle.rules.specs.Candidate.{Accepted, OnlyRoom, Exists, atPath, filePath, Candidate, chainPages, pagesInUse}
+use Rattle.rules.specs.Candidate.{Accepted, OnlyRoom, Exists, atPath, filePath, Candidate, chainPages, pagesInUse, Demand3}
 use Rattle.rules.specs.Calls.{done, putCall}
 use Rattle.reading.specs.Accepted.{accepted-iff, accepted}
 use Rattle.geometry.specs.ShapeLaws.{fit-of}
@@ -105,6 +105,10 @@ module _ (P N : ℕ) (image table path bytes : List ℕ) (o : OnlyRoom P N image
   call-ok : putCall P N image table path bytes .0 ≡ ok tt → put g path bytes image ≡ ok (putCall P N image table path bytes .1)
   call-ok e = rw call-is (done-ok P N image table g (put g path bytes image) (rw call-is at e))
 
+  call-keeps : putCall P N image table path bytes .0 ≡ ok tt → (i : Image) → Accepted g (putCall P N image table path bytes .1) i
+      → (ks : List ℕ) → (ks ≡ filePath (o .to) → ⊥) → Exists (atPath ks i) → Exists (atPath ks (o .tree))
+  call-keeps e = put-keeps (putCall P N image table path bytes .1) (call-ok e)
+
   call-done : (after : List ℕ) → put g path bytes image ≡ ok after → putCall P N image table path bytes .0 ≡ ok tt
   call-done after e = rw (call-is, e) refl
 
@@ -127,3 +131,14 @@ module _ (P N : ℕ) (image table path bytes : List ℕ) (o : OnlyRoom P N image
   pub call-least : putCall P N image table path bytes .0 ≡ ok tt → (i : Image) → Accepted g (putCall P N image table path bytes .1) i
       → (new : List ℕ) (c : Candidate g image (o .to) bytes new) → pagesInUse i ≤ pagesInUse (c .after)
   call-least e = put-least (putCall P N image table path bytes .1) (call-ok e)
+
+-- ---- demand 3 of the call, whole
+pub demand-3 : (P N : ℕ) (image table path bytes : List ℕ) → Bytes image → Bytes path → Bytes bytes
+    → Demand3 P N image table path bytes (putCall P N image table path bytes .0 ≡ ok tt) (putCall P N image table path bytes .0 ≡ err 17 0) (putCall P N image table path bytes .1)
+demand-3 P N image table path bytes b p c = record {
+  exactly = λ o. call-exactly P N image table path bytes o b p c;
+  refused = λ o. call-refused P N image table path bytes o b p c;
+  candidate = λ o. call-candidate P N image table path bytes o b p c;
+  least = λ o. call-least P N image table path bytes o b p c;
+  keeps = λ o. call-keeps P N image table path bytes o b p c;
+}

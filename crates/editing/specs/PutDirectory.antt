@@ -44,7 +44,7 @@ replaced-exact levels x k t w h = elim (eq-zero-or-pos (count k (keys t))) [
 ]
 
 -- an entry of the same key without attribute is of the same label
-same-label : (l m : Label) → keyOf m ≡ keyOf l → attribute (m .extension) ≡ 0 → attribute (l .extension) ≡ 0 → m ≡ l
+pub same-label : (l m : Label) → keyOf m ≡ keyOf l → attribute (m .extension) ≡ 0 → attribute (l .extension) ≡ 0 → m ≡ l
 same-label l m e h k =
     let p : m .name ≡ l .name = omega arith in
     let q : m .extension ≡ l .extension = omega arith in
@@ -67,11 +67,11 @@ module _ (g : Geometry) (l : Label) where
   unfolding extraPages
   extra-new d h = rw (mem-false (keyOf l) (keys d) h, choose-false)
 
-  after-old : (q : ℕ) (chain : List Link) (d : Items) → 1 ≤ count (keyOf l) (keys d) → itemsAfter q chain d ≡ replace (keyOf l) chain d
+  pub after-old : (q : ℕ) (chain : List Link) (d : Items) → 1 ≤ count (keyOf l) (keys d) → itemsAfter q chain d ≡ replace (keyOf l) chain d
   unfolding itemsAfter
   after-old q chain d h = rw (mem-true (keyOf l) (keys d) h, choose-true)
 
-  after-new : (q : ℕ) (chain : List Link) (d : Items) → count (keyOf l) (keys d) ≡ 0
+  pub after-new : (q : ℕ) (chain : List Link) (d : Items) → count (keyOf l) (keys d) ≡ 0
       → itemsAfter q chain d ≡ insert (file l chain) (laterEntries g) q (firstEntries g) 0 d
   unfolding itemsAfter
   after-new q chain d h = rw (mem-false (keyOf l) (keys d) h, choose-false)

@@ -173,7 +173,7 @@ module _ (g : Geometry) (image path bytes : List ℕ) (a : Asked g image path by
         (rw (length-take-le wanted (drop extra spare) enough) (pages-enough (dataCapacity g) (length bytes) (omega (arith, capacity-least g valid))))
 
     -- the pages taken are free ones
-    taken : (x : ℕ) → count x (take extra spare) + count x (pages (chain spare)) ≤ count x spare
+    pub taken : (x : ℕ) → count x (take extra spare) + count x (pages (chain spare)) ≤ count x spare
     taken x = omega (arith, ap (count x) pages-chain, count-split x extra spare, count-split x wanted (drop extra spare))
 
     pub chain-fits : WritesFit g (linked (chain spare))

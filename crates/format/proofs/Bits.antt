@@ -59,9 +59,6 @@ size-bounds g v = (omega (arith, size-is g, v .some), omega (arith, size-is g, v
 
 -- the pages of the file, from what the code computed
 module _ (g : Geometry) (v : Valid g) (bytes capacity : ℕ) (e : bytes ≡ bitmapSize g) (f : capacity ≡ dataCapacity g) where
-  pub count-asks : (1 ≤ bytes) × (1 ≤ capacity) × (bytes ≤ 65536)
-  count-asks = let b = size-bounds g v in (omega (arith, b .0), omega (arith, capacity-least g v), omega (arith, b .1))
-
   pub count-is : (count : ℕ) → count ≡ pagesFor capacity bytes → count ≡ mapPageCount g
   unfolding mapPageCount
   count-is count k = k ∙ ap₂ pagesFor f e

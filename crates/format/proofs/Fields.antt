@@ -1,25 +1,19 @@
--- The root's control field and a bitmap file's place, written part by part; and a part of an array that was lent and read.
+-- The root's control field and a bitmap file's place, written part by part.
 use mathlib.Core.Path.{_≡_, refl, ap, sym, _∙_}
-use mathlib.Core.List.{List, [], _∷_, _++_, append-nil, append-assoc}
+use mathlib.Core.List.{List, [], _∷_, _++_, append-assoc}
 use Prim.Native.Nat.{ℕ, zero, suc, _+_, _-_, _*_, _%_, _≤_, _<_}
 use native.Mathlib.Omega.{arith}
-use lib.ListN.{length, take, replicate, length-append, length-replicate, drop-of-length-le}
-use lib.Seq.{take-at, length-take-le}
+use lib.ListN.{length, take, replicate, length-append}
 use Rattle.geometry.specs.declared.Geometry.{Geometry}
 use Rattle.geometry.specs.Geometry.{dataCapacity, Valid}
 use Rattle.geometry.specs.Number.{numberBytes}
 use Rattle.geometry.specs.NumberLaws.{length-number}
 use Rattle.geometry.specs.Page.{overwritten}
-use Rattle.packet.specs.Packet.{write, writePage}
-use Rattle.packet.proofs.Fronts.{front, front-more}
+use Rattle.packet.proofs.Fronts.{front, front-more, front-whole, zeros-front, front-size}
 use Rattle.rules.specs.Control.{marker, placeBytes}
 use Rattle.editing.specs.Capacity.{capacity-is, capacity-least}
 use Rattle.marks.specs.Marks.{marksFrom}
 use Rattle.format.specs.Formats.{controlField}
-
--- a front of the whole length is all there is
-front-whole : (xs b : List ℕ) → length xs ≡ length b → front xs b ≡ xs
-front-whole xs b e = ap (λ (l : List ℕ). xs ++ l) (drop-of-length-le b {i = length xs} (omega (arith, e))) ∙ append-nil xs
 
 -- ---- the control field
 pub length-field : (n control : ℕ) (four : List ℕ) → length four ≡ 4 → length (controlField n control four) ≡ 6 + n
@@ -83,24 +77,9 @@ module _ (n count : ℕ) (b b₀ b₁ b₂ : List ℕ) (h : (length b ≡ 4) × 
       ∙ front-whole ((zeros ++ numberBytes n 1) ++ numberBytes n count) b (omega (arith, l₁, l₂, z, o, m, h .0, h .2))
       ∙ append-assoc zeros (numberBytes n 1) (numberBytes n count) ∙ ap (λ (l : List ℕ). l ++ (numberBytes n 1 ++ numberBytes n count)) (zero-bytes (4 - 2 * n))
 
--- ---- a front of an array of zeros
-pub zeros-front : (n k : ℕ) → n ≤ k → length (take n (replicate {A = ℕ} k 0)) ≡ n
-zeros-front n k h = length-take-le n (replicate k 0) (omega (arith, length-replicate {A = ℕ} k 0, h))
-
--- what was written to a front is read there
-module _ (n : ℕ) (xs ys rest : List ℕ) (e : xs ≡ ys) (l : length ys ≡ n) where
-  pub front-room : n ≤ length (xs ++ rest)
-  front-room = omega (arith, length-append xs rest, ap length e, l)
-
-  pub front-size : n ≡ length (take n (xs ++ rest))
-  front-size = sym (length-take-le n (xs ++ rest) front-room)
-
-  -- and a page is written with it
-  pub front-written : (g : Geometry) (p next : ℕ) (image after : List ℕ) → after ≡ writePage g (write p (take n (xs ++ rest)) next) image → after ≡ writePage g (write p ys next) image
-  front-written g p next image after k = k ∙ ap (λ (b : List ℕ). writePage g (write p b next) image) (take-at xs rest n (ap length e ∙ l) ∙ e)
-
-  pub front-fits : (g : Geometry) → Valid g → n ≤ dataCapacity g → length (take n (xs ++ rest)) + g .width + 3 ≤ g .size
-  front-fits g v h = omega (arith, front-size, capacity-is g, v .least, v .two)
+-- ---- a page written from the front of an array
+pub front-fits : (n : ℕ) (xs ys rest : List ℕ) → xs ≡ ys → length ys ≡ n → (g : Geometry) → Valid g → n ≤ dataCapacity g → length (take n (xs ++ rest)) + g .width + 3 ≤ g .size
+front-fits n xs ys rest e l g v h = omega (arith, front-size n xs ys rest e l, capacity-is g, v .least, v .two)
 
 pub control-room : (g : Geometry) → Valid g → 6 + g .width ≤ dataCapacity g
 control-room g v = omega (arith, capacity-least g v, v .two)

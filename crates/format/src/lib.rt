@@ -9,7 +9,6 @@ ghost use Prim.Native.Nat.{_+_, _*_, _≤_, _<_};
 ghost use lib.ListN.{length};
 ghost use Rattle.geometry.specs.Geometry.{Fit, dataCapacity};
 ghost use Rattle.packet.specs.Packet.{writePage, write, play};
-ghost use Rattle.rules.specs.Chain.{pagesFor};
 ghost use Rattle.rules.specs.Control.{placeBytes, localAllowed};
 ghost use Rattle.rules.specs.PageSets.{count};
 ghost use Rattle.rules.specs.OwnerLaws.{nonzero, Represents};
@@ -29,14 +28,6 @@ const MARKER: usize = 0xA9;
 const LOCAL: usize = 128;
 
 const FILE: usize = 0;
-
-// The pages that so many bytes need.
-fn pages_for(bytes: usize, capacity: usize) -> usize
-    requires { ⌜ (1 ≤ bytes) × (1 ≤ capacity) × (bytes ≤ 65536) ⌝ }
-    ensures { λ r. ⌜ r ≡ pagesFor capacity bytes ⌝ }
-{
-    (bytes - 1) / capacity + 1
-}
 
 // Fills a slice with the root's control field: marker, map address 0, bitmap control, four bytes.
 fn fill_control(field: &mut [u8], n: usize, control: usize, four: &[u8])
@@ -144,7 +135,7 @@ fn write_file(image: &mut [u8], g: Geometry, owners: &mut [u16])
     requires { ⌜ length (now owners) ≡ g .pages ⌝ }
     ensures { λ _. ⌜ now (image .exit) ≡ emptied g false (now (image .entry)) ⌝ }
 {
-    let count = pages_for(g.bitmap_size(), g.data_capacity());
+    let count = storing::pages_for(g.bitmap_size(), g.data_capacity());
     let mut four = [0u8; 4];
     fill_place(&mut four, g.width, count);
     write_root(image, g, FILE, &four);

@@ -13,14 +13,18 @@ use Rattle.rules.specs.Names.{key}
 use Rattle.rules.specs.Tree.{Label, Items, fileEntry, Image}
 use Rattle.rules.specs.Control.{theRoot}
 use Rattle.rules.specs.Check.{check}
-use Rattle.rules.specs.Paths.{namesIn, Found, nothing, aFile, aDirectory, find, atRoot, Place, directoryAt}
+use Rattle.rules.specs.Paths.{namesIn, fileKey, Found, nothing, aFile, aDirectory, find, atRoot, Place, directoryAt}
 use Rattle.chain.specs.KnownChain.{ChainStands}
 use Rattle.path.proofs.Parts.{Parts}
 use Rattle.listing.proofs.Accepting.{accepted-stands}
+use Rattle.entries.specs.declared.Seat.{Seat}
+use Rattle.lookup.specs.declared.Spot.{Spot}
+use Rattle.lookup.specs.declared.Spot.the-variants as spot
 use Rattle.lookup.specs.declared.Search.the-variants as search
 use Rattle.lookup.specs.declared.Resolved.{Resolved}
 use Rattle.lookup.specs.declared.Resolved.the-variants as resolved
-use Rattle.lookup.specs.Searches.{entryOf, TreeAt, HasTree, Leads}
+use Rattle.lookup.specs.Searches.{entryOf, TreeAt, HasTree, Leads, PlaceOf, IsPlace}
+use Rattle.lookup.specs.Targets.{Nowhere, FileAbsent, FileAt}
 use Rattle.lookup.proofs.Resolving.{FoundStands, find-stands, no-directory}
 
 pub root-tree : (g : Geometry) (v : View) (i : Image) → check g v ≡ ok i → TreeAt g v 0 (i .tree)
@@ -66,3 +70,50 @@ found-file g v start t T k name extension k-is low e q = go (find k t) refl (fin
     go (aFile l ls) j b z =
         let y : e ≡ fileEntry l ls = cc in
         record { label = l; links = ls; is = j; entry-is = y; chain = subst (λ (n : ℕ). ChainStands g v n ls) (sym (ap (λ (x : Entry). x .start) y)) (b .1) }
+
+-- ---- what stands at the path
+module _ (g : Geometry) (v : View) (path : List ℕ) (i : Image) (names name extension : ℕ) (P : Parts path names name extension) (r : Resolved)
+    (h : Leads g v (directoryAt (namesIn names (drop 0 path)) atRoot theRoot (i .tree)) r) where
+  pub nowhere : r ≡ resolved.Absent → Nowhere g v path i
+  nowhere e = record { to = P .path; formed = P .is; missing = no-directory-at g v path i names name extension P r h e }
+
+  module _ (start : ℕ) (r-is : r ≡ resolved.Directory start) (k : ℕ) (k-is : k ≡ key name extension) (s : Spot) (f : (t : Items) → TreeAt g v start t → IsPlace g v k t s) where
+    abbrev there : PlaceAt g v path i names name extension P start
+    there = place-at g v path i names name extension P r h start r-is
+
+    same-key : k ≡ fileKey (P .path)
+    same-key = k-is ∙ sym (P .key-is)
+
+    pub file-absent : s ≡ spot.Absent → FileAbsent g v path i start name extension
+    file-absent q = record {
+      to = P .path;
+      formed = P .is;
+      name-is = P .name-is;
+      extension-is = P .extension-is;
+      place = there .place;
+      there = there .is;
+      tree = there .tree;
+      absent = go (find (fileKey (P .path)) (there .place .items)) refl (subst (λ (n : ℕ). search.Absent ≡ entryOf (find n (there .place .items))) same-key (subst (IsPlace g v k (there .place .items)) q (f (there .place .items) (there .tree))));
+    }
+      where
+        go : (x : Found) → find (fileKey (P .path)) (there .place .items) ≡ x → search.Absent ≡ entryOf x → find (fileKey (P .path)) (there .place .items) ≡ nothing
+        go nothing e z = e
+        go (aFile l ls) e z = absurd (let z : _≡_ {A = ℕ} 0 1 = cc in omega arith)
+        go (aDirectory l d) e z = absurd (let z : _≡_ {A = ℕ} 0 1 = cc in omega arith)
+
+    pub file-at : (p : Seat) (e : Entry) → s ≡ spot.At p e → FileAt g v path i p e
+    file-at p e q =
+        let at : PlaceOf g v k (there .place .items) p e = subst (IsPlace g v k (there .place .items)) q (f (there .place .items) (there .tree)) in
+        let x = found-file g v start (there .place .items) (there .tree) k name extension k-is (P .low) e (at .found) in
+        record {
+          to = P .path;
+          formed = P .is;
+          place = there .place;
+          there = there .is;
+          label = x .label;
+          links = x .links;
+          found = ap (λ (n : ℕ). find n (there .place .items)) (sym same-key) ∙ x .is;
+          entry-is = x .entry-is;
+          chain = x .chain;
+          at = subst (λ (n : ℕ). PlaceOf g v n (there .place .items) p e) same-key at;
+        }

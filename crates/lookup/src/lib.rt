@@ -1,6 +1,7 @@
 // Entries found by name in an image that is known to be accepted: in a directory, and along the directories of a path.
 use entries::Seat;
 use geometry::Geometry;
+use path::Parsed;
 use rules::Entry;
 ghost use mathlib.Core.List.{List};
 ghost use Prim.Native.Nat.{_+_, _*_, _≤_};
@@ -8,6 +9,7 @@ ghost use lib.ListN.{length};
 ghost use Rattle.geometry.specs.Geometry.{Fit};
 ghost use Rattle.packet.specs.Packet.{viewOf};
 ghost use Rattle.lookup.specs.Searches.{HasTree, Places, Finds, Resolves};
+ghost use Rattle.lookup.specs.Targets.{IsAccepted, Targets};
 
 // The entry that was looked for and its place.
 pub enum Spot {
@@ -25,6 +27,18 @@ pub enum Search {
 pub enum Resolved {
     Directory(usize),
     Absent,
+}
+
+// What stands at a path.
+pub enum Target {
+    // the path is malformed
+    Malformed,
+    // one of its directories is absent
+    Nowhere,
+    // the file is absent: its directory's start page, its name and extension
+    Absent(usize, u32, u8),
+    // the place of the file's entry
+    At(Seat, Entry),
 }
 
 // The place of a directory's entry with this key.
@@ -83,5 +97,26 @@ pub fn resolve(
     match find_entry(image, g, start, entries::key_of(name as u32, 127)) {
         Search::Absent => Resolved::Absent,
         Search::Found(e) => resolve(image, g, e.start, path, at + 4, names - 1),
+    }
+}
+
+// What stands at a path of an image that is known to be accepted.
+pub fn find_file(image: &[u8], g: Geometry, path: &[u8]) -> Target
+    requires { ⌜ Fit g (now image) ⌝ }
+    requires { ⌜ IsAccepted g (viewOf g (now image)) ⌝ }
+    ensures { λ r. ⌜ Targets g (viewOf g (now (image .entry))) (now (path .entry)) r ⌝ }
+{
+    match path::parse(path) {
+        Parsed::Malformed => Target::Malformed,
+        Parsed::Path(names, name, extension) => match resolve(image, g, 0, path, 0, names) {
+            Resolved::Absent => Target::Nowhere,
+            Resolved::Directory(start) => {
+                let key = entries::key_of(name, extension);
+                match find_place(image, g, start, key) {
+                    Spot::Absent => Target::Absent(start, name, extension),
+                    Spot::At(seat, e) => Target::At(seat, e),
+                }
+            }
+        },
     }
 }

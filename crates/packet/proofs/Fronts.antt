@@ -1,11 +1,11 @@
 -- A page whose front is written part by part, and a page written in its image.
 use mathlib.Core.Path.{_≡_, refl, ap, sym, _∙_}
-use mathlib.Core.List.{List, [], _∷_, _++_, append-assoc}
+use mathlib.Core.List.{List, [], _∷_, _++_, append-nil, append-assoc}
 use Prim.Native.Nat.{ℕ, suc, _+_, _-_, _*_, _≤_, _<_}
 use native.Mathlib.Nat.{add-sub-cancel-left}
 use native.Mathlib.Omega.{arith}
-use lib.ListN.{length, take, drop, length-append}
-use lib.Seq.{take-at, drop-at, drop-drop}
+use lib.ListN.{length, take, drop, length-append, drop-of-length-le, replicate, length-replicate}
+use lib.Seq.{take-at, drop-at, drop-drop, length-take-le}
 use Rattle.crc16.specs.Crc16.{crc16}
 use Rattle.geometry.specs.Number.{numberBytes}
 use Rattle.geometry.specs.NumberLaws.{length-number}
@@ -26,6 +26,10 @@ front-more xs ys b at e =
     let i : length xs + length ys ≡ length (xs ++ ys) = omega (arith, length-append xs ys) in
     let z : drop (length ys) (drop (length xs) b) ≡ drop (length (xs ++ ys)) b = drop-drop (length ys) (length xs) b ∙ ap (λ (j : ℕ). drop j b) i in
     rw (t, d, z) (sym (append-assoc xs ys (drop (length (xs ++ ys)) b)))
+
+-- a front of the whole length is all there is
+pub front-whole : (xs b : List ℕ) → length xs ≡ length b → front xs b ≡ xs
+front-whole xs b e = ap (λ (l : List ℕ). xs ++ l) (drop-of-length-le b {i = length xs} (omega (arith, e))) ∙ append-nil xs
 
 -- a whole packet, written in four parts as the code does it
 module _ (n p next x : ℕ) (bytes b b₀ b₁ b₂ b₃ : List ℕ) (h : length bytes + n < 256) where
@@ -60,3 +64,22 @@ pub page-written : (g : Geometry) (p next : ℕ) (bytes image last : List ℕ) �
     → take (p * g .size) image ++ (last ++ drop (p * g .size + g .size - p * g .size) (drop (p * g .size) image)) ≡ writePage g (write p bytes next) image
 unfolding writePage withPage pageOf
 page-written g p next bytes image last e = rw (e, add-sub-cancel-left (p * g .size) (g .size)) refl
+
+-- ---- a front of an array of zeros
+pub zeros-front : (n k : ℕ) → n ≤ k → length (take n (replicate {A = ℕ} k 0)) ≡ n
+zeros-front n k h = length-take-le n (replicate k 0) (omega (arith, length-replicate {A = ℕ} k 0, h))
+
+-- what was written to a front is read there
+module _ (n : ℕ) (xs ys rest : List ℕ) (e : xs ≡ ys) (l : length ys ≡ n) where
+  pub front-room : n ≤ length (xs ++ rest)
+  front-room = omega (arith, length-append xs rest, ap length e, l)
+
+  pub front-size : n ≡ length (take n (xs ++ rest))
+  front-size = sym (length-take-le n (xs ++ rest) front-room)
+
+  pub front-read : take n (xs ++ rest) ≡ ys
+  front-read = take-at xs rest n (ap length e ∙ l) ∙ e
+
+  -- and a page is written with it
+  pub front-written : (g : Geometry) (p next : ℕ) (image after : List ℕ) → after ≡ writePage g (write p (take n (xs ++ rest)) next) image → after ≡ writePage g (write p ys next) image
+  front-written g p next image after k = k ∙ ap (λ (b : List ℕ). writePage g (write p b next) image) front-read

@@ -37,6 +37,8 @@ pub record Parts (b : List ℕ) (names name extension : ℕ) : Type 0 where
   pub path : paths.Path
   pub is : pathOf b ≡ ok path
   pub directories : path .directories ≡ namesIn names b
+  pub name-is : path .name ≡ name
+  pub extension-is : path .extension ≡ extension
   pub key-is : fileKey path ≡ key name extension
   pub low : extension ≤ 99
   pub room : 4 * names ≤ length b
@@ -57,4 +59,4 @@ well-formed b r names name extension e q = go (pathOf b) refl (sym e ∙ q)
         let a : x .name ≡ name = cc in
         let c : x .extension ≡ extension = cc in
         let m : length b / 4 - 1 ≡ names = sym (length-names (length b / 4 - 1) b) ∙ ap length (sym (k .0)) ∙ n in
-        record { path = x; is = i; directories = k .0 ∙ ap (λ (y : ℕ). namesIn y b) m; key-is = ap₂ key a c; low = omega (arith, k .1); room = omega arith }
+        record { path = x; is = i; directories = k .0 ∙ ap (λ (y : ℕ). namesIn y b) m; name-is = a; extension-is = c; key-is = ap₂ key a c; low = omega (arith, k .1); room = omega arith }

@@ -1,5 +1,6 @@
 -- Document 01, "Words of demand 3", over byte images.
 use mathlib.Core.Path.{_≡_}
+use mathlib.Core.Logic.{_↔_}
 use mathlib.Core.Bool.{Bool, true, false}
 use mathlib.Core.List.{List, [], _∷_, _++_}
 use Prim.Native.Nat.{ℕ, _≤_}
@@ -128,3 +129,14 @@ pub record Candidate (g : Geometry) (old : List ℕ) (q : Path) (bytes : List �
 -- the pages in use that an image has
 abbrev pub pagesInUse : Image → ℕ
 pagesInUse i = length (used i)
+
+-- demand 3, of what a put answers and the image it leaves: where nothing but room could refuse it, it is done exactly when there is a candidate and refused for room exactly when there is none;
+-- when done the image is a candidate, no candidate has fewer pages in use, and what stands at another path stood there
+pub record Demand3 (P N : ℕ) (image table path bytes : List ℕ) (isDone isFull : Type 0) (after : List ℕ) : Type 0 where
+  pub exactly : (o : OnlyRoom P N image table path) → isDone ↔ ((new : List ℕ) × Candidate (o .geometry) image (o .to) bytes new)
+  pub refused : (o : OnlyRoom P N image table path) → isFull ↔ ((new : List ℕ) → Candidate (o .geometry) image (o .to) bytes new → ⊥)
+  pub candidate : (o : OnlyRoom P N image table path) → isDone → Candidate (o .geometry) image (o .to) bytes after
+  pub least : (o : OnlyRoom P N image table path) → isDone → (i : Image) → Accepted (o .geometry) after i
+      → (new : List ℕ) (c : Candidate (o .geometry) image (o .to) bytes new) → pagesInUse i ≤ pagesInUse (c .after)
+  pub keeps : (o : OnlyRoom P N image table path) → isDone → (i : Image) → Accepted (o .geometry) after i
+      → (ks : List ℕ) → (ks ≡ filePath (o .to) → ⊥) → Exists (atPath ks i) → Exists (atPath ks (o .tree))

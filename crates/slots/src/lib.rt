@@ -3,12 +3,14 @@ use chain::Cursor;
 use chain::Step;
 use entries::Seat;
 use geometry::Geometry;
+use rules::Entry;
 ghost use mathlib.Core.Path.{_≡_};
 ghost use mathlib.Core.List.{List};
 ghost use Prim.Native.Nat.{_+_, _-_, _≤_, _<_};
 ghost use lib.ListN.{length};
-ghost use Rattle.geometry.specs.Geometry.{Fit};
-ghost use Rattle.packet.specs.Packet.{viewOf};
+ghost use Rattle.geometry.specs.Geometry.{entrySize, Fit};
+ghost use Rattle.packet.specs.Packet.{viewOf, write, writePage};
+ghost use Rattle.rules.specs.Names.{entryBytes};
 ghost use Rattle.slots.specs.Slots.{overFront, spliced, HasSpan, Rewrites, entryFrom};
 
 // Copies bytes, with those from one place to another exchanged for others, to the front of an output.
@@ -59,4 +61,28 @@ pub fn exchange(image: &mut [u8], g: Geometry, seat: Seat, first: usize, last: u
     let from = seat.skip + width * first;
     let to = seat.skip + width * last;
     rewrite(image, g, seat.page, from, to, new, seat.next.page);
+}
+
+// Writes an entry in a directory's page, in the place of those from one number to another.
+pub fn place_entry(image: &mut [u8], g: Geometry, seat: Seat, first: usize, last: usize, e: Entry)
+    requires { ⌜ Fit g (now image) ⌝ }
+    requires { ⌜ (seat .page < g .pages) × HasSpan g (viewOf g (now image)) (seat .page) (entryFrom g seat first) (entryFrom g seat last) (entrySize g) ⌝ }
+    ensures { λ _. ⌜ Rewrites g (seat .page) (entryFrom g seat first) (entryFrom g seat last) (entryBytes (g .width) e) (seat .next .page) (now (image .entry)) (now (image .exit)) ⌝ }
+{
+    let width = g.entry_size();
+    let mut bytes = [0u8; 9];
+    directory::entries::put_entry(&mut bytes[..width], e, g.width);
+    exchange(image, g, seat, first, last, &bytes[..width]);
+}
+
+// Writes a page with one entry, the last page of its chain.
+pub fn write_entry(image: &mut [u8], g: Geometry, page: usize, e: Entry)
+    requires { ⌜ Fit g (now image) ⌝ }
+    requires { ⌜ page < g .pages ⌝ }
+    ensures { λ _. ⌜ now (image .exit) ≡ writePage g (write page (entryBytes (g .width) e) 0) (now (image .entry)) ⌝ }
+{
+    let width = g.entry_size();
+    let mut bytes = [0u8; 9];
+    directory::entries::put_entry(&mut bytes[..width], e, g.width);
+    packet::write_page(image, g, page, &bytes[..width], 0);
 }

@@ -77,6 +77,9 @@ module _ (g : Geometry) (image : List ℕ) (E : OneEdit g image) where
   abbrev pub new : List Write
   new = linked (directoryLinks g control after)
 
+  pub old-stood : Stand (viewOf g image) old
+  old-stood = es.hereStands g image tree well bytes names place located .own
+
   pub old-stands : Stand (viewOf g stage₁) old
   old-stands = es.own₁ g image tree well bytes names place located after chain kept edit fits apart
 

@@ -8,7 +8,7 @@ use lib.ListN.{length, take, drop, length-append}
 use lib.Seq.{take-at, drop-at}
 use Rattle.geometry.specs.declared.Geometry.{Geometry}
 use Rattle.geometry.specs.Geometry.{entrySize, controlSize}
-use Rattle.packet.specs.Packet.{good, viewOf, Write, write, writePage, play}
+use Rattle.packet.specs.Packet.{good, View, viewOf, Write, write, writePage, play}
 use Rattle.rules.specs.declared.Entry.{Entry}
 use Rattle.rules.specs.Chain.{first, linked}
 use Rattle.rules.specs.Names.{entryBytes}
@@ -22,7 +22,7 @@ use Rattle.editing.specs.DirectoryWrites.{same-write}
 use Rattle.editing.specs.MapWrites.{control-length}
 use Rattle.editing.specs.PageChange.{OneChange, changes-none, changes-one, entryTokens, entriesBytes, controlOn, pageBytes, page-change}
 use Rattle.slots.specs.Slots.{spliced, HasSpan, Rewrites}
-use Rattle.stages.specs.OneEdit.{OneEdit, marks, control, old, new, old-stands, new-fits, stage₁, stage₂, bytes₁}
+use Rattle.stages.specs.OneEdit.{OneEdit, marks, control, old, new, old-stood, old-stands, new-fits, stage₁, stage₂, bytes₁}
 
 -- entries of one size
 pub entries-length : (g : Geometry) (es : List Entry) → length (entriesBytes (g .width) es) ≡ entrySize g * length es
@@ -82,11 +82,15 @@ module _ (g : Geometry) (image : List ℕ) (E : OneEdit g image) (p skip : ℕ) 
       let b = ap (λ (ts : List Token). linked (tokenLinks n (control g image E) ts)) shape′ in
       record { before = o .before; after = o .after; old-is = a ∙ o .old-is; new-is = b ∙ o .new-is }
 
-  -- the page as it stands, and that its new data fit
-  pub packet : viewOf g (stage₁ g image E) p ≡ good data₀ pointer
-  packet =
-      let v = viewOf g (stage₁ g image E) in
-      stand-right v (one .before) (write p data₀ pointer ∷ one .after) (subst (Stand v) (one .old-is) (old-stands g image E)) .0
+  -- the page as it stands, from the beginning on, and that its new data fit
+  stands : (v : View) → Stand v (old g image E) → v p ≡ good data₀ pointer
+  stands v h = stand-right v (one .before) (write p data₀ pointer ∷ one .after) (subst (Stand v) (one .old-is) h) .0
+
+  pub packet : viewOf g image p ≡ good data₀ pointer
+  packet = stands (viewOf g image) (old-stood g image E)
+
+  packet₁ : viewOf g (stage₁ g image E) p ≡ good data₀ pointer
+  packet₁ = stands (viewOf g (stage₁ g image E)) (old-stands g image E)
 
   fits : WriteFits g p data₁ pointer
   fits = fits-from g (one .before) (write p data₁ pointer ∷ one .after) (subst (WritesFit g) (one .new-is) (new-fits g image E)) .0
@@ -123,10 +127,10 @@ module _ (g : Geometry) (image : List ℕ) (E : OneEdit g image) (p skip : ℕ) 
       )
 
   pub span : HasSpan g (viewOf g (stage₁ g image E)) p from to (length (entriesBytes n more))
-  span = record { bytes = data₀; next = pointer; span = record { packet = packet; order = omega arith; inside = omega (arith, lengths .0); room = omega (arith, lengths .0, lengths .1, fits .room) } }
+  span = record { bytes = data₀; next = pointer; span = record { packet = packet₁; order = omega arith; inside = omega (arith, lengths .0); room = omega (arith, lengths .0, lengths .1, fits .room) } }
 
   -- the code's write is the rule's
   pub page-stage : (b : List ℕ) → Rewrites g p from to (entriesBytes n more) pointer (stage₁ g image E) b → b ≡ stage₂ g image E
   page-stage b w =
-      w data₀ pointer packet ∙ ap (λ (x : List ℕ). writePage g (write p x pointer) (stage₁ g image E)) exchanged
-      ∙ sym (one-written g (stage₁ g image E) (old g image E) (new g image E) p data₀ data₁ pointer one (play-same g (write p data₀ pointer ∷ []) (stage₁ g image E) (bytes₁ g image E) (packet, tt)))
+      w data₀ pointer packet₁ ∙ ap (λ (x : List ℕ). writePage g (write p x pointer) (stage₁ g image E)) exchanged
+      ∙ sym (one-written g (stage₁ g image E) (old g image E) (new g image E) p data₀ data₁ pointer one (play-same g (write p data₀ pointer ∷ []) (stage₁ g image E) (bytes₁ g image E) (packet₁, tt)))

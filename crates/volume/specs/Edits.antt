@@ -4,7 +4,11 @@ use mathlib.Core.List.{List}
 use Prim.Native.Nat.{ℕ}
 use Rattle.geometry.specs.declared.Geometry.{Geometry}
 use Rattle.packet.specs.Packet.{viewOf}
+use Rattle.geometry.specs.Number.{Bytes}
 use Rattle.rules.specs.Result.{Res, ok, err}
+use Rattle.rules.specs.Tree.{Image}
+use Rattle.rules.specs.Check.{check}
+use Rattle.rules.specs.Owners.{owners}
 use Rattle.walk.specs.declared.Walk.{Walk}
 use Rattle.volume.specs.declared.Edited.{Edited}
 use Rattle.volume.specs.declared.Edited.the-variants as edited
@@ -22,6 +26,13 @@ leaves image (err n p) = (err n p, image)
 
 abbrev pub Answered : List ℕ → Res (List ℕ) → Edited → List ℕ → Type 0
 Answered image rule r after = _≡_ {A = Res (Unit {0}) × List ℕ} (editTold r, after) (leaves image rule)
+
+-- the image is accepted, and the table tells of it
+pub record TableOf (g : Geometry) (image table : List ℕ) : Type 0 where
+  pub bytes : Bytes image
+  pub tree : Image
+  pub accepted : check g (viewOf g image) ≡ ok tree
+  pub table-is : table ≡ owners (g .pages) tree
 
 -- an edit in its geometry: its answer, the image, and the table of the image as it then stands
 pub record EditLeaves (g : Geometry) (image : List ℕ) (rule : Res (List ℕ)) (r : Edited) (after table : List ℕ) : Type 0 where

@@ -1,7 +1,8 @@
 use mathlib.Core.Path.{sym}
 use native.Mathlib.Omega.{arith}
 use Rattle.marks.specs.MarkLaws.{length-marks}
-use Rattle.format.proofs.Fields.{zeros-front, front-room, front-size, front-written, front-fits, capacity-most, marks-front}
+use Rattle.packet.proofs.Fronts.{zeros-front, front-room, front-size, front-written}
+use Rattle.format.proofs.Fields.{front-fits, capacity-most, marks-front}
 use borrow.Author.Needs.{needs}
 use Rattle.format.proofs.write_bytes.Statement.{statement}
 use Rattle.format.proofs.write_bytes.Tie as tie

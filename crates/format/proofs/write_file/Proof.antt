@@ -1,11 +1,13 @@
-use Rattle.format.proofs.Bits.{count-asks, count-is, count-below}
+use native.Mathlib.Omega.{arith}
+use Rattle.editing.specs.Capacity.{capacity-least}
+use Rattle.format.proofs.Bits.{count-is, count-below}
 use Rattle.format.proofs.Emptying.{file-emptied}
 use borrow.Author.Needs.{needs}
 use Rattle.format.proofs.write_file.Statement.{statement}
 use Rattle.format.proofs.write_file.Tie as tie
 
 pages-for-requires : tie.Need-pages-for-requires
-pages-for-requires c κs = let s = c .before .before .before .before in count-asks (s .args .g) (s .pre .0 .valid) _ _ (c .before .bitmap-size .ensures) (c .data-capacity .ensures)
+pages-for-requires c κs = let s = c .before .before .before .before in omega (arith, c .data-capacity .ensures, capacity-least (s .args .g) (s .pre .0 .valid))
 
 mark-requires : tie.Need-mark-requires
 mark-requires c κs =

@@ -1,7 +1,8 @@
 use mathlib.Core.Path.{sym}
 use Prim.Native.Nat.{_+_, _≤_}
 use native.Mathlib.Omega.{arith}
-use Rattle.format.proofs.Fields.{length-field, zeros-front, front-room, front-size, front-written, front-fits, control-room}
+use Rattle.packet.proofs.Fronts.{zeros-front, front-room, front-size, front-written}
+use Rattle.format.proofs.Fields.{length-field, front-fits, control-room}
 use borrow.Author.Needs.{needs}
 use Rattle.format.proofs.write_root.Statement.{statement}
 use Rattle.format.proofs.write_root.Tie as tie

@@ -1,0 +1,6 @@
+pub mod Storing
+pub mod Laying
+pub mod Growing
+pub mod Placing
+pub mod PathPut
+pub mod Calling

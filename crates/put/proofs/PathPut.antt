@@ -1,0 +1,127 @@
+-- A put by path: each refusal in its place, and the file that is inserted or replaced.
+use mathlib.Core.Path.{_≡_, ap, sym, _∙_, subst}
+use mathlib.Core.List.{List}
+use Prim.Native.Nat.{ℕ, _/_, _≤_, _<_}
+use native.Mathlib.Omega.{arith}
+use lib.ListN.{getD}
+use borrow.Author.Tests.{ne-eqb}
+use Rattle.geometry.specs.declared.Geometry.{Geometry}
+use Rattle.geometry.specs.Geometry.{Fit}
+use Rattle.packet.specs.Packet.{View, viewOf}
+use Rattle.rules.specs.declared.Entry.{Entry}
+use Rattle.rules.specs.Result.{ok, err}
+use Rattle.rules.specs.ResultLaws.{then-ok, then-err, refuse-false}
+use Rattle.rules.specs.Chain.{Link}
+use Rattle.rules.specs.Names.{attribute}
+use Rattle.rules.specs.Tree.{Label}
+use Rattle.rules.specs.Control.{theRoot}
+use Rattle.rules.specs.Check.{check}
+use Rattle.rules.specs.Paths.{Path, pathOf, fileKey, Found, nothing, aFile, find, atRoot, Place, directoryAt}
+use Rattle.rules.specs.Put.{writable, put}
+use Rattle.reading.specs.Accepted.{accepted-iff}
+use Rattle.reading.specs.CheckCall.{bytes-known}
+use Rattle.editing.specs.PutLaws.{Asked}
+use Rattle.entries.specs.declared.Seat.{Seat}
+use Rattle.lookup.specs.declared.Target.{Target}
+use Rattle.lookup.specs.declared.Target.the-variants as target
+use Rattle.lookup.specs.Targets.{Nowhere, FileAbsent, FileAt, IsTarget, Targets}
+use Rattle.volume.specs.declared.Edited.{Edited}
+use Rattle.volume.specs.declared.Edited.the-variants as edited
+use Rattle.volume.specs.Edits.{leaves, Answered, TableOf}
+use Rattle.put.specs.Puts.{Inserting, Inserts, Replacing, Replaces}
+
+module _ (g : Geometry) (image table path bytes : List ℕ) (fit : Fit g image) (T : TableOf g image table) (pathFits : (i : ℕ) → getD path i 0 < 256) (bytesFit : (i : ℕ) → getD bytes i 0 < 256) where
+  open TableOf T using (tree, accepted, table-is)
+
+  abbrev v : View
+  v = viewOf g image
+
+  refused : (n p : ℕ) → put g path bytes image ≡ err n p → Answered image (put g path bytes image) (edited.Refused n p) image
+  refused n p e = sym (ap (leaves image) e)
+
+  -- a put that nothing but room could refuse
+  asked : (q : Path) → pathOf path ≡ ok q → (d : Place) → directoryAt (q .directories) atRoot theRoot (tree .tree) ≡ ok d
+      → ((l : Label) (ls : List Link) → find (fileKey q) (d .items) ≡ aFile l ls → attribute (l .extension) ≡ 0) → Asked g image path bytes
+  asked q f d t w = record {
+    tree = tree;
+    well = accepted-iff g image fit (T .bytes) tree .0 accepted;
+    imageBytes = T .bytes;
+    pathBytes = bytes-known path pathFits;
+    areBytes = bytes-known bytes bytesFit;
+    to = q;
+    formed = f;
+    place = d;
+    there = t;
+    writable = w;
+  }
+
+  module _ (r : Target) (h : Targets g v path r) where
+    is : (x : Target) → r ≡ x → IsTarget g v path tree x
+    is x e = subst (IsTarget g v path tree) e (h tree accepted)
+
+    pub malformed : r ≡ target.Malformed → Answered image (put g path bytes image) (edited.Refused 14 0) image
+    malformed e = refused 14 0 (at (is target.Malformed e))
+      where
+        at : pathOf path ≡ err 14 0 → put g path bytes image ≡ err 14 0
+        at m = unfold put in simp (accepted, then-ok, m, then-err)
+
+    pub nowhere : r ≡ target.Nowhere → Answered image (put g path bytes image) (edited.Refused 15 0) image
+    nowhere e = refused 15 0 (at (is target.Nowhere e))
+      where
+        at : Nowhere g v path tree → put g path bytes image ≡ err 15 0
+        at m = unfold put in simp (accepted, then-ok, m .formed, m .missing, then-err)
+
+    -- the file is absent
+    module _ (start name extension : ℕ) (e : r ≡ target.Absent start name extension) where
+      gap : FileAbsent g v path tree start name extension
+      gap = is (target.Absent start name extension) e
+
+      pub to-insert : Inserting g image table bytes name extension start
+      unfolding asked
+      to-insert = record {
+        path = path;
+        asked = asked (gap .to) (gap .formed) (gap .place) (gap .there) (λ l ls f. absurd (let n = gap .absent in let z : _≡_ {A = ℕ} 0 1 = cc in omega arith));
+        name-is = gap .name-is;
+        extension-is = gap .extension-is;
+        table-is = table-is;
+        tree = gap .tree;
+        absent = gap .absent;
+      }
+
+      pub insert-answer : (t : Edited) (after : List ℕ) → Inserts g image table bytes name extension start t after → Answered image (put g path bytes image) t after
+      unfolding to-insert asked
+      insert-answer t after i = i to-insert
+
+    -- the file is there
+    module _ (s : Seat) (e : Entry) (q : r ≡ target.At s e) where
+      there : FileAt g v path tree s e
+      there = is (target.At s e) q
+
+      same-extension : e .extension ≡ there .label .extension
+      same-extension = ap (λ (x : Entry). x .extension) (there .entry-is)
+
+      not-writable : 127 < e .extension → writable (aFile (there .label) (there .links)) ≡ err 16 0
+      unfolding writable
+      not-writable h = let a : attribute (there .label .extension) ≡ 0 → ⊥ = λ z. omega (arith, same-extension, z, h) in simp (ne-eqb (attribute (there .label .extension)) 0 a, refuse-false)
+
+      pub read-only : 127 < e .extension → Answered image (put g path bytes image) (edited.Refused 16 0) image
+      read-only h = refused 16 0 (unfold put in simp (accepted, then-ok, there .formed, there .there, there .found, not-writable h, then-err))
+
+      pub to-replace : e .extension ≤ 127 → Replacing g image table bytes s e
+      unfolding asked
+      to-replace h = record {
+        path = path;
+        asked = asked (there .to) (there .formed) (there .place) (there .there)
+            (λ l ls f. let i = there .found in let j : there .label ≡ l = cc in omega (arith, same-extension, ap (λ (x : Label). x .extension) j, h));
+        table-is = table-is;
+        old = there .label;
+        links = there .links;
+        found = there .found;
+        entry-is = there .entry-is;
+        chain = there .chain;
+        at = there .at;
+      }
+
+      pub replace-answer : (h : e .extension ≤ 127) (t : Edited) (after : List ℕ) → Replaces g image table bytes s e t after → Answered image (put g path bytes image) t after
+      unfolding to-replace asked
+      replace-answer h t after i = i (to-replace h)

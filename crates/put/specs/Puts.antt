@@ -1,0 +1,111 @@
+-- For contracts: a file to be put, where its entry goes, and what a put that is done leaves.
+use mathlib.Core.Path.{_≡_}
+use mathlib.Core.List.{List, [], _∷_, _++_}
+use Prim.Native.Nat.{ℕ, _+_, _<_}
+use lib.ListN.{length}
+use Rattle.geometry.specs.declared.Geometry.{Geometry}
+use Rattle.geometry.specs.declared.Shape.the-variants.{Fits}
+use Rattle.geometry.specs.Geometry.{controlSize, geometryOf}
+use Rattle.packet.specs.Packet.{good, viewOf}
+use Rattle.rules.specs.declared.Entry.{Entry}
+use Rattle.rules.specs.Result.{Res, ok, err}
+use Rattle.rules.specs.Chain.{Link}
+use Rattle.rules.specs.Tree.{Label, keyOf, Items, fileEntry, Token, newPage, entry, tokens}
+use Rattle.rules.specs.Owners.{owners}
+use Rattle.rules.specs.OwnerLaws.{Represents}
+use Rattle.rules.specs.Paths.{fileKey, nothing, aFile, find}
+use Rattle.rules.specs.Put.{keptPages, put}
+use Rattle.rules.specs.Candidate.{Demand3}
+use Rattle.editing.specs.PageChange.{entryTokens, controlOn}
+use Rattle.editing.specs.PutDirectory.{extraPages, itemsAfter}
+use Rattle.editing.specs.PutLaws.{Asked, label}
+use Rattle.editing.specs.PutDone.{PutDone}
+use Rattle.chain.specs.KnownChain.{ChainStands}
+use Rattle.entries.specs.declared.Seat.{Seat}
+use Rattle.lookup.specs.Searches.{TreeAt, PlaceOf}
+use Rattle.volume.specs.declared.Edited.{Edited}
+use Rattle.volume.specs.Edits.{editTold, Answered}
+
+-- a put that nothing but room could refuse, and a table that tells of the pages that stay in use
+pub record Putting (g : Geometry) (image table bytes : List ℕ) (name extension : ℕ) : Type 0 where
+  pub path : List ℕ
+  pub asked : Asked g image path bytes
+  pub name-is : asked .to .name ≡ name
+  pub extension-is : asked .to .extension ≡ extension
+  pub kept : Represents table (keptPages (asked .to) (asked .tree))
+
+-- its directory's items, and the new file's label
+module _ {g : Geometry} {image table bytes : List ℕ} {name extension : ℕ} (p : Putting g image table bytes name extension) where
+  abbrev pub itemsOf : Items
+  itemsOf = p .asked .place .items
+
+  abbrev pub newLabel : Label
+  newLabel = label g image (p .path) bytes (p .asked)
+
+-- the directory keeps its pages: the file's entry goes to the page s, in the place of the entries from number `first` to `last`
+pub record Laying (g : Geometry) (image table bytes : List ℕ) (name extension : ℕ) (s : Seat) (first last : ℕ) : Type 0 where
+  pub putting : Putting g image table bytes name extension
+  pub stays : extraPages g (newLabel putting) (itemsOf putting) ≡ 0
+  pub before : List Token
+  pub entries : List Entry
+  pub exchanged : List Entry
+  pub later : List Token
+  pub shape : tokens (itemsOf putting) ≡ before ++ (newPage (s .page) ∷ (entryTokens entries ++ (entryTokens exchanged ++ later)))
+  pub then : (q : ℕ) (chain : List Link) → tokens (itemsAfter g (newLabel putting) q chain (itemsOf putting)) ≡ before ++ (newPage (s .page) ∷ (entryTokens entries ++ (entry (fileEntry (newLabel putting) chain) ∷ later)))
+  pub first-is : length entries ≡ first
+  pub last-is : length entries + length exchanged ≡ last
+  pub inside : s .page < g .pages
+  pub skip-is : (control : List ℕ) → length control ≡ controlSize g → length (controlOn (g .width) control before) ≡ s .skip
+  pub next-is : (b : List ℕ) (n : ℕ) → viewOf g image (s .page) ≡ good b n → s .next .page ≡ n
+
+-- the answer and the image after it are the rule's
+abbrev pub Lays : Geometry → List ℕ → List ℕ → List ℕ → ℕ → ℕ → Seat → ℕ → ℕ → Edited → List ℕ → Type 0
+Lays g image table bytes name extension s first last r after = (l : Laying g image table bytes name extension s first last) → Answered image (put g (l .putting .path) bytes image) r after
+
+-- no page of the directory has space: a page joins after its last page s with the file's entry
+pub record Growing (g : Geometry) (image table bytes : List ℕ) (name extension : ℕ) (s : Seat) : Type 0 where
+  pub putting : Putting g image table bytes name extension
+  pub absent : find (fileKey (putting .asked .to)) (itemsOf putting) ≡ nothing
+  pub grows : extraPages g (newLabel putting) (itemsOf putting) ≡ 1
+  pub before : List Token
+  pub entries : List Entry
+  pub shape : tokens (itemsOf putting) ≡ before ++ (newPage (s .page) ∷ (entryTokens entries ++ []))
+  pub then : (q : ℕ) (chain : List Link) → tokens (itemsAfter g (newLabel putting) q chain (itemsOf putting))
+      ≡ before ++ (newPage (s .page) ∷ (entryTokens entries ++ (newPage q ∷ (entry (fileEntry (newLabel putting) chain) ∷ []))))
+
+abbrev pub Grows : Geometry → List ℕ → List ℕ → List ℕ → ℕ → ℕ → Seat → Edited → List ℕ → Type 0
+Grows g image table bytes name extension s r after = (l : Growing g image table bytes name extension s) → Answered image (put g (l .putting .path) bytes image) r after
+
+-- a file that the directory from page `start` on does not have
+pub record Inserting (g : Geometry) (image table bytes : List ℕ) (name extension start : ℕ) : Type 0 where
+  pub path : List ℕ
+  pub asked : Asked g image path bytes
+  pub name-is : asked .to .name ≡ name
+  pub extension-is : asked .to .extension ≡ extension
+  pub table-is : table ≡ owners (g .pages) (asked .tree)
+  pub tree : TreeAt g (viewOf g image) start (asked .place .items)
+  pub absent : find (fileKey (asked .to)) (asked .place .items) ≡ nothing
+
+abbrev pub Inserts : Geometry → List ℕ → List ℕ → List ℕ → ℕ → ℕ → ℕ → Edited → List ℕ → Type 0
+Inserts g image table bytes name extension start r after = (l : Inserting g image table bytes name extension start) → Answered image (put g (l .path) bytes image) r after
+
+-- a file that is there: the entry e at the place s
+pub record Replacing (g : Geometry) (image table bytes : List ℕ) (s : Seat) (e : Entry) : Type 0 where
+  pub path : List ℕ
+  pub asked : Asked g image path bytes
+  pub table-is : table ≡ owners (g .pages) (asked .tree)
+  pub old : Label
+  pub links : List Link
+  pub found : find (fileKey (asked .to)) (asked .place .items) ≡ aFile old links
+  pub entry-is : e ≡ fileEntry old links
+  pub chain : ChainStands g (viewOf g image) (e .start) links
+  pub at : PlaceOf g (viewOf g image) (fileKey (asked .to)) (asked .place .items) s e
+
+abbrev pub Replaces : Geometry → List ℕ → List ℕ → List ℕ → Seat → Entry → Edited → List ℕ → Type 0
+Replaces g image table bytes s e r after = (l : Replacing g image table bytes s e) → Answered image (put g (l .path) bytes image) r after
+
+-- a put that is done leaves an accepted image that reads the bytes at the path, all else as it was; a refusal changes no byte; and demand 3
+pub record PutDoneAt (P N : ℕ) (image table path bytes : List ℕ) (r : Edited) (after : List ℕ) : Type 0 where
+  pub done : (g : Geometry) → geometryOf P N (length image) (length table) ≡ Fits g → editTold r ≡ ok tt → PutDone g path bytes image after
+  pub refused : (n p : ℕ) → editTold r ≡ err n p → after ≡ image
+  pub demand : Demand3 P N image table path bytes (editTold r ≡ ok tt) (editTold r ≡ err 17 0) after

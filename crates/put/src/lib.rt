@@ -1,0 +1,202 @@
+// Put: a file made or replaced, in the lowest free pages.
+use entries::Seat;
+use geometry::Geometry;
+use geometry::Shape;
+use lookup::Target;
+use rules::Entry;
+use space::Space;
+use volume::Edited;
+use walk::Walk;
+ghost use mathlib.Core.Path.{_≡_};
+ghost use mathlib.Core.List.{List};
+ghost use lib.ListN.{length};
+ghost use Rattle.geometry.specs.Geometry.{Fit};
+ghost use Rattle.rules.specs.Put.{put as putRule};
+ghost use Rattle.rules.specs.Calls.{putCall};
+ghost use Rattle.volume.specs.Edits.{editTold, Answered, TableOf, EditLeaves};
+ghost use Rattle.put.specs.Puts.{Laying, Lays, Growing, Grows, Inserting, Inserts, Replacing, Replaces, PutDoneAt};
+
+// What marks a page that joins a directory; a check makes the table anew afterwards.
+const TAKEN: u16 = 3;
+
+// Stores a file in the lowest free pages and writes its entry in a page of its directory, in the place of those from one number to another. 17.
+fn lay_file(
+    image: &mut [u8],
+    g: Geometry,
+    seat: Seat,
+    first: usize,
+    last: usize,
+    name: u32,
+    extension: u8,
+    bytes: &[u8],
+    owners: &mut [u16],
+) -> Edited
+    requires { ⌜ Fit g (now image) ⌝ }
+    requires { ⌜ (length (now owners) ≡ g .pages) × Laying g (now image) (now owners) (now bytes) name extension seat first last ⌝ }
+    ensures { λ r. ⌜ Lays g (now (image .entry)) (now (owners .entry)) (now (bytes .entry)) name extension seat first last r (now (image .exit)) ⌝ }
+{
+    let pages = storing::pages_for(bytes.len(), g.data_capacity());
+    if storing::count_free(owners) < pages {
+        return Edited::Refused(17, 0);
+    }
+    let start = storing::next_free(owners, 0);
+    storing::store(image, g, owners, 0, bytes);
+    let e = Entry {
+        name,
+        extension,
+        start,
+        pages,
+    };
+    slots::place_entry(image, g, seat, first, last, e);
+    marks::write_map(image, g, owners);
+    Edited::Done
+}
+
+// Stores a file in a directory without space: the lowest free page joins the directory's end with its entry. 17.
+fn grow(
+    image: &mut [u8],
+    g: Geometry,
+    seat: Seat,
+    name: u32,
+    extension: u8,
+    bytes: &[u8],
+    owners: &mut [u16],
+) -> Edited
+    requires { ⌜ Fit g (now image) ⌝ }
+    requires { ⌜ (length (now owners) ≡ g .pages) × Growing g (now image) (now owners) (now bytes) name extension seat ⌝ }
+    ensures { λ r. ⌜ Grows g (now (image .entry)) (now (owners .entry)) (now (bytes .entry)) name extension seat r (now (image .exit)) ⌝ }
+{
+    let pages = storing::pages_for(bytes.len(), g.data_capacity());
+    if storing::count_free(owners) <= pages {
+        return Edited::Refused(17, 0);
+    }
+    let joins = storing::next_free(owners, 0);
+    let start = storing::next_free(owners, joins + 1);
+    storing::store(image, g, owners, joins + 1, bytes);
+    owners[joins] = TAKEN;
+    let e = Entry {
+        name,
+        extension,
+        start,
+        pages,
+    };
+    slots::write_entry(image, g, joins, e);
+    slots::rewrite(image, g, seat.page, 0, 0, b"", joins);
+    marks::write_map(image, g, owners);
+    Edited::Done
+}
+
+// Puts a file that its directory does not have.
+fn insert_file(
+    image: &mut [u8],
+    g: Geometry,
+    start: usize,
+    name: u32,
+    extension: u8,
+    bytes: &[u8],
+    owners: &mut [u16],
+) -> Edited
+    requires { ⌜ Fit g (now image) ⌝ }
+    requires { ⌜ (length (now owners) ≡ g .pages) × Inserting g (now image) (now owners) (now bytes) name extension start ⌝ }
+    ensures { λ r. ⌜ Inserts g (now (image .entry)) (now (owners .entry)) (now (bytes .entry)) name extension start r (now (image .exit)) ⌝ }
+{
+    match space::find_space(image, g, start) {
+        Space::At(seat) => lay_file(
+            image,
+            g,
+            seat,
+            seat.count,
+            seat.count,
+            name,
+            extension,
+            bytes,
+            owners,
+        ),
+        Space::Full(seat) => grow(image, g, seat, name, extension, bytes, owners),
+    }
+}
+
+// Puts a file in the place of one that its directory has: the old chain counts as free.
+fn replace_file(
+    image: &mut [u8],
+    g: Geometry,
+    seat: Seat,
+    e: Entry,
+    bytes: &[u8],
+    owners: &mut [u16],
+) -> Edited
+    requires { ⌜ Fit g (now image) ⌝ }
+    requires { ⌜ (length (now owners) ≡ g .pages) × Replacing g (now image) (now owners) (now bytes) seat e ⌝ }
+    ensures { λ r. ⌜ Replaces g (now (image .entry)) (now (owners .entry)) (now (bytes .entry)) seat e r (now (image .exit)) ⌝ }
+{
+    marks::release(image, g, e.start, owners);
+    lay_file(
+        image,
+        g,
+        seat,
+        seat.at,
+        seat.at + 1,
+        e.name,
+        e.extension,
+        bytes,
+        owners,
+    )
+}
+
+// Puts bytes at a path of an accepted image of which the table tells: 14, 15, 16, 17.
+fn put_path(image: &mut [u8], g: Geometry, path: &[u8], bytes: &[u8], owners: &mut [u16]) -> Edited
+    requires { ⌜ Fit g (now image) ⌝ }
+    requires { ⌜ (length (now owners) ≡ g .pages) × TableOf g (now image) (now owners) ⌝ }
+    ensures { λ r. ⌜ Answered (now (image .entry)) (putRule g (now (path .entry)) (now (bytes .entry)) (now (image .entry))) r (now (image .exit)) ⌝ }
+{
+    match lookup::find_file(image, g, path) {
+        Target::Malformed => Edited::Refused(14, 0),
+        Target::Nowhere => Edited::Refused(15, 0),
+        Target::Absent(start, name, extension) => {
+            insert_file(image, g, start, name, extension, bytes, owners)
+        }
+        Target::At(seat, e) => {
+            if 127 < e.extension {
+                return Edited::Refused(16, 0);
+            }
+            replace_file(image, g, seat, e, bytes, owners)
+        }
+    }
+}
+
+// Puts into an image whose geometry is known: the check, the path, then the table of the image as it then stands.
+fn put_in(image: &mut [u8], g: Geometry, path: &[u8], bytes: &[u8], owners: &mut [u16]) -> Edited
+    requires { ⌜ Fit g (now image) ⌝ }
+    requires { ⌜ length (now owners) ≡ g .pages ⌝ }
+    ensures { λ r. ⌜ EditLeaves g (now (image .entry)) (putRule g (now (path .entry)) (now (bytes .entry)) (now (image .entry))) r (now (image .exit)) (now (owners .exit)) ⌝ }
+{
+    match volume::check_table(image, g, owners) {
+        Walk::Refused(number, page) => Edited::Refused(number, page),
+        Walk::Done(_) => {
+            let answer = put_path(image, g, path, bytes, owners);
+            volume::check_table(image, g, owners);
+            answer
+        }
+    }
+}
+
+// Puts bytes at a path: makes the file or replaces it. Fills the owner table as a check of the image as it then stands.
+pub fn put(
+    image: &mut [u8],
+    size: u32,
+    pages: u32,
+    path: &[u8],
+    bytes: &[u8],
+    owners: &mut [u16],
+) -> Edited
+    ensures { λ r. ⌜ (editTold r, now (image .exit), now (owners .exit)) ≡ putCall size pages (now (image .entry)) (now (owners .entry)) (now (path .entry)) (now (bytes .entry)) ⌝ }
+    ensures { λ r. ⌜ PutDoneAt size pages (now (image .entry)) (now (owners .entry)) (now (path .entry)) (now (bytes .entry)) r (now (image .exit)) ⌝ }
+{
+    match Geometry::new(size, pages, image.len(), owners.len()) {
+        Shape::Wrong => Edited::Refused(1, 0),
+        Shape::Fits(g) => {
+            let n = g.pages;
+            put_in(image, g, path, bytes, &mut owners[..n])
+        }
+    }
+}
