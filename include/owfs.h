@@ -125,6 +125,31 @@ struct owfs_answer {
 struct owfs_answer owfs_format(uint32_t page_length, uint32_t page_count, uint8_t *image, size_t image_length, uint8_t *owners, size_t owners_length,
                                uint32_t local);
 
+/* Checks an image as owfs_check does, then puts `bytes` as the file at a path: it makes the file or replaces it, not read-only. The path is as for
+ * owfs_read. Path and bytes are not written. Files are put below hidden directories as below others.
+ *
+ * number  meaning, in the order in which it is judged              page
+ *      0  done                                                     0
+ *   1-13  the check's faults, as for owfs_check                    as there
+ *     14  path malformed: its length, a name or its last byte      0
+ *     15  directory absent                                         0
+ *     16  file is read-only                                        0
+ *     17  no room                                                  0
+ *
+ * A replaced file's entry stays in place and its old pages count as free. A new entry goes to the end of the first page of its directory with
+ * space, in chain order; if there is none, the lowest free page joins the directory's end. The file then takes the lowest free pages, rising, all
+ * packets full but the last; an empty file takes one page. 17 is answered only if no image that keeps every other entry, file and page could hold
+ * the file, and no such image has fewer pages in use than the one that is left after 0.
+ * Only the packets of the file's new pages, of one page of the directory, of a page that joins it and of the bitmap change; a bitmap file keeps its
+ * packets' lengths. In a page written only the bytes of its new packet change; every other byte of the image stays, those of old pages too that the
+ * file has no longer. A refusal changes no byte of the image.
+ * `owners` are left as owfs_check leaves them: after 0 they tell of the new image, after 14 to 17 of the image as it stands; at least
+ * 2 * page_count bytes are needed (1); all numbers are 0 after the faults 2 to 13; after 1 no byte is changed; bytes past the first 2 * page_count
+ * never change. Any arguments are taken. Image, path, bytes and owners must not overlap.
+ * Stack: 131,070 bytes for a table of 65,535 numbers, and less than 9 KiB more, however many entries a directory has. */
+struct owfs_answer owfs_put(uint32_t page_length, uint32_t page_count, uint8_t *image, size_t image_length, const uint8_t *path, size_t path_length,
+                            const uint8_t *bytes, size_t bytes_length, uint8_t *owners, size_t owners_length);
+
 /* Checks an image as owfs_check does, then deletes a file: its entry is removed, later entries of the same directory page move up, and its pages
  * are free in the bitmap. The path is as for owfs_read and is not written. Files below hidden directories are deleted like others.
  *

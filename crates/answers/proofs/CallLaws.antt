@@ -21,9 +21,10 @@ use Rattle.rules.specs.Tree.{Image}
 use Rattle.rules.specs.Check.{check}
 use Rattle.rules.specs.Owners.{totals, owners, tableAfter}
 use Rattle.rules.specs.Listing.{linesOf, lineAt}
-use Rattle.rules.specs.Calls.{readBytes, lengthOf, filled, inGeometry, asked, done, changed, checkCall, listCall, readCall, formatCall, deleteCall}
+use Rattle.rules.specs.Calls.{readBytes, lengthOf, filled, inGeometry, asked, done, changed, checkCall, listCall, readCall, formatCall, putCall, deleteCall}
 use Rattle.rules.specs.CallLaws.{asked-fits, asked-wrong, check-wrong}
 use Rattle.rules.specs.Format.{format}
+use Rattle.rules.specs.Put.{put}
 use Rattle.rules.specs.Delete.{delete}
 use Rattle.table.specs.Table.{numbersOf, bytesWith}
 use Rattle.table.specs.TableLaws.{AreBytes, length-numbers, stored-same, stored-front}
@@ -31,7 +32,7 @@ use Rattle.answers.specs.declared.OwfsTotals.{OwfsTotals}
 use Rattle.answers.specs.declared.OwfsEntry.{OwfsEntry}
 use Rattle.answers.specs.declared.OwfsLength.{OwfsLength}
 use Rattle.answers.specs.declared.OwfsAnswer.{OwfsAnswer}
-use Rattle.answers.specs.Answers.{totalsFor, entryFor, lengthFor, answerFor, asksLocal, checkAnswer, listAnswer, readAnswer, formatAnswer, deleteAnswer}
+use Rattle.answers.specs.Answers.{totalsFor, entryFor, lengthFor, answerFor, asksLocal, checkAnswer, listAnswer, readAnswer, formatAnswer, putAnswer, deleteAnswer}
 
 room-same : (N n k : ℕ) → N ≤ 65535 → n ≡ min k 65535 → leb N n ≡ leb N k
 room-same N n k h e = go (leb N k) refl
@@ -156,6 +157,12 @@ module _ (P N : ℕ) (image bytes : List ℕ) (n : ℕ) (en : n ≡ min (length 
   unfolding deleteCall deleteAnswer
   deleted path after q r e i =
       ap (λ (y : OwfsAnswer). (y, after, b)) i ∙ ap (λ (y : Res (Unit {0}) × List ℕ × List ℕ). (answerFor (y .0), y .1, y .2)) (seen-changed P N image bytes (λ g. delete g path image) n en are q after x b l e s)
+
+  pub putted : (path text after : List ℕ) (q : Res (Unit {0})) (r : OwfsAnswer) → (q, after, x) ≡ putCall P N image (take n (numbersOf bytes)) path text → r ≡ answerFor q
+      → (r, after, b) ≡ putAnswer P N image bytes path text
+  unfolding putCall putAnswer
+  putted path text after q r e i =
+      ap (λ (y : OwfsAnswer). (y, after, b)) i ∙ ap (λ (y : Res (Unit {0}) × List ℕ × List ℕ). (answerFor (y .0), y .1, y .2)) (seen-changed P N image bytes (λ g. put g path text image) n en are q after x b l e s)
 
 -- refusal 1 changes no owner byte
 pub check-untouched : (P N : ℕ) (image bytes : List ℕ) → AreBytes bytes → geometryOf P N (length image) (length bytes / 2) ≡ Wrong

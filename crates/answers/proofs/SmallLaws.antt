@@ -25,9 +25,10 @@ use Rattle.rules.specs.Soundness.{check-sound}
 use Rattle.rules.specs.Owners.{totals}
 use Rattle.rules.specs.Listing.{linesOf, lineAt}
 use Rattle.rules.specs.Paths.{fileKey, Found, nothing, aFile, aDirectory, find, atRoot}
-use Rattle.rules.specs.Calls.{bytesOf, fileAt, readBytes, lengthOf, asked, inGeometry, shape, done, changed, checkCall, listCall, readCall, formatCall, deleteCall}
+use Rattle.rules.specs.Calls.{bytesOf, fileAt, readBytes, lengthOf, asked, inGeometry, shape, done, changed, checkCall, listCall, readCall, formatCall, putCall, deleteCall}
 use Rattle.rules.specs.CallLaws.{asked-fits, asked-wrong}
 use Rattle.rules.specs.Format.{format}
+use Rattle.rules.specs.Put.{put}
 use Rattle.rules.specs.Delete.{delete}
 use Rattle.chain.specs.KnownChain.{ChainStands}
 use Rattle.chain.proofs.Following.{first-stands, small-view}
@@ -35,7 +36,7 @@ use Rattle.listing.specs.Standing.{Below}
 use Rattle.listing.proofs.Accepting.{accepted-stands}
 use Rattle.lookup.proofs.Resolving.{FoundStands, find-stands, place-below}
 use Rattle.answers.specs.Trees.{Small, TotalsSmall, LineSmall, LengthSmall, DoneSmall}
-use Rattle.answers.proofs.ToldLaws.{Tells, check-tells, read-tells, format-tells, delete-tells}
+use Rattle.answers.proofs.ToldLaws.{Tells, check-tells, read-tells, format-tells, put-tells, delete-tells}
 
 -- an answer is small if it is for every accepted image
 module _ {A : Type 0} (P N : ℕ) (image t : List ℕ) (few : A → Type 0) (question : Image → Res A)
@@ -161,3 +162,7 @@ module _ (P N : ℕ) (image t : List ℕ) where
   pub delete-small : (path : List ℕ) (q : Res (Unit {0})) (after x : List ℕ) → (q, after, x) ≡ deleteCall P N image t path → Small DoneSmall q
   unfolding deleteCall
   delete-small path q after x e = subst (Small DoneSmall) (sym (ap (λ (y : Res (Unit {0}) × List ℕ × List ℕ). y .0) e)) (small-changed (λ g. delete g path image) (λ g f. delete-tells g (f .valid .few) path image))
+
+  pub put-small : (path bytes : List ℕ) (q : Res (Unit {0})) (after x : List ℕ) → (q, after, x) ≡ putCall P N image t path bytes → Small DoneSmall q
+  unfolding putCall
+  put-small path bytes q after x e = subst (Small DoneSmall) (sym (ap (λ (y : Res (Unit {0}) × List ℕ × List ℕ). y .0) e)) (small-changed (λ g. put g path bytes image) (λ g f. put-tells g (f .valid .few) path bytes image))

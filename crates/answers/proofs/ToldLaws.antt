@@ -25,7 +25,7 @@ use Rattle.rules.specs.BitmapLaws.{lowest}
 use Rattle.rules.specs.Paths.{pathOf, directoryKey, Found, nothing, aFile, aDirectory, find, Site, atRoot, below, inDirectory, directoryAt}
 use Rattle.rules.specs.Calls.{bytesOf, fileAt, readBytes}
 use Rattle.rules.specs.Format.{format}
-use Rattle.rules.specs.Put.{writable}
+use Rattle.rules.specs.Put.{writable, putEdit, put}
 use Rattle.rules.specs.Delete.{present, delete}
 use Rattle.lookup.proofs.Resolving.{at-next}
 use Rattle.rules.specs.Soundness.{tokenPages, pages-tokens, JudgeSound, entry-sound, sub-sound, map-sound}
@@ -259,3 +259,9 @@ unfolding delete
 delete-tells g few path image =
     tells-then _ _ (check-tells g few (viewOf g image)) λ i _. tells-then _ _ (path-tells path) λ q _. tells-then _ _ (place-tells (q .directories) atRoot theRoot (i .tree)) λ d _.
     tells-then _ _ (present-tells _) λ _ _. tells-then _ _ (writable-tells _) λ _ _. tells-ok
+
+pub put-tells : (g : Geometry) → g .pages ≤ 65535 → (path bytes image : List ℕ) → Tells (put g path bytes image)
+unfolding put putEdit
+put-tells g few path bytes image =
+    tells-then _ _ (check-tells g few (viewOf g image)) λ i _. tells-then _ _ (path-tells path) λ q _. tells-then _ _ (place-tells (q .directories) atRoot theRoot (i .tree)) λ d _.
+    tells-then _ _ (writable-tells _) λ _ _. tells-then _ _ (tells-test _ 17 _ _ (omega arith) λ _. tells-ok) λ _ _. tells-ok

@@ -6,7 +6,7 @@ use lib.Dec.{eqb}
 use Rattle.rules.specs.declared.Totals.{Totals}
 use Rattle.rules.specs.declared.Line.{Line}
 use Rattle.rules.specs.Result.{Res, ok, err}
-use Rattle.rules.specs.Calls.{checkCall, listCall, readCall, formatCall, deleteCall}
+use Rattle.rules.specs.Calls.{checkCall, listCall, readCall, formatCall, putCall, deleteCall}
 use Rattle.table.specs.Table.{numbersOf, bytesWith}
 use Rattle.answers.specs.declared.OwfsTotals.{OwfsTotals}
 use Rattle.answers.specs.declared.OwfsEntry.{OwfsEntry}
@@ -57,6 +57,9 @@ module _ (P N : ℕ) (image owners : List ℕ) where
 
   unfoldable pub formatAnswer : ℕ → OwfsAnswer × List ℕ × List ℕ
   formatAnswer local = let r = formatCall P N image (numbersOf owners) (asksLocal local) in (answerFor (r .0), r .1, bytesWith (r .2) owners)
+
+  unfoldable pub putAnswer : List ℕ → List ℕ → OwfsAnswer × List ℕ × List ℕ
+  putAnswer path bytes = let r = putCall P N image (numbersOf owners) path bytes in (answerFor (r .0), r .1, bytesWith (r .2) owners)
 
   unfoldable pub deleteAnswer : List ℕ → OwfsAnswer × List ℕ × List ℕ
   deleteAnswer path = let r = deleteCall P N image (numbersOf owners) path in (answerFor (r .0), r .1, bytesWith (r .2) owners)

@@ -12,9 +12,11 @@ use Rattle.rules.specs.declared.Line.{Line}
 use Rattle.rules.specs.Result.{Res, ok, err}
 use Rattle.rules.specs.Listing.{linesOf, lineAt}
 use Rattle.rules.specs.Calls.{readBytes, lengthOf, filled}
+use Rattle.rules.specs.Candidate.{Demand3}
 use Rattle.reading.specs.CheckCall.{WellFormedAt}
 use Rattle.editing.specs.FormatLaws.{Formatted}
 use Rattle.editing.specs.DeleteLaws.{Deleted}
+use Rattle.editing.specs.PutDone.{PutDone}
 use Rattle.table.specs.Table.{numbersOf}
 use Rattle.answers.specs.declared.OwfsTotals.{OwfsTotals}
 use Rattle.answers.specs.declared.OwfsEntry.{OwfsEntry}
@@ -42,6 +44,12 @@ module _ (P N : ℕ) (image owners : List ℕ) where
   pub record Formats (local : ℕ) (r : OwfsAnswer) (after : List ℕ) : Type 0 where
     pub done : (g : Geometry) → geometryOf P N (length image) (length (numbersOf owners)) ≡ Fits g → r .number ≡ 0 → Formatted g (asksLocal local) image after
     pub refused : (r .number ≡ 0 → ⊥) → ((r .number ≡ 1) ⊎ (r .number ≡ 4)) × (after ≡ image)
+
+  -- 0: an accepted image that reads the bytes at the path, all else as before; else no byte changed; and demand 3, where the answer for a put without room is 17 with page 0
+  pub record Puts (path bytes : List ℕ) (r : OwfsAnswer) (after : List ℕ) : Type 0 where
+    pub done : (g : Geometry) → geometryOf P N (length image) (length (numbersOf owners)) ≡ Fits g → r .number ≡ 0 → PutDone g path bytes image after
+    pub refused : (r .number ≡ 0 → ⊥) → after ≡ image
+    pub demand : Demand3 P N image (numbersOf owners) path bytes (r .number ≡ 0) (r ≡ record { number = 17; page = 0 }) after
 
   -- 0: an accepted image without the path's file, all else as before; else no byte changed
   pub record Deletes (path : List ℕ) (r : OwfsAnswer) (after : List ℕ) : Type 0 where

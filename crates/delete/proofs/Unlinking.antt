@@ -27,10 +27,17 @@ use Rattle.marks.specs.ReleaseLaws.{represents-release}
 use Rattle.slots.specs.Slots.{HasSpan, Rewrites, entryFrom}
 use Rattle.stages.specs.OneEdit as edit
 use Rattle.stages.specs.PageStage as stage
-use Rattle.delete.specs.Deletes.{Deletable}
+use Rattle.lookup.specs.Targets.{FileAt}
+use Rattle.volume.specs.Edits.{TableOf}
+use Rattle.delete.specs.Deletes.{HasFile}
 
-module _ (g : Geometry) (image table : List ℕ) (fit : Fit g image) (q : Path) (s : Seat) (e : Entry) (D : Deletable g image table q s e) where
-  open Deletable D using (bytes, path, formed, tree, accepted, table-is, place, there, label, links, found, chain, at)
+module _ (g : Geometry) (image table : List ℕ) (fit : Fit g image) (s : Seat) (e : Entry) (H : HasFile g image table s e) where
+  open HasFile H using (known, path, file)
+  open TableOf known using (bytes, tree, accepted, table-is)
+  open FileAt file using (formed, place, there, label, links, found, chain, at)
+
+  abbrev q : Path
+  q = file .to
 
   abbrev k : ℕ
   k = fileKey q
@@ -61,7 +68,7 @@ module _ (g : Geometry) (image table : List ℕ) (fit : Fit g image) (q : Path) 
   table-left : (u : List ℕ) → Releases g (viewOf g image) (e .start) table u → Represents u (edit.left g image removal)
   unfolding Releases removal
   table-left u r = subst (λ (t : List ℕ). Represents t (edit.left g image removal)) (sym (r links chain)) (represents-release table (used tree) (edit.left g image removal) (pages links)
-      (rw table-is (represents-owners (g .pages) tree (well .holds .apart))) (pages-then g path image bytes tree well q formed place there label links found))
+      (subst (λ (t : List ℕ). Represents t (used tree)) (sym table-is) (represents-owners (g .pages) tree (well .holds .apart))) (pages-then g path image bytes tree well q formed place there label links found))
 
   -- ---- the directory's page
   pub has-entry : HasSpan g (viewOf g image) (s .page) (entryFrom g s (s .at)) (entryFrom g s (s .at + 1)) 0

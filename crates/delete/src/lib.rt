@@ -2,9 +2,7 @@
 use entries::Seat;
 use geometry::Geometry;
 use geometry::Shape;
-use lookup::Resolved;
-use lookup::Spot;
-use path::Parsed;
+use lookup::Target;
 use rules::Entry;
 use volume::Edited;
 use walk::Walk;
@@ -34,24 +32,17 @@ fn delete_path(image: &mut [u8], g: Geometry, path: &[u8], owners: &mut [u16]) -
     requires { ⌜ (length (now owners) ≡ g .pages) × TableOf g (now image) (now owners) ⌝ }
     ensures { λ r. ⌜ PathDeleted g (now (image .entry)) (now (path .entry)) r (now (image .exit)) ⌝ }
 {
-    match path::parse(path) {
-        Parsed::Malformed => Edited::Refused(14, 0),
-        Parsed::Path(names, name, extension) => match lookup::resolve(image, g, 0, path, 0, names) {
-            Resolved::Absent => Edited::Refused(15, 0),
-            Resolved::Directory(start) => {
-                let key = entries::key_of(name, extension);
-                match lookup::find_place(image, g, start, key) {
-                    Spot::Absent => Edited::Refused(15, 0),
-                    Spot::At(seat, e) => {
-                        if 127 < e.extension {
-                            return Edited::Refused(16, 0);
-                        }
-                        unlink(image, g, seat, e, owners);
-                        Edited::Done
-                    }
-                }
+    match lookup::find_file(image, g, path) {
+        Target::Malformed => Edited::Refused(14, 0),
+        Target::Nowhere => Edited::Refused(15, 0),
+        Target::Absent(_, _, _) => Edited::Refused(15, 0),
+        Target::At(seat, e) => {
+            if 127 < e.extension {
+                return Edited::Refused(16, 0);
             }
-        },
+            unlink(image, g, seat, e, owners);
+            Edited::Done
+        }
     }
 }
 

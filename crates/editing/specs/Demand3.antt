@@ -142,3 +142,14 @@ demand-3 P N image table path bytes b p c = record {
   least = λ o. call-least P N image table path bytes o b p c;
   keeps = λ o. call-keeps P N image table path bytes o b p c;
 }
+
+-- and as another answer says it
+pub demand-said : (P N : ℕ) (image table path bytes : List ℕ) {isDone isFull saysDone saysFull : Type 0} {after : List ℕ} → (saysDone ↔ isDone) → (saysFull ↔ isFull)
+    → Demand3 P N image table path bytes isDone isFull after → Demand3 P N image table path bytes saysDone saysFull after
+demand-said P N image table path bytes d f k = record {
+  exactly = λ o. (λ x. k .exactly o .0 (d .0 x), λ x. d .1 (k .exactly o .1 x));
+  refused = λ o. (λ x. k .refused o .0 (f .0 x), λ x. f .1 (k .refused o .1 x));
+  candidate = λ o x. k .candidate o (d .0 x);
+  least = λ o x. k .least o (d .0 x);
+  keeps = λ o x. k .keeps o (d .0 x);
+}

@@ -17,10 +17,6 @@ use Rattle.lookup.specs.declared.Target.{Target}
 use Rattle.lookup.specs.declared.Target.the-variants as target
 use Rattle.lookup.specs.Searches.{TreeAt, PlaceOf}
 
-pub record IsAccepted (g : Geometry) (v : View) : Type 0 where
-  pub tree : Image
-  pub accepted : check g v ≡ ok tree
-
 module _ (g : Geometry) (v : View) (path : List ℕ) (i : Image) where
   -- one of the path's directories is absent
   pub record Nowhere : Type 0 where

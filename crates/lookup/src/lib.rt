@@ -8,8 +8,9 @@ ghost use Prim.Native.Nat.{_+_, _*_, _≤_};
 ghost use lib.ListN.{length};
 ghost use Rattle.geometry.specs.Geometry.{Fit};
 ghost use Rattle.packet.specs.Packet.{viewOf};
+ghost use Rattle.listing.specs.Standing.{Accepted};
 ghost use Rattle.lookup.specs.Searches.{HasTree, Places, Finds, Resolves};
-ghost use Rattle.lookup.specs.Targets.{IsAccepted, Targets};
+ghost use Rattle.lookup.specs.Targets.{Targets};
 
 // The entry that was looked for and its place.
 pub enum Spot {
@@ -103,7 +104,7 @@ pub fn resolve(
 // What stands at a path of an image that is known to be accepted.
 pub fn find_file(image: &[u8], g: Geometry, path: &[u8]) -> Target
     requires { ⌜ Fit g (now image) ⌝ }
-    requires { ⌜ IsAccepted g (viewOf g (now image)) ⌝ }
+    requires { ⌜ Accepted g (viewOf g (now image)) ⌝ }
     ensures { λ r. ⌜ Targets g (viewOf g (now (image .entry))) (now (path .entry)) r ⌝ }
 {
     match path::parse(path) {

@@ -7,8 +7,8 @@ ghost use mathlib.Core.Path.{_≡_};
 ghost use Prim.Native.Nat.{_/_, min};
 ghost use lib.ListN.{length};
 ghost use Rattle.crc16.specs.Crc16.{crc16};
-ghost use Rattle.answers.specs.Answers.{checkAnswer, listAnswer, readAnswer, formatAnswer, deleteAnswer};
-ghost use Rattle.answers.specs.Trees.{AcceptsTree, ListsTree, ReadsTree, Formats, Deletes};
+ghost use Rattle.answers.specs.Answers.{checkAnswer, listAnswer, readAnswer, formatAnswer, putAnswer, deleteAnswer};
+ghost use Rattle.answers.specs.Trees.{AcceptsTree, ListsTree, ReadsTree, Formats, Puts, Deletes};
 
 // The CRC-16 register after the bytes of a slice, not inverted.
 #[no_mangle]
@@ -98,6 +98,25 @@ fn format_over(
     answers::tell_answer(answer)
 }
 
+// Puts bytes at a path over such a table.
+fn put_over(
+    size: u32,
+    pages: u32,
+    image: &mut [u8],
+    path: &[u8],
+    bytes: &[u8],
+    table: &mut [u16],
+    owners: &mut [u8],
+) -> OwfsAnswer
+    requires { ⌜ length (now table) ≡ min (length (now owners) / 2) 65535 ⌝ }
+    ensures { λ r. ⌜ (r, now (image .exit), now (owners .exit)) ≡ putAnswer size pages (now (image .entry)) (now (owners .entry)) (now (path .entry)) (now (bytes .entry)) ⌝ }
+{
+    table::load(owners, table);
+    let answer = put::put(image, size, pages, path, bytes, table);
+    table::store(table, owners);
+    answers::tell_answer(answer)
+}
+
 // Deletes the file at a path over such a table.
 fn delete_over(
     size: u32,
@@ -177,6 +196,24 @@ pub extern "C" fn owfs_format(
     let n = count(owners.len());
     let mut table = [0u16; 65535];
     format_over(size, pages, image, &mut table[..n], owners, local)
+}
+
+// Puts bytes at a path: makes the file or replaces it. Fills the owner table.
+#[no_mangle]
+pub extern "C" fn owfs_put(
+    size: u32,
+    pages: u32,
+    image: &mut [u8],
+    path: &[u8],
+    bytes: &[u8],
+    owners: &mut [u8],
+) -> OwfsAnswer
+    ensures { λ r. ⌜ (r, now (image .exit), now (owners .exit)) ≡ putAnswer size pages (now (image .entry)) (now (owners .entry)) (now (path .entry)) (now (bytes .entry)) ⌝ }
+    ensures { λ r. ⌜ Puts size pages (now (image .entry)) (now (owners .entry)) (now (path .entry)) (now (bytes .entry)) r (now (image .exit)) ⌝ }
+{
+    let n = count(owners.len());
+    let mut table = [0u16; 65535];
+    put_over(size, pages, image, path, bytes, &mut table[..n], owners)
 }
 
 // Deletes the file at a path. Fills the owner table.

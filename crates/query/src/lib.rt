@@ -2,9 +2,7 @@
 use geometry::Geometry;
 use geometry::Shape;
 use listing::Look;
-use lookup::Resolved;
-use lookup::Search;
-use path::Parsed;
+use lookup::Target;
 use rules::Line;
 use walk::Walk;
 ghost use mathlib.Core.Path.{_≡_};
@@ -77,18 +75,11 @@ fn read_path(image: &[u8], g: Geometry, path: &[u8], out: &mut [u8]) -> Length
     requires { ⌜ Accepted g (viewOf g (now image)) ⌝ }
     ensures { λ r. ⌜ PathRead g (viewOf g (now (image .entry))) (now (path .entry)) (now (out .entry)) r (now (out .exit)) ⌝ }
 {
-    match path::parse(path) {
-        Parsed::Malformed => Length::Refused(14, 0),
-        Parsed::Path(names, name, extension) => match lookup::resolve(image, g, 0, path, 0, names) {
-            Resolved::Absent => Length::Refused(15, 0),
-            Resolved::Directory(start) => {
-                let key = entries::key_of(name, extension);
-                match lookup::find_entry(image, g, start, key) {
-                    Search::Absent => Length::Refused(15, 0),
-                    Search::Found(e) => read_chain(image, g, e.start, out),
-                }
-            }
-        },
+    match lookup::find_file(image, g, path) {
+        Target::Malformed => Length::Refused(14, 0),
+        Target::Nowhere => Length::Refused(15, 0),
+        Target::Absent(_, _, _) => Length::Refused(15, 0),
+        Target::At(_, e) => read_chain(image, g, e.start, out),
     }
 }
 

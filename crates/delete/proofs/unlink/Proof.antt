@@ -7,23 +7,23 @@ use Rattle.delete.proofs.unlink.Statement.{statement}
 use Rattle.delete.proofs.unlink.Tie as tie
 
 release-requires : tie.Need-release-requires
-release-requires c κs = let s = c .before .before .before .before .pre in (s .0, (known-chain _ _ _ (s .0) _ _ _ (s .1 .1 .file), s .1 .0))
+release-requires c κs = let s = c .before .before .before .before .pre in (s .0, (known-chain _ _ _ (s .0) _ _ (s .1 .1), s .1 .0))
 
 exchange-requires : tie.Need-exchange-requires
-exchange-requires c κs = let s = c .before .before .before .before .before .before .before .before .before .before .pre in let d = s .1 .1 .file in (s .0, (d .at .fits .inside, has-entry _ _ _ (s .0) _ _ _ d))
+exchange-requires c κs = let s = c .before .before .before .before .before .before .before .before .before .before .pre in let d = s .1 .1 in (s .0, (d .file .at .fits .inside, has-entry _ _ _ (s .0) _ _ d))
 
 write-map-requires : tie.Need-write-map-requires
 write-map-requires c κs =
     let s = c .before .before .before .before .before .before .before .before .before .before .before .before .before .before .before .pre in
-    let d = s .1 .1 .file in
-    let b = staged _ _ _ (s .0) _ _ _ d _ (c .before .before .before .before .exchange .ensures) in
-    (fit₂ _ _ (removal _ _ _ (s .0) _ _ _ d) _ b, has-root _ _ (removal _ _ _ (s .0) _ _ _ d) _ b)
+    let d = s .1 .1 in
+    let b = staged _ _ _ (s .0) _ _ d _ (c .before .before .before .before .exchange .ensures) in
+    (fit₂ _ _ (removal _ _ _ (s .0) _ _ d) _ b, has-root _ _ (removal _ _ _ (s .0) _ _ d) _ b)
 
 returns : tie.Need-returns
 unfolding Unlinks
-returns c = λ q d.
+returns c = λ d.
     let s = c .before .before .before .before .before .before .before .before .before .before .before .before .before .before .before .before .before .before .pre in
-    unlinked _ _ _ (s .0) q _ _ d _ _ _ (c .before .before .before .before .before .before .before .before .before .before .before .before .before .release .ensures) (staged _ _ _ (s .0) q _ _ d _ (c .before .before .before .before .before .before .before .exchange .ensures)) (c .before .before .write-map .ensures)
+    unlinked _ _ _ (s .0) _ _ d _ _ _ (c .before .before .before .before .before .before .before .before .before .before .before .before .before .release .ensures) (staged _ _ _ (s .0) _ _ d _ (c .before .before .before .before .before .before .before .exchange .ensures)) (c .before .before .write-map .ensures)
 
 pub unlink-spec : {M : Type 1} → statement M
 unlink-spec =

@@ -13,14 +13,14 @@ resolve-requires : tie.Need-resolve-requires
 resolve-requires c κs =
     let s = c .before .before .before .before .before .before .pre in
     let P = well-formed _ _ _ _ _ (c .before .before .before .parse .ensures) (c .before .names .given .1) in
-    (s .0, (record { tree = s .1 .tree .tree; at = root-tree _ _ (s .1 .tree) (s .1 .accepted) }, omega (arith, P .room)))
+    (s .0, (record { tree = s .1 .image .tree; at = root-tree _ _ (s .1 .image) (s .1 .accepted) }, omega (arith, P .room)))
 
 find-place-requires : tie.Need-find-place-requires
 find-place-requires c κs =
     let s = c .before .before .before .before .before .before .before .before .before .before .before .pre in
     let a = c .before .before .before .before .before .before .before .before .before .before .before .args in
     let P = well-formed _ _ _ _ _ (c .before .before .before .before .before .before .before .before .parse .ensures) (c .before .before .before .before .before .before .names .given .1) in
-    (s .0, has-tree (a .g) (viewOf (a .g) (a .image .now)) (a .path .now) (s .1 .tree) _ _ _ P (c .before .before .before .before .resolve .result) (c .before .before .before .before .resolve .ensures (s .1 .tree .tree) (root-tree _ _ (s .1 .tree) (s .1 .accepted)) atRoot theRoot) _ (c .before .before .start .given .1))
+    (s .0, has-tree (a .g) (viewOf (a .g) (a .image .now)) (a .path .now) (s .1 .image) _ _ _ P (c .before .before .before .before .resolve .result) (c .before .before .before .before .resolve .ensures (s .1 .image .tree) (root-tree _ _ (s .1 .image) (s .1 .accepted)) atRoot theRoot) _ (c .before .before .start .given .1))
 
 returns : tie.Need-returns
 returns c = λ i h. malformed _ _ (c .before .before .parse .ensures) (c .enum-told .given .1)

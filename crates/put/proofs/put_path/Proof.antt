@@ -6,7 +6,7 @@ use Rattle.put.proofs.put_path.Statement.{statement}
 use Rattle.put.proofs.put_path.Tie as tie
 
 find-file-requires : tie.Need-find-file-requires
-find-file-requires c κs = let T = c .before .before .before .before .before .pre .1 .1 in (c .before .before .before .before .before .pre .0, record { tree = T .tree; accepted = T .accepted })
+find-file-requires c κs = let T = c .before .before .before .before .before .pre .1 .1 in (c .before .before .before .before .before .pre .0, record { image = T .tree; accepted = T .accepted })
 
 insert-file-requires : tie.Need-insert-file-requires
 insert-file-requires c κs =
