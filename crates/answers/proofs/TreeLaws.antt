@@ -1,6 +1,6 @@
 -- An answer has the number 0 exactly when the call is done, so what the calls state of the tree holds of the exported answers.
 use mathlib.Core.Path.{_≡_, refl, ap, ap₂, sym, _∙_, subst}
-use mathlib.Core.Logic.{_↔_, _⊎_, inl, inr}
+use mathlib.Core.Logic.{_↔_, inl, inr}
 use mathlib.Core.List.{List}
 use Prim.Native.Nat.{ℕ, _≤_}
 use native.Mathlib.Omega.{arith}
@@ -25,11 +25,9 @@ use Rattle.rules.specs.Delete.{delete}
 use Rattle.rules.specs.Calls.{readBytes, lengthOf, filled, inGeometry, asked, done as doneCall, changed, checkCall, listCall, readCall, formatCall, putCall, deleteCall}
 use Rattle.rules.specs.Candidate.{Demand3}
 use Rattle.rules.specs.CallLaws.{asked-fits, asked-wrong, format-refused, put-refused, delete-refused}
+use Rattle.rules.specs.Demand2.{Formatted, Deleted, PutDone}
 use Rattle.reading.specs.CheckCall.{asked-formed, asked-answered}
-use Rattle.editing.specs.FormatLaws.{Formatted}
 use Rattle.editing.specs.CallEdits.{format-call, put-call, delete-call}
-use Rattle.editing.specs.DeleteLaws.{Deleted}
-use Rattle.editing.specs.PutDone.{PutDone}
 use Rattle.editing.specs.Demand3.{demand-said, demand-3}
 use Rattle.format.proofs.Calling.{format-number}
 use Rattle.table.specs.Table.{numbersOf}

@@ -13,10 +13,7 @@ use Rattle.rules.specs.Result.{Res, ok, err}
 use Rattle.rules.specs.Listing.{linesOf, lineAt}
 use Rattle.rules.specs.Calls.{readBytes, lengthOf, filled}
 use Rattle.rules.specs.Candidate.{Demand3}
-use Rattle.reading.specs.CheckCall.{WellFormedAt}
-use Rattle.editing.specs.FormatLaws.{Formatted}
-use Rattle.editing.specs.DeleteLaws.{Deleted}
-use Rattle.editing.specs.PutDone.{PutDone}
+use Rattle.rules.specs.Demand2.{WellFormedAt, Formatted, Deleted, PutDone}
 use Rattle.table.specs.Table.{numbersOf}
 use Rattle.answers.specs.declared.OwfsTotals.{OwfsTotals}
 use Rattle.answers.specs.declared.OwfsEntry.{OwfsEntry}

@@ -1,9 +1,9 @@
 -- The starred examples of document 01, "Examples with their numbers", over the rules: one list, one claim, by computation.
 use mathlib.Core.Path.{_≡_, refl}
-use mathlib.Core.Bool.{Bool, true, false}
-use mathlib.Core.List.{List, [], _∷_, _++_, map}
+use mathlib.Core.Bool.{true}
+use mathlib.Core.List.{List, [], _∷_, map}
 use Prim.Native.Nat.{ℕ, _+_}
-use lib.ListN.{length, take, drop, replicate}
+use lib.ListN.{take, drop, replicate}
 use Rattle.crc16.specs.Crc16.{flipBit, bitStep, bitSteps, byteStep, crc16}
 use Rattle.geometry.specs.declared.Geometry.{Geometry}
 use Rattle.geometry.specs.Choose.{choose}
@@ -15,7 +15,6 @@ use Rattle.rules.specs.Result.{Res, ok, err, andThen, refuse-unless}
 use Rattle.rules.specs.PageSets.{hit, freePages}
 use Rattle.rules.specs.Chain.{packetAt, anyPage, walk}
 use Rattle.rules.specs.Names.{nameByte, validName, fileNumber, directoryNumber}
-use Rattle.rules.specs.Tree.{Image}
 use Rattle.rules.specs.Control.{marker, rootControl, subControl, headOf, wholeEntries, rootPage, subPage}
 use Rattle.rules.specs.Bitmap.{bitAt, lowestDifference, bitmapFrom}
 use Rattle.rules.specs.Check.{judgeBits, judgeLabel, judgeFile, judgeEntry, judgeEntries, judgeDirectory, judgeSub, judgeMap, scan, check}
@@ -24,7 +23,7 @@ use Rattle.rules.specs.Listing.{linesOf, lineAt}
 use Rattle.rules.specs.Paths.{pathOf, directoryAt}
 use Rattle.rules.specs.Writes.{edited, editWrites}
 use Rattle.rules.specs.Format.{emptyImage, formatWrites, format}
-use Rattle.rules.specs.Put.{writable, keptPages, putEdit, plainEdit, put}
+use Rattle.rules.specs.Put.{writable, keptPages, extraPages, itemsAfter, putEdit, plainEdit, put}
 use Rattle.rules.specs.Delete.{present, deleteEdit, delete}
 
 -- P 32 and N pages
@@ -124,5 +123,5 @@ cases =
     ∷ []
 
 pub all-as-printed : map (λ (c : Case). c .given) cases ≡ map (λ (c : Case). c .printed) cases
-unfolding cases formatted withDemo without usedIn entryPages fileOf threeFiles fourFiles flipBit bitStep bitSteps byteStep crc16 choose widthFor right geometryOf dataCapacity entrySize controlSize firstEntries laterEntries bitmapSize pageOf withPage checkOf pointerOf isPacket packetOf viewOf packetBytes written writePage play andThen refuse-unless hit freePages packetAt anyPage walk nameByte validName fileNumber directoryNumber marker rootControl subControl headOf wholeEntries rootPage subPage bitAt lowestDifference bitmapFrom judgeBits judgeLabel judgeFile judgeEntry judgeEntries judgeDirectory judgeSub judgeMap scan check lineAt pathOf directoryAt edited editWrites emptyImage formatWrites format writable keptPages putEdit plainEdit put present deleteEdit delete
+unfolding cases formatted withDemo without usedIn entryPages fileOf threeFiles fourFiles flipBit bitStep bitSteps byteStep crc16 choose widthFor right geometryOf dataCapacity entrySize controlSize firstEntries laterEntries bitmapSize pageOf withPage checkOf pointerOf isPacket packetOf viewOf packetBytes written writePage play andThen refuse-unless hit freePages packetAt anyPage walk nameByte validName fileNumber directoryNumber marker rootControl subControl headOf wholeEntries rootPage subPage bitAt lowestDifference bitmapFrom judgeBits judgeLabel judgeFile judgeEntry judgeEntries judgeDirectory judgeSub judgeMap scan check lineAt pathOf directoryAt edited editWrites emptyImage formatWrites format writable keptPages extraPages itemsAfter putEdit plainEdit put present deleteEdit delete
 all-as-printed = refl

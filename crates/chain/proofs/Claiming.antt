@@ -1,13 +1,13 @@
 -- A chain claimed page by page: whatever answers what is left of the walk answers the whole.
-use mathlib.Core.Path.{_≡_, refl, ap, ap₂, sym, _∙_, subst}
+use mathlib.Core.Path.{_≡_, refl, ap, ap₂, sym, _∙_}
 use mathlib.Core.Bool.{Bool, true, false, not}
 use mathlib.Core.List.{List, [], _∷_, _++_, append-nil}
-use Prim.Native.Nat.{ℕ, zero, suc, _+_, _-_, _*_, _≤_, _<_}
+use Prim.Native.Nat.{ℕ, suc, _+_, _-_, _*_, _≤_, _<_}
 use native.Mathlib.Decide.{decLt}
 use native.Mathlib.Omega.{arith}
-use lib.Dec.{ltb, eqb}
+use lib.Dec.{eqb}
 use lib.ListN.{length, getD, set, length-append}
-use borrow.Author.Tests.{eqb-true, eqb-false, ltb-true, lt-ltb, eq-eqb, ne-eqb, not-true, not-false}
+use borrow.Author.Tests.{eqb-true, ltb-true, lt-ltb, eq-eqb, ne-eqb, not-false}
 use Rattle.geometry.specs.declared.Geometry.{Geometry}
 use Rattle.geometry.specs.Choose.{choose}
 use Rattle.geometry.specs.ChooseLaws.{choose-true, choose-false}
@@ -15,17 +15,15 @@ use Rattle.geometry.specs.Geometry.{Fit}
 use Rattle.geometry.specs.Page.{pageOf}
 use Rattle.geometry.specs.PageLaws.{page-length}
 use Rattle.packet.specs.Packet.{View, viewOf}
-use Rattle.packet.specs.Reading.{Right, right-packet}
+use Rattle.packet.specs.Reading.{right-packet}
 use Rattle.rules.specs.Result.{Res, ok, err, andThen, refuse-unless}
 use Rattle.rules.specs.ResultLaws.{ok-inj, then-ok, then-err, refuse-true, refuse-false, on-then, on-refuse}
 use Rattle.rules.specs.PageSets.{count, mem}
 use Rattle.rules.specs.PageSetLaws.{within-length, free-true, mem-true}
-use Rattle.rules.specs.Chain.{Link, link, pages, content, Body, packetAt, Test, walk}
+use Rattle.rules.specs.Chain.{Link, link, pages, content, Body, Test, walk}
 use Rattle.rules.specs.ChainLaws.{packet-inv}
-use Rattle.rules.specs.Owners.{own}
-use Rattle.rules.specs.OwnerLaws.{nonzero, nonzero-pos, Represents, getD-past, represents-within, represents-set, represents-length, free-represents, taken, represents-taken, inUse, inUse-room}
+use Rattle.rules.specs.OwnerLaws.{nonzero-pos, Represents, getD-past, represents-within, represents-set, represents-length, free-represents, taken, inUse, inUse-room}
 use Rattle.chain.specs.declared.Cursor.{Cursor}
-use Rattle.chain.specs.declared.Entered.{Entered}
 use Rattle.chain.specs.declared.Entered.the-variants as enter
 use Rattle.chain.specs.declared.Claim.{Claim}
 use Rattle.chain.specs.declared.Claim.the-variants as claim

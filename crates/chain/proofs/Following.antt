@@ -1,7 +1,7 @@
 -- A chain that stands, followed step by step: each step passes its next page.
 use mathlib.Core.Path.{_≡_, refl, ap, ap₂, sym, _∙_, subst}
 use mathlib.Core.List.{List, [], _∷_, _++_, append-assoc, append-nil}
-use Prim.Native.Nat.{ℕ, zero, suc, _+_, _*_, _≤_, _<_}
+use Prim.Native.Nat.{ℕ, suc, _+_, _*_, _≤_, _<_}
 use native.Mathlib.Omega.{arith}
 use lib.ListN.{length, take, drop, length-take, length-append}
 use borrow.Author.Tests.{lt-ltb}
@@ -10,7 +10,7 @@ use Rattle.geometry.specs.ChooseLaws.{choose-true}
 use Rattle.geometry.specs.Geometry.{Fit}
 use Rattle.geometry.specs.Page.{pageOf}
 use Rattle.packet.specs.Packet.{Packet, bad, good, View, viewOf}
-use Rattle.packet.specs.Reading.{Right, right-packet}
+use Rattle.packet.specs.Reading.{right-packet}
 use Rattle.rules.specs.PageSets.{count}
 use Rattle.rules.specs.PageSetLaws.{hit-same, range-of, within-length}
 use Rattle.rules.specs.Chain.{Link, link, pages, first, content, Test}

@@ -1,12 +1,12 @@
 -- A step and a page entered, case by case, as the code meets them.
 use mathlib.Core.Path.{_≡_, refl, ap, ap₂, sym, _∙_, subst}
-use mathlib.Core.Bool.{Bool, true, false, not}
+use mathlib.Core.Bool.{true, false, not}
 use mathlib.Core.List.{List}
 use Prim.Native.Nat.{ℕ, zero, suc, _+_, _≤_, _<_}
 use native.Mathlib.Omega.{arith}
 use lib.Dec.{ltb, eqb}
 use lib.ListN.{length, getD, take, drop}
-use borrow.Author.Tests.{lt-ltb, le-ltb, ltb-true, eq-eqb, ne-eqb}
+use borrow.Author.Tests.{lt-ltb, le-ltb, ltb-true, eq-eqb}
 use Rattle.geometry.specs.declared.Geometry.{Geometry}
 use Rattle.geometry.specs.ChooseLaws.{choose-true, choose-false, on-choose}
 use Rattle.geometry.specs.Geometry.{Fit}
@@ -17,16 +17,14 @@ use Rattle.packet.specs.declared.Judged.the-variants.{Whole, Bad}
 use Rattle.packet.specs.Judged.{frameOf, judged}
 use Rattle.packet.specs.Packet.{Packet, bad, good, View, packetOf, viewOf}
 use Rattle.packet.specs.Reading.{Right, right-packet, frame-right}
-use Rattle.rules.specs.Result.{Res, ok, err, andThen, refuse-unless}
+use Rattle.rules.specs.Result.{ok, err, andThen, refuse-unless}
 use Rattle.rules.specs.ResultLaws.{then-ok, then-err, refuse-true, refuse-false}
-use Rattle.rules.specs.Chain.{Body, packetAt, Test}
+use Rattle.rules.specs.Chain.{packetAt, Test}
 use Rattle.rules.specs.ChainLaws.{packet-good}
 use Rattle.rules.specs.OwnerLaws.{getD-past}
 use Rattle.directory.specs.Faults.{faultAt}
 use Rattle.chain.specs.declared.Cursor.{Cursor}
-use Rattle.chain.specs.declared.Step.{Step}
 use Rattle.chain.specs.declared.Step.the-variants as step
-use Rattle.chain.specs.declared.Entered.{Entered}
 use Rattle.chain.specs.declared.Entered.the-variants as enter
 use Rattle.chain.specs.Steps.{after, passed, stepOf}
 use Rattle.chain.specs.Claims.{IsGood, isOwned, enterOf, entered}

@@ -5,7 +5,7 @@ use Prim.Native.Nat.{ℕ, _<_}
 use lib.ListN.{length, getD, drop}
 use Rattle.geometry.specs.declared.Geometry.{Geometry}
 use Rattle.geometry.specs.declared.Shape.the-variants.{Fits}
-use Rattle.geometry.specs.Geometry.{geometryOf, Fit}
+use Rattle.geometry.specs.Geometry.{geometryOf}
 use Rattle.packet.specs.Packet.{viewOf}
 use Rattle.rules.specs.Result.{Res, err}
 use Rattle.rules.specs.ResultLaws.{then-err}
@@ -16,7 +16,7 @@ use Rattle.rules.specs.CallLaws.{delete-refused}
 use Rattle.reading.specs.CheckCall.{bytes-known}
 use Rattle.editing.specs.CallEdits.{delete-call}
 use Rattle.volume.specs.declared.Edited.{Edited}
-use Rattle.volume.specs.Edits.{editTold, leaves, EditLeaves}
+use Rattle.volume.specs.Edits.{editTold, EditLeaves}
 use Rattle.volume.proofs.EditLaws.{changed-leaves}
 use Rattle.delete.specs.Deletes.{DeleteDone}
 

@@ -1,15 +1,14 @@
 -- The whole delete: the file's pages released, its entry taken from its page, the bitmap written.
-use mathlib.Core.Path.{_≡_, ap, ap₂, sym, _∙_, subst}
-use mathlib.Core.List.{List, [], _∷_, _++_}
-use Prim.Native.Nat.{ℕ, _+_, _*_, _<_}
+use mathlib.Core.Path.{_≡_, sym, subst}
+use mathlib.Core.List.{List, [], _∷_}
+use Prim.Native.Nat.{ℕ, _+_}
 use native.Mathlib.Omega.{arith}
 use lib.ListN.{length}
 use Rattle.geometry.specs.declared.Geometry.{Geometry}
-use Rattle.geometry.specs.Geometry.{entrySize, Fit}
-use Rattle.packet.specs.Packet.{good, View, viewOf, play}
+use Rattle.geometry.specs.Geometry.{Fit}
+use Rattle.packet.specs.Packet.{viewOf, play}
 use Rattle.rules.specs.declared.Entry.{Entry}
-use Rattle.rules.specs.PageSets.{count, Within}
-use Rattle.rules.specs.Chain.{Link, pages}
+use Rattle.rules.specs.Chain.{pages}
 use Rattle.rules.specs.Tree.{innerPages, used}
 use Rattle.rules.specs.Control.{theRoot}
 use Rattle.rules.specs.WellFormed.{WellFormed}
@@ -22,7 +21,7 @@ use Rattle.editing.specs.Contexts.{locate}
 use Rattle.editing.specs.DeleteLaws.{the-edit, pages-then}
 use Rattle.chain.specs.KnownChain.{KnownChain}
 use Rattle.entries.specs.declared.Seat.{Seat}
-use Rattle.marks.specs.MapPages.{HasRoot, WritesMap, Releases}
+use Rattle.marks.specs.MapPages.{WritesMap, Releases}
 use Rattle.marks.specs.ReleaseLaws.{represents-release}
 use Rattle.slots.specs.Slots.{HasSpan, Rewrites, entryFrom}
 use Rattle.stages.specs.OneEdit as edit

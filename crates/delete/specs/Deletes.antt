@@ -8,10 +8,10 @@ use Rattle.geometry.specs.declared.Shape.the-variants.{Fits}
 use Rattle.geometry.specs.Geometry.{geometryOf}
 use Rattle.packet.specs.Packet.{viewOf}
 use Rattle.rules.specs.declared.Entry.{Entry}
-use Rattle.rules.specs.Result.{Res, ok, err}
+use Rattle.rules.specs.Result.{ok, err}
 use Rattle.rules.specs.Put.{plainEdit}
 use Rattle.rules.specs.Delete.{deleteEdit, delete}
-use Rattle.editing.specs.DeleteLaws.{Deleted}
+use Rattle.rules.specs.Demand2.{Deleted}
 use Rattle.entries.specs.declared.Seat.{Seat}
 use Rattle.lookup.specs.Targets.{FileAt}
 use Rattle.volume.specs.declared.Edited.{Edited}

@@ -1,22 +1,20 @@
 -- Control fields as the code reads them.
-use mathlib.Core.Path.{_≡_, refl, sym, ap, ap₂, _∙_}
+use mathlib.Core.Path.{_≡_, refl, sym, ap, _∙_}
 use mathlib.Core.Bool.{Bool, true, false}
-use mathlib.Core.List.{List, [], _∷_}
+use mathlib.Core.List.{List}
 use Prim.Native.Nat.{ℕ, zero, suc, _+_, _-_, _*_, _%_, _≤_, _<_}
 use native.Mathlib.Omega.{arith}
-use lib.Dec.{leb, eqb}
-use lib.ListN.{length, getD, take, drop, length-drop, drop-of-length-le}
+use lib.ListN.{length, getD, take, drop, length-drop}
 use lib.Seq.{take-take, drop-drop}
 use borrow.Author.Tests.{le-leb, lt-leb, lt-ltb, le-ltb, eq-eqb, ne-eqb}
 use Rattle.geometry.specs.declared.Geometry.{Geometry}
-use Rattle.geometry.specs.Choose.{choose}
 use Rattle.geometry.specs.ChooseLaws.{choose-true, choose-false}
 use Rattle.geometry.specs.Geometry.{controlSize}
 use Rattle.geometry.specs.ListLaws.{drop-take}
 use Rattle.geometry.specs.Number.{number}
-use Rattle.rules.specs.Result.{Res, ok, err, andThen, refuse-unless}
+use Rattle.rules.specs.Result.{andThen, refuse-unless}
 use Rattle.rules.specs.Chain.{anyPage}
-use Rattle.rules.specs.Control.{marker, Above, controlAt, fieldAt, localAllowed, placeZeros, headOf, mapStart, mapCount, wholeEntries, rootPage, backReference, subPage}
+use Rattle.rules.specs.Control.{marker, Above, controlAt, fieldAt, placeZeros, headOf, rootPage, subPage}
 use Rattle.directory.specs.declared.control.Root.{Root}
 use Rattle.directory.specs.declared.control.Root.the-variants.{Local, Remote, Refused}
 use Rattle.directory.specs.declared.control.Kind.{Kind}

@@ -1,11 +1,10 @@
 -- Entries as the code reads and writes them.
-use mathlib.Core.Path.{_≡_, refl, sym, ap, ap₂, _∙_}
-use mathlib.Core.Bool.{Bool, true, false, not, _||_}
+use mathlib.Core.Path.{_≡_, refl, sym, ap, _∙_}
+use mathlib.Core.Bool.{Bool, true, false, not}
 use mathlib.Core.List.{List, [], _∷_, _++_, append-assoc}
-use Prim.Native.Nat.{ℕ, zero, suc, _+_, _-_, _*_, _%_, _^_, _≤_, _<_}
+use Prim.Native.Nat.{ℕ, _+_, _*_, _%_, _^_, _≤_, _<_}
 use native.Mathlib.Nat.{pow-le-pow-right}
 use native.Mathlib.Omega.{arith}
-use lib.Dec.{leb, eqb}
 use lib.ListN.{length, getD, take, drop, length-append}
 use lib.Seq.{drop-drop, getD-drop}
 use borrow.Author.Tests.{le-leb, lt-leb, eq-eqb, ne-eqb, not-true, not-false}
@@ -17,7 +16,7 @@ use Rattle.geometry.specs.Page.{overwritten}
 use Rattle.packet.proofs.Fronts.{front, front-more, front-whole}
 use Rattle.rules.specs.declared.Entry.{Entry}
 use Rattle.rules.specs.Result.{andThen, refuse-unless}
-use Rattle.rules.specs.Names.{validName, fileNumber, directoryNumber, extensionNumber, entryOf, entryBytes}
+use Rattle.rules.specs.Names.{validName, fileNumber, directoryNumber, entryOf, entryBytes}
 use Rattle.rules.specs.Control.{wholeEntries}
 use Rattle.rules.specs.Check.{judgeLabel}
 use Rattle.directory.specs.Faults.{faultAt, LabelFault, WholeFault}

@@ -1,19 +1,18 @@
 -- Names byte by byte, as the code reads them.
-use mathlib.Core.Path.{_≡_, refl, sym, ap, _∙_}
-use mathlib.Core.Bool.{Bool, true, false, not, _&&_}
+use mathlib.Core.Path.{_≡_, sym, ap, _∙_}
+use mathlib.Core.Bool.{Bool, true, false, not}
 use mathlib.Core.List.{List, [], _∷_}
 use Prim.Native.Nat.{ℕ, suc, _+_, _-_, _/_, _%_, _≤_, _<_}
 use native.Mathlib.Numerals.{add-one}
 use native.Mathlib.Omega.{arith}
-use lib.Dec.{eqb, ltb}
+use lib.Dec.{ltb}
 use lib.ListN.{length, getD, drop, drop-of-length-le}
 use lib.Seq.{drop-cons}
 use borrow.Author.Tests.{le-leb, lt-leb, lt-ltb, le-ltb, eq-eqb, ne-eqb}
-use Rattle.geometry.specs.Choose.{choose}
 use Rattle.geometry.specs.ChooseLaws.{choose-true, choose-false}
 use Rattle.geometry.specs.Number.{numberBytes}
-use Rattle.rules.specs.PageSets.{bit, hit, count, mem}
-use Rattle.rules.specs.Names.{signs, nameByte, blanks, nameTail, nameBytes, validName}
+use Rattle.rules.specs.PageSets.{hit, count, mem}
+use Rattle.rules.specs.Names.{signs, nameByte, blanks, nameTail, validName}
 
 here : (c x : ℕ) → x ≡ c → hit c x ≡ 1
 unfolding hit

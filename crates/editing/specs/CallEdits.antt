@@ -1,9 +1,8 @@
 -- The calls: an edit that answers 0 leaves what is shown of the edit, in the image that the call leaves.
-use mathlib.Core.Path.{_≡_, refl, subst}
+use mathlib.Core.Path.{_≡_, refl}
 use mathlib.Core.Bool.{Bool}
 use mathlib.Core.List.{List}
 use Prim.Native.Nat.{ℕ}
-use lib.ListN.{length}
 use Rattle.geometry.specs.declared.Geometry.{Geometry}
 use Rattle.geometry.specs.declared.Shape.the-variants.{Fits}
 use Rattle.geometry.specs.ShapeLaws.{fit-of}
@@ -14,9 +13,10 @@ use Rattle.rules.specs.Format.{format}
 use Rattle.rules.specs.Put.{put}
 use Rattle.rules.specs.Delete.{delete}
 use Rattle.rules.specs.Calls.{shape, done, formatCall, putCall, deleteCall}
-use Rattle.editing.specs.FormatLaws.{Formatted, format-done}
-use Rattle.editing.specs.DeleteLaws.{Deleted, delete-done}
-use Rattle.editing.specs.PutDone.{PutDone, put-gives}
+use Rattle.rules.specs.Demand2.{Formatted, Deleted, PutDone}
+use Rattle.editing.specs.FormatLaws.{format-done}
+use Rattle.editing.specs.DeleteLaws.{delete-done}
+use Rattle.editing.specs.PutDone.{put-gives}
 
 -- an edit that answers 0 leaves what the rule tells
 pub done-ok : (P N : ℕ) (image table : List ℕ) (g : Geometry) (r : Res (List ℕ)) → done P N image table g r .0 ≡ ok tt → r ≡ ok (done P N image table g r .1)

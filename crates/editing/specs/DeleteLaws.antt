@@ -16,23 +16,23 @@ use Rattle.rules.specs.PageSetLaws.{same, other, hits, count-append}
 use Rattle.rules.specs.Chain.{Link, pages, linked}
 use Rattle.rules.specs.Tree.{Label, keyOf, Items, end, page, file, dir, startOf, directoryLinks, ownPages, innerPages, allPages, mapPages, Image, used}
 use Rattle.rules.specs.Control.{Above, theRoot, subControl}
-use Rattle.rules.specs.Bitmap.{bitmapOf}
 use Rattle.rules.specs.WellFormed.{packetsBelow, IsDirectory, Entries, WellFormed}
 use Rattle.rules.specs.Paths.{Path, pathOf, fileKey, Found, nothing, aFile, aDirectory, find, atRoot, Place, directoryAt, changeAt}
-use Rattle.rules.specs.Writes.{edited, editWrites}
+use Rattle.rules.specs.Writes.{edited}
 use Rattle.rules.specs.Put.{replace, plainEdit}
 use Rattle.rules.specs.Delete.{remove, present, deleteEdit, delete}
 use Rattle.rules.specs.EditLaws.{remove-own, remove-keys, remove-inner, find-removed, find-beside-removed}
-use Rattle.rules.specs.Candidate.{targetPath, filePath, atPath}
+use Rattle.rules.specs.Candidate.{targetPath}
+use Rattle.rules.specs.Demand2.{shown, Deleted}
 use Rattle.reading.specs.Directory.{all-split}
 use Rattle.reading.specs.Accepted.{accepted-iff}
 use Rattle.editing.specs.Capacity.{entriesHere, PagesHold}
 use Rattle.editing.specs.Contexts.{filledAll, contextPath, all-filled-all, directoryKeys, target-keys, Located, locate}
 use Rattle.editing.specs.ContextStands.{Shaped, shaped-changed}
-use Rattle.editing.specs.EditStands.{DirectoryEdit, EditDone, place-shaped, tree-edited, used-edited, edit-done}
+use Rattle.editing.specs.EditStands.{DirectoryEdit, place-shaped, tree-edited, used-edited, edit-done}
 use Rattle.editing.specs.InsertLaws.{replace-stands}
 use Rattle.editing.specs.PathLaws.{FileKey}
-use Rattle.editing.specs.PathChanges.{shown, shown-directory, same-path, PathsChanged, paths-changed}
+use Rattle.editing.specs.PathChanges.{shown-directory, same-path, PathsChanged, paths-changed}
 use Rattle.editing.specs.FormedPaths.{Formed, formed}
 
 -- ---- the entry removed from its directory
@@ -108,28 +108,7 @@ file-key path q f = omega (arith, f .extension)
 pub target-is : (q : Path) → targetPath q ≡ directoryKeys (q .directories)
 target-is q = target-keys (q .directories) (q .name) (q .extension)
 
--- what a delete leaves: an accepted image without the path's file, all else as it was
-pub record Deleted (g : Geometry) (path image after : List ℕ) : Type 0 where
-  pub before : Image
-  pub accepted : WellFormed g image before
-  pub to : Path
-  pub formed : pathOf path ≡ ok to
-  pub place : Place
-  pub there : directoryAt (to .directories) atRoot theRoot (before .tree) ≡ ok place
-  -- accepted, with the old tree but for that entry; bytes outside the packets written stay
-  pub tree : Image
-  pub tree-is : tree ≡ edited g (to .directories) (deleteEdit to place) before
-  pub done : EditDone g image before tree (editWrites g (bitmapOf g (used before) (before .map)) (deleteEdit to place) before tree) after
-  -- the path's file was there and is gone
-  pub label : Label
-  pub links : List Link
-  pub was : atPath (filePath to) before ≡ aFile label links
-  pub gone : atPath (filePath to) tree ≡ nothing
-  -- every other path shows what it showed: entry, pages, bytes
-  pub others : (ks : List ℕ) → (ks ≡ filePath to → ⊥) → shown g (atPath ks tree) ≡ shown g (atPath ks before)
-  -- the pages of its chain are free
-  pub total : (x : ℕ) → count x (used tree) + count x (pages links) ≡ count x (used before)
-
+-- ---- what a delete leaves
 module _ (g : Geometry) (path image : List ℕ) (bytes : Bytes image) (i : Image) (well : WellFormed g image i) (q : Path) (p : pathOf path ≡ ok q) (place : Place)
     (there : directoryAt (q .directories) atRoot theRoot (i .tree) ≡ ok place) (l : Label) (ls : List Link) (f : find (fileKey q) (place .items) ≡ aFile l ls) where
   abbrev d : Items

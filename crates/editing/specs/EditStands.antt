@@ -3,11 +3,10 @@ use mathlib.Core.Path.{_≡_, refl, ap, ap₂, sym, _∙_, subst}
 use mathlib.Core.List.{List, _++_}
 use Prim.Native.Nat.{ℕ, _+_, _≤_}
 use native.Mathlib.Omega.{arith}
-use lib.ListN.{length, drop}
+use lib.ListN.{length}
 use Rattle.geometry.specs.declared.Geometry.{Geometry}
 use Rattle.geometry.specs.Geometry.{Fit, Valid, firstEntries, laterEntries}
 use Rattle.geometry.specs.Number.{Bytes}
-use Rattle.geometry.specs.Page.{pageOf}
 use Rattle.packet.specs.Packet.{View, viewOf, Write, play}
 use Rattle.rules.specs.PageSets.{count, range, Within}
 use Rattle.rules.specs.PageSetLaws.{count-append, range-le}
@@ -20,10 +19,11 @@ use Rattle.rules.specs.WellFormed.{Stand, packetsBelow, mapPackets, WellFormed}
 use Rattle.rules.specs.Paths.{Site, atRoot, below, Place, changeAt}
 use Rattle.rules.specs.Writes.{changes, backwards, controlOf, mapWrites, Edit, edited, editWrites}
 use Rattle.rules.specs.Put.{plainEdit}
+use Rattle.rules.specs.Demand2.{EditDone}
 use Rattle.reading.specs.PacketLaws.{byte-view}
 use Rattle.reading.specs.Directory.{all-split}
 use Rattle.editing.specs.Capacity.{PagesHold, first-holds, holds-first}
-use Rattle.editing.specs.Plays.{writePages, WritesFit, reach, play-append, length-play, play-fit, bytes-play, view-stays, play-stands, play-same, rest-of-page}
+use Rattle.editing.specs.Plays.{writePages, WritesFit, play-append, length-play, play-fit, bytes-play, view-stays, play-stands, play-same, rest-of-page}
 use Rattle.editing.specs.Standing.{pages-linked, count-directory, count-map, stand-same, fits-join, image-stands}
 use Rattle.editing.specs.DirectoryWrites.{stand-holds, directory-fits, changes-less, changes-fit, changes-stand, count-backwards, backwards-fit, backwards-stand}
 use Rattle.editing.specs.MapWrites.{remap-same, map-standing, map-size, control-length, control-bytes, PartsStand, parts-of, parts-join, map-fits, map-pages, map-holds, map-written}
@@ -40,15 +40,6 @@ pub record DirectoryEdit (g : Geometry) (d e : Items) (chain : List Link) (kept 
   pub own : (x : ℕ) → count x (ownPages d) ≤ count x (ownPages e)
   pub inner : (x : ℕ) → count x (innerPages e) ≡ count x kept + count x (pages chain)
   pub stands : (v w : View) (here : Above) → ((x : ℕ) → 1 ≤ count x kept → w x ≡ v x) → Stand v (packetsBelow g here d) → Stand w (linked chain) → Stand w (packetsBelow g here e)
-
--- what an edit leaves
-pub record EditDone (g : Geometry) (image : List ℕ) (i j : Image) (ws : List Write) (after : List ℕ) : Type 0 where
-  pub wellFormed : WellFormed g after j
-  pub areBytes : Bytes after
-  pub sized : length after ≡ length image
-  pub mapPages-same : mapPages (j .map) ≡ mapPages (i .map)
-  -- in every page the bytes after the packets written there are as before
-  pub rest : (p : ℕ) → drop (reach g p ws) (pageOf g p after) ≡ drop (reach g p ws) (pageOf g p image)
 
 -- the tree and the pages of an edited image
 pub tree-edited : (g : Geometry) (names : List ℕ) (e : Edit) (i : Image) → edited g names e i .tree ≡ changeAt names (λ _. e .after) (i .tree)

@@ -6,14 +6,13 @@ use Prim.Native.Nat.{ℕ, suc, _+_, _-_, _*_, _/_, _≤_, _<_}
 use native.Mathlib.Nat.{mul-le-mul-left}
 use native.Mathlib.Omega.{arith}
 use lib.Dec.{ltb}
-use lib.ListN.{length, drop, length-append}
+use lib.ListN.{length, length-append}
 use borrow.Author.Tests.{ltb-true, ltb-false, le-ltb}
 use Rattle.geometry.specs.declared.Geometry.{Geometry}
 use Rattle.geometry.specs.ChooseLaws.{choose-true, choose-false}
 use Rattle.geometry.specs.Geometry.{Fit, Valid, dataCapacity, bitmapSize}
 use Rattle.geometry.specs.Number.{Bytes}
 use Rattle.geometry.specs.NumberLaws.{bytes-append}
-use Rattle.geometry.specs.Page.{pageOf}
 use Rattle.packet.specs.Packet.{viewOf, Write, write, play}
 use Rattle.rules.specs.Result.{ok, err, andAfter, refuse-unless}
 use Rattle.rules.specs.ResultLaws.{ok-inj, clash, on-refuse, then-ok, then-err, refuse-true, refuse-false}
@@ -29,23 +28,14 @@ use Rattle.rules.specs.WellFormed.{Stand, WellFormed}
 use Rattle.rules.specs.Paths.{nothing}
 use Rattle.rules.specs.Candidate.{atPath}
 use Rattle.rules.specs.Format.{upward, emptyImage, formatWrites, format}
+use Rattle.rules.specs.Demand2.{Formatted}
 use Rattle.reading.specs.ControlLaws.{control-size}
 use Rattle.reading.specs.DirectoryComplete.{pages-fit}
 use Rattle.editing.specs.Capacity.{capacity-least}
-use Rattle.editing.specs.Plays.{writePages, WritesFit, reach, play-append, length-play, play-fit, bytes-play, play-stands, rest-of-page}
+use Rattle.editing.specs.Plays.{writePages, WritesFit, play-append, length-play, play-fit, bytes-play, play-stands, rest-of-page}
 use Rattle.editing.specs.Standing.{pages-linked, image-stands, fits-join}
 use Rattle.editing.specs.MapWrites.{root-bytes, root-length, parts-join}
 use Rattle.editing.specs.NewChains.{spread-fits, upward-within, length-upward}
-
--- what a format leaves
-pub record Formatted (g : Geometry) (local : Bool) (image after : List ℕ) : Type 0 where
-  -- accepted, with the root's page and the bitmap file's alone
-  pub wellFormed : WellFormed g after (emptyImage g local)
-  pub noEntries : emptyImage g local .tree ≡ page 0 end
-  pub sized : length after ≡ length image
-  pub areBytes : Bytes image → Bytes after
-  -- in every page the bytes after the packets written there are as before
-  pub rest : (p : ℕ) → drop (reach g p (formatWrites g (emptyImage g local))) (pageOf g p after) ≡ drop (reach g p (formatWrites g (emptyImage g local))) (pageOf g p image)
 
 abbrev emptyWith : Map → Image
 emptyWith m = record { tree = page 0 end; map = m }

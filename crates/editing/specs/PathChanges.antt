@@ -14,10 +14,11 @@ use Rattle.rules.specs.PageSetLaws.{hit-same, same, other, hits}
 use Rattle.rules.specs.Names.{entryBytes}
 use Rattle.rules.specs.Tree.{Label, keyOf, Items, startOf, ownPages, keys, Image}
 use Rattle.rules.specs.Paths.{Found, nothing, aFile, aDirectory, find}
-use Rattle.rules.specs.Candidate.{lookUp, rootLabel, atPath, chainPages, foundEntry, reads}
-use Rattle.rules.specs.Result.{Res, err}
+use Rattle.rules.specs.Candidate.{lookUp, rootLabel, atPath, foundEntry}
+use Rattle.rules.specs.Result.{err}
 use Rattle.rules.specs.Calls.{bytesOf}
 use Rattle.rules.specs.Writes.{sameList}
+use Rattle.rules.specs.Demand2.{shown}
 use Rattle.editing.specs.DirectoryWrites.{same-list}
 use Rattle.editing.specs.Contexts.{Context, gap, afterPage, afterFile, afterDirectory, filled, gapLabel, filledAll, contextPath, start-filled}
 use Rattle.editing.specs.ContextStands.{keys-filled, own-filled, Shaped, shaped-in, shaped-at}
@@ -97,16 +98,7 @@ same-path {C = C} ks js f n = go (sameList ks js) refl
     go true e = f (same-list ks js e)
     go false e = n (λ q. false≢true (sym e ∙ subst (λ (z : List ℕ). sameList ks z ≡ true) q (list-refl ks)))
 
--- ---- what a path shows: the bytes of its entry, the pages of its chain, what it reads, and what a read of it answers
-pub record Shown : Type 0 where
-  pub entry : List ℕ
-  pub pages : List ℕ
-  pub bytes : List ℕ
-  pub answer : Res (List ℕ)
-
-abbrev pub shown : Geometry → Found → Shown
-shown g f = record { entry = foundEntry g f; pages = chainPages f; bytes = reads f; answer = bytesOf f }
-
+-- ---- what a path shows
 -- of a directory: its label, its start page, its pages
 pub start-entry : (g : Geometry) (l : Label) (d e : Items) → startOf e ≡ startOf d → foundEntry g (aDirectory l e) ≡ foundEntry g (aDirectory l d)
 start-entry g l d e h = ap (λ (s : ℕ). entryBytes (g .width) (record { name = l .name; extension = l .extension; start = s; pages = 0 })) h

@@ -19,6 +19,7 @@ use Rattle.packet.specs.RoundTrip.{packet-written, rest-stays}
 use Rattle.rules.specs.PageSets.{count, Once}
 use Rattle.rules.specs.PageSetLaws.{hit-same, same, other, hits}
 use Rattle.rules.specs.WellFormed.{Stand}
+use Rattle.rules.specs.Demand2.{larger, reach}
 use Rattle.editing.specs.PageWrites.{page-bytes, same-page, length-with, page-with, page-other, bytes-with, length-written, bytes-written, same-written}
 
 -- the pages that are written
@@ -89,15 +90,6 @@ write-same g p b next image h e =
     ap (λ (l : List ℕ). withPage g p l image) (same-written (g .width) p b next (pageOf g p image) (page-bytes g image p h) e) ∙ same-page g image p
 
 -- ---- a list of writes
--- the larger of two numbers
-abbrev pub larger : ℕ → ℕ → ℕ
-larger a b = a + (b - a)
-
--- where the longest packet ends that is written into page p; 0 if none is
-abbrev pub reach : Geometry → ℕ → List Write → ℕ
-reach g p [] = 0
-reach g p (write q b n ∷ ws) = choose (eqb p q) (larger (length b + g .width + 3) (reach g p ws)) (reach g p ws)
-
 drop-more : (j k : ℕ) (a b : List ℕ) → drop j a ≡ drop j b → drop (j + k) a ≡ drop (j + k) b
 drop-more j k a b e = sym (drop-drop k j a) ∙ ap (drop k) e ∙ drop-drop k j b
 

@@ -10,13 +10,13 @@ use Rattle.rules.specs.Chain.{pages}
 use Rattle.rules.specs.Tree.{Label, Map, inRoot, inFile, Image}
 use Rattle.rules.specs.Bitmap.{remap}
 use Rattle.rules.specs.BitmapLaws.{pages-refill}
-use Rattle.rules.specs.Paths.{Found, aDirectory}
+use Rattle.rules.specs.Paths.{Found, aDirectory, fileLabel}
 use Rattle.rules.specs.Writes.{Edit, edited}
 use Rattle.rules.specs.Candidate.{atPath, Exists, reads, SameMap, targetPath, filePath, Candidate}
+use Rattle.rules.specs.Demand2.{Shown, PutDone}
 use Rattle.reading.specs.Accepted.{accepted}
-use Rattle.editing.specs.PathChanges.{Shown, same-path}
+use Rattle.editing.specs.PathChanges.{same-path}
 use Rattle.editing.specs.FoundLaws.{entry-some, exists-entry}
-use Rattle.editing.specs.PutDone.{PutDone}
 
 same-remap : (bits : List ℕ) (m : Map) → SameMap m (remap bits m)
 same-remap bits inRoot = tt
@@ -38,7 +38,7 @@ put-candidate g path bytes image now p = record {
   was = accepted g image (p .before) (p .accepted);
   after = p .tree;
   accepted = accepted g now (p .tree) (p .done .wellFormed);
-  label = record { name = p .to .name; extension = p .to .extension };
+  label = fileLabel (p .to);
   links = p .links;
   file = p .file;
   asked = p .reads;

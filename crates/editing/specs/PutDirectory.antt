@@ -11,14 +11,14 @@ use Rattle.geometry.specs.declared.Geometry.{Geometry}
 use Rattle.geometry.specs.Choose.{choose}
 use Rattle.geometry.specs.ChooseLaws.{choose-true, choose-false}
 use Rattle.geometry.specs.Geometry.{Valid, firstEntries, laterEntries}
-use Rattle.rules.specs.PageSets.{bit, count, mem}
+use Rattle.rules.specs.PageSets.{bit, count}
 use Rattle.rules.specs.PageSetLaws.{mem-true, mem-false}
 use Rattle.rules.specs.Chain.{Link, pages}
 use Rattle.rules.specs.Names.{fileNumber, attribute}
 use Rattle.rules.specs.Tree.{Label, keyOf, Items, file, ownPages, innerPages, keys}
 use Rattle.rules.specs.WellFormed.{Named, Entries}
 use Rattle.rules.specs.Paths.{Found, nothing, aFile, aDirectory, find}
-use Rattle.rules.specs.Put.{insert, isFull, replace}
+use Rattle.rules.specs.Put.{insert, isFull, replace, extraPages, itemsAfter}
 use Rattle.rules.specs.EditLaws.{find-none, none-found, found-file, file-entry, insert-own, find-inserted, find-beside-inserted}
 use Rattle.rules.specs.EditLaws.{replace-own, replace-inner, replace-none, find-replaced, find-beside-replaced}
 use Rattle.rules.specs.Candidate.{chainPages}
@@ -51,32 +51,24 @@ same-label l m e h k =
     λ i. record { name = p i; extension = q i }
 
 module _ (g : Geometry) (l : Label) where
-  -- how many pages join the directory: one if the file is new and no page has space
-  unfoldable pub extraPages : Items → ℕ
-  extraPages d = choose (mem (keyOf l) (keys d)) 0 (bit (isFull (laterEntries g) (firstEntries g) 0 d))
-
-  -- the directory after the put, q the page that joins it
-  unfoldable pub itemsAfter : ℕ → List Link → Items → Items
-  itemsAfter q chain d = choose (mem (keyOf l) (keys d)) (replace (keyOf l) chain d) (insert (file l chain) (laterEntries g) q (firstEntries g) 0 d)
-
-  pub extra-old : (d : Items) → 1 ≤ count (keyOf l) (keys d) → extraPages d ≡ 0
+  pub extra-old : (d : Items) → 1 ≤ count (keyOf l) (keys d) → extraPages g l d ≡ 0
   unfolding extraPages
   extra-old d h = rw (mem-true (keyOf l) (keys d) h, choose-true)
 
-  pub extra-new : (d : Items) → count (keyOf l) (keys d) ≡ 0 → extraPages d ≡ bit (isFull (laterEntries g) (firstEntries g) 0 d)
+  pub extra-new : (d : Items) → count (keyOf l) (keys d) ≡ 0 → extraPages g l d ≡ bit (isFull (laterEntries g) (firstEntries g) 0 d)
   unfolding extraPages
   extra-new d h = rw (mem-false (keyOf l) (keys d) h, choose-false)
 
-  pub after-old : (q : ℕ) (chain : List Link) (d : Items) → 1 ≤ count (keyOf l) (keys d) → itemsAfter q chain d ≡ replace (keyOf l) chain d
+  pub after-old : (q : ℕ) (chain : List Link) (d : Items) → 1 ≤ count (keyOf l) (keys d) → itemsAfter g l q chain d ≡ replace (keyOf l) chain d
   unfolding itemsAfter
   after-old q chain d h = rw (mem-true (keyOf l) (keys d) h, choose-true)
 
   pub after-new : (q : ℕ) (chain : List Link) (d : Items) → count (keyOf l) (keys d) ≡ 0
-      → itemsAfter q chain d ≡ insert (file l chain) (laterEntries g) q (firstEntries g) 0 d
+      → itemsAfter g l q chain d ≡ insert (file l chain) (laterEntries g) q (firstEntries g) 0 d
   unfolding itemsAfter
   after-new q chain d h = rw (mem-false (keyOf l) (keys d) h, choose-false)
 
-  pub extra-one : (d : Items) → extraPages d ≤ 1
+  pub extra-one : (d : Items) → extraPages g l d ≤ 1
   extra-one d = elim (eq-zero-or-pos (count (keyOf l) (keys d))) [
     | inr z ↦ omega (arith, extra-old d z)
     | inl z ↦ rw (extra-new d z) (small (isFull (laterEntries g) (firstEntries g) 0 d))

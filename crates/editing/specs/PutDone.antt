@@ -9,29 +9,26 @@ use lib.ListN.{length, take}
 use lib.Seq.{length-take-le}
 use borrow.Author.Tests.{leb-true, le-leb, lt-leb, eqb-true, eq-eqb}
 use Rattle.geometry.specs.declared.Geometry.{Geometry}
-use Rattle.geometry.specs.Geometry.{Fit, dataCapacity}
+use Rattle.geometry.specs.Geometry.{Fit}
 use Rattle.geometry.specs.Number.{Bytes}
 use Rattle.packet.specs.Packet.{viewOf}
 use Rattle.rules.specs.Result.{Res, ok, err, andThen, andAfter, refuse-unless}
 use Rattle.rules.specs.ResultLaws.{ok-inj, on-then, on-refuse, refuse-inv, then-ok, then-err, refuse-true, refuse-false}
 use Rattle.rules.specs.PageSets.{count, range, freePages}
-use Rattle.rules.specs.Chain.{Link, pages, content, pagesFor}
+use Rattle.rules.specs.Chain.{Link, pages}
 use Rattle.rules.specs.Names.{attribute}
-use Rattle.rules.specs.Tree.{Label, Image, used}
+use Rattle.rules.specs.Tree.{Label, used}
 use Rattle.rules.specs.Control.{theRoot}
-use Rattle.rules.specs.Bitmap.{bitmapOf}
-use Rattle.rules.specs.WellFormed.{WellFormed}
 use Rattle.rules.specs.Check.{check}
-use Rattle.rules.specs.Paths.{Path, pathOf, fileKey, Found, nothing, aFile, aDirectory, find, atRoot, Place, directoryAt}
-use Rattle.rules.specs.Writes.{Edit, edited, editWrites}
+use Rattle.rules.specs.Paths.{pathOf, fileKey, Found, nothing, aFile, aDirectory, find, atRoot, directoryAt}
+use Rattle.rules.specs.Writes.{Edit}
 use Rattle.rules.specs.Put.{writable, keptPages, putEdit, plainEdit, put}
-use Rattle.rules.specs.Candidate.{targetPath, filePath, atPath, foundEntry, chainPages}
+use Rattle.rules.specs.Candidate.{targetPath, foundEntry, chainPages}
+use Rattle.rules.specs.Demand2.{PutDone}
 use Rattle.reading.specs.Accepted.{accepted, accepted-iff}
 use Rattle.editing.specs.Contexts.{contextPath}
-use Rattle.editing.specs.EditStands.{EditDone}
-use Rattle.editing.specs.PathChanges.{shown, start-entry}
+use Rattle.editing.specs.PathChanges.{start-entry}
 use Rattle.editing.specs.DeleteLaws.{target-is}
-use Rattle.editing.specs.PutDirectory.{extraPages}
 use Rattle.editing.specs.PutLaws.{Asked, kept, free, free-clear, extra, wanted, chain, after, theEdit, edit-is, located, cs, into, own-then, chain-reads, result, put-edited, put-paths, put-total}
 
 -- ---- read-only
@@ -46,37 +43,6 @@ unfolding writable
 writable-inv nothing u e l ls q = absurd (let z : _≡_ {A = ℕ} 0 1 = cc in omega arith)
 writable-inv (aFile m ms) u e l ls q = let i : m ≡ l = cc in ap (λ (n : Label). attribute (n .extension)) (sym i) ∙ eqb-true _ _ (refuse-inv _ _ _ _ e)
 writable-inv (aDirectory m d) u e l ls q = absurd (let z : _≡_ {A = ℕ} 0 1 = cc in omega arith)
-
--- ---- what a put that is done leaves
-pub record PutDone (g : Geometry) (path bytes image now : List ℕ) : Type 0 where
-  pub before : Image
-  pub accepted : WellFormed g image before
-  pub to : Path
-  pub formed : pathOf path ≡ ok to
-  pub place : Place
-  pub there : directoryAt (to .directories) atRoot theRoot (before .tree) ≡ ok place
-  pub edit : Edit
-  pub made : putEdit g (freePages (keptPages to before) (g .pages)) to bytes place ≡ ok edit
-  -- accepted, with the edited tree; bytes outside the packets written stay
-  pub tree : Image
-  pub tree-is : tree ≡ edited g (to .directories) edit before
-  pub done : EditDone g image before tree (editWrites g (bitmapOf g (used before) (before .map)) edit before tree) now
-  -- the path's file has the path's name and extension byte, top bit clear, and reads the bytes
-  pub links : List Link
-  pub file : atPath (filePath to) tree ≡ aFile (record { name = to .name; extension = to .extension }) links
-  pub reads : content links ≡ bytes
-  -- every other path shows what it showed: entry, pages, bytes; of the target, its entry, and its pages with those that join it
-  pub others : (ks : List ℕ) → (ks ≡ filePath to → ⊥) → (ks ≡ targetPath to → ⊥) → shown g (atPath ks tree) ≡ shown g (atPath ks before)
-  pub target-label : Label
-  pub target-before : atPath (targetPath to) before ≡ aDirectory target-label (place .items)
-  pub target-after : atPath (targetPath to) tree ≡ aDirectory target-label (edit .after)
-  pub target-entry : foundEntry g (atPath (targetPath to) tree) ≡ foundEntry g (atPath (targetPath to) before)
-  pub joined : List ℕ
-  pub target-pages : (x : ℕ) → count x (chainPages (atPath (targetPath to) tree)) ≡ count x (chainPages (atPath (targetPath to) before)) + count x joined
-  -- a page joins it exactly if the file is new and no page has space
-  pub joins : length joined ≡ extraPages g (record { name = to .name; extension = to .extension }) (place .items)
-  -- the pages in use
-  pub total : length (used tree) + length (chainPages (atPath (filePath to) before)) ≡ length (used before) + length joined + pagesFor (dataCapacity g) (length bytes)
 
 -- ---- a put that nothing but room could refuse
 module _ (g : Geometry) (image path bytes : List ℕ) (a : Asked g image path bytes) where

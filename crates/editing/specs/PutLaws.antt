@@ -21,22 +21,23 @@ use Rattle.rules.specs.Tree.{Label, Items, ownPages, innerPages, allPages, mapP
 use Rattle.rules.specs.Control.{theRoot}
 use Rattle.rules.specs.Bitmap.{bitmapOf}
 use Rattle.rules.specs.WellFormed.{Named, WellFormed}
-use Rattle.rules.specs.Paths.{Path, pathOf, fileKey, aFile, find, atRoot, Place, directoryAt, changeAt}
+use Rattle.rules.specs.Paths.{Path, pathOf, fileKey, fileLabel, aFile, find, atRoot, Place, directoryAt, changeAt}
 use Rattle.rules.specs.Writes.{Edit, edited, editWrites}
-use Rattle.rules.specs.Put.{replace, keptPages, putEdit, plainEdit}
+use Rattle.rules.specs.Put.{replace, keptPages, putEdit, plainEdit, extraPages, itemsAfter}
 use Rattle.rules.specs.EditLaws.{replace-own}
 use Rattle.rules.specs.Candidate.{chainPages}
+use Rattle.rules.specs.Demand2.{EditDone}
 use Rattle.reading.specs.Directory.{all-split}
 use Rattle.editing.specs.Capacity.{capacity-least}
 use Rattle.editing.specs.Plays.{WritesFit}
 use Rattle.editing.specs.NewChains.{spread-fits}
 use Rattle.editing.specs.Contexts.{Context, filledAll, aroundAll, contextPath, all-filled-all, Located, locate}
 use Rattle.editing.specs.ContextStands.{Shaped, shaped-changed}
-use Rattle.editing.specs.EditStands.{EditDone, place-shaped, tree-edited, used-edited, edit-done}
+use Rattle.editing.specs.EditStands.{place-shaped, tree-edited, used-edited, edit-done}
 use Rattle.editing.specs.PathLaws.{FileKey}
 use Rattle.editing.specs.PathChanges.{PathsChanged, paths-changed}
 use Rattle.editing.specs.FormedPaths.{Formed, formed}
-use Rattle.editing.specs.PutDirectory.{replaced-exact, extraPages, itemsAfter, extra-one, PutIn, put-in, take-first}
+use Rattle.editing.specs.PutDirectory.{replaced-exact, extra-one, PutIn, put-in, take-first}
 
 -- two lists that count every number alike are of one length
 pub same-length : (xs ys : List ℕ) → ((x : ℕ) → count x xs ≡ count x ys) → length xs ≡ length ys
@@ -70,7 +71,7 @@ module _ (g : Geometry) (image path bytes : List ℕ) (a : Asked g image path by
   d = a .place .items
 
   abbrev pub label : Label
-  label = record { name = a .to .name; extension = a .to .extension }
+  label = fileLabel (a .to)
 
   -- what stays in use, the free pages rising, the pages that the directory and the file take
   abbrev pub kept : List ℕ

@@ -7,13 +7,13 @@ use Rattle.rules.specs.Result.{Res, ok, err, andThen}
 use Rattle.rules.specs.ResultLaws.{then-ok, then-err, then-cong}
 use Rattle.rules.specs.Tree.{Label, Items, startOf, Image}
 use Rattle.rules.specs.Control.{Above, theRoot}
-use Rattle.rules.specs.Paths.{Path, pathOf, directoryKey, fileKey, Found, nothing, aFile, aDirectory, find, Site, atRoot, below, Place, directoryAt}
+use Rattle.rules.specs.Paths.{Path, pathOf, directoryKey, fileKey, fileLabel, Found, nothing, aFile, aDirectory, find, Site, atRoot, below, Place, directoryAt}
 use Rattle.rules.specs.Candidate.{lookUp, rootLabel, atPath, targetPath, filePath}
 use Rattle.rules.specs.Calls.{bytesOf, fileAt}
+use Rattle.rules.specs.Demand2.{Shown, shown, Deleted, PutDone}
 use Rattle.editing.specs.Contexts.{directoryKeys}
-use Rattle.editing.specs.PathChanges.{Shown, shown, same-path}
-use Rattle.editing.specs.DeleteLaws.{target-is, Deleted}
-use Rattle.editing.specs.PutDone.{PutDone}
+use Rattle.editing.specs.PathChanges.{same-path}
+use Rattle.editing.specs.DeleteLaws.{target-is}
 
 nothing-below : (ks : List ℕ) → lookUp ks nothing ≡ nothing
 nothing-below [] = refl
@@ -61,7 +61,7 @@ module _ (g : Geometry) (path bytes image now : List ℕ) (p : PutDone g path by
   -- the path reads the bytes
   pub read-put : fileAt path (p .tree) ≡ ok bytes
   unfolding bytesOf
-  read-put = read-found path (p .to) (p .tree) (aFile (record { name = p .to .name; extension = p .to .extension }) (p .links)) (p .formed) (p .file) ∙ ap ok (p .reads)
+  read-put = read-found path (p .to) (p .tree) (aFile (fileLabel (p .to)) (p .links)) (p .formed) (p .file) ∙ ap ok (p .reads)
 
   -- every other path reads what it read, or answers the refusal that it answered
   pub read-beside-put : (other : List ℕ) → ((q : Path) → pathOf other ≡ ok q → filePath q ≡ filePath (p .to) → ⊥) → fileAt other (p .tree) ≡ fileAt other (p .before)

@@ -1,20 +1,20 @@
 -- The entries of a directory counted page by page: those of the pages before and those to come are all.
-use mathlib.Core.Path.{_≡_, ap, sym, _∙_}
+use mathlib.Core.Path.{_≡_, ap}
 use mathlib.Core.List.{List}
-use Prim.Native.Nat.{ℕ, _+_, _-_, _≤_, _<_}
+use Prim.Native.Nat.{ℕ, _+_, _-_, _<_}
 use native.Mathlib.Omega.{arith}
 use lib.ListN.{length}
 use Rattle.geometry.specs.declared.Geometry.{Geometry}
 use Rattle.geometry.specs.Geometry.{controlSize, Fit}
 use Rattle.packet.specs.Packet.{View, viewOf}
 use Rattle.rules.specs.Chain.{Link}
-use Rattle.rules.specs.Tree.{Token, linkTokens}
+use Rattle.rules.specs.Tree.{Token}
 use Rattle.chain.specs.Claims.{IsGood, Counted}
 use Rattle.chain.specs.KnownChain.{ChainStands}
 use Rattle.chain.specs.Steps.{firstStep}
 use Rattle.entries.specs.declared.Seat.{Seat}
 use Rattle.entries.specs.Seats.{chainKeys, openOf, atEntry}
-use Rattle.entries.proofs.TokensAt.{TokensAt, PageAt, tokenKeys, token-keys, keys-few, first-page, no-more, page-after, next-tokens, page-end}
+use Rattle.entries.proofs.TokensAt.{TokensAt, tokenKeys, token-keys, keys-few, first-page, no-more, page-after, next-tokens, page-end}
 
 -- at the first entry of a page, n entries before it
 pub record Counting (g : Geometry) (v : View) (ls : List Link) (s : Seat) (n : ℕ) : Type 0 where

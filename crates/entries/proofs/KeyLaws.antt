@@ -6,7 +6,7 @@ use Prim.Native.Nat.{ℕ, zero, suc, _+_, _-_, _*_, _/_, _≤_, _<_, min}
 use native.Mathlib.Nat.{mul-le-mul-left}
 use native.Mathlib.Omega.{arith}
 use lib.Dec.{ltb, eqb}
-use lib.ListN.{length, getD, take, drop, length-append}
+use lib.ListN.{length, getD, take, drop}
 use lib.Seq.{drop-drop, getD-drop, take-take, getD-take, take-all, take-append-le, take-append-add}
 use borrow.Author.Tests.{lt-ltb, le-ltb, ltb-true, ltb-false, eqb-true, eqb-false, ne-eqb}
 use Rattle.geometry.specs.declared.Geometry.{Geometry}
@@ -14,7 +14,7 @@ use Rattle.geometry.specs.Geometry.{entrySize, Valid}
 use Rattle.geometry.specs.ListLaws.{drop-of-take}
 use Rattle.geometry.specs.Number.{number}
 use Rattle.rules.specs.PageSets.{hit, count, mem}
-use Rattle.rules.specs.PageSetLaws.{hits, Hit, same, other, hit-same, count-append}
+use Rattle.rules.specs.PageSetLaws.{hits, same, other, hit-same, count-append}
 use Rattle.rules.specs.Names.{key}
 use Rattle.entries.specs.Seats.{keysFrom}
 

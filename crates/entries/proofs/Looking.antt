@@ -14,10 +14,9 @@ use Rattle.geometry.specs.ListLaws.{drop-of-take}
 use Rattle.geometry.specs.Page.{pageOf}
 use Rattle.geometry.specs.PageLaws.{page-length}
 use Rattle.packet.specs.Packet.{good, View, viewOf}
-use Rattle.packet.specs.Reading.{Right, right-packet}
+use Rattle.packet.specs.Reading.{right-packet}
 use Rattle.rules.specs.PageSets.{mem}
 use Rattle.rules.specs.Chain.{Link, link, first}
-use Rattle.chain.specs.declared.Cursor.{Cursor}
 use Rattle.chain.specs.Claims.{IsGood}
 use Rattle.chain.specs.Steps.{firstStep}
 use Rattle.entries.specs.declared.Seat.{Seat}

@@ -1,19 +1,17 @@
 -- A place in a directory as the code makes and reads it.
-use mathlib.Core.Path.{_≡_, refl, ap, ap₂, sym, _∙_, subst}
-use mathlib.Core.Bool.{Bool, true, false}
-use mathlib.Core.List.{List, [], _∷_, _++_}
-use Prim.Native.Nat.{ℕ, zero, suc, _+_, _-_, _*_, _/_, _≤_, _<_}
+use mathlib.Core.Path.{_≡_, refl, ap, ap₂, sym, _∙_}
+use mathlib.Core.List.{List}
+use Prim.Native.Nat.{ℕ, suc, _+_, _-_, _*_, _/_, _≤_, _<_}
 use native.Mathlib.Nat.{mul-le-mul-left, mul-div-le}
 use native.Mathlib.Omega.{arith}
-use lib.ListN.{length, getD, take, drop, length-drop}
-use lib.Seq.{drop-drop}
+use lib.ListN.{length, drop, length-drop}
 use Rattle.geometry.specs.declared.Geometry.{Geometry}
 use Rattle.geometry.specs.Geometry.{entrySize, Fit}
 use Rattle.geometry.specs.Page.{pageOf}
 use Rattle.geometry.specs.PageLaws.{page-length}
 use Rattle.rules.specs.Names.{entryOf}
 use Rattle.packet.specs.Packet.{Packet, bad, good, View, viewOf}
-use Rattle.packet.specs.Reading.{Right, right-packet}
+use Rattle.packet.specs.Reading.{right-packet}
 use Rattle.chain.specs.declared.Cursor.{Cursor}
 use Rattle.chain.specs.declared.Step.the-variants as step
 use Rattle.chain.specs.Steps.{after, stepOf}

@@ -1,7 +1,7 @@
 -- A place in a directory whose chain stands: the page it is at, the pages to come.
 use mathlib.Core.Path.{_≡_, refl, ap, sym, _∙_, subst}
-use mathlib.Core.List.{List, [], _∷_, _++_}
-use Prim.Native.Nat.{ℕ, zero, suc, _+_, _-_, _*_, _/_, _≤_, _<_}
+use mathlib.Core.List.{List, [], _∷_}
+use Prim.Native.Nat.{ℕ, suc, _+_, _/_, _≤_, _<_}
 use native.Mathlib.Omega.{arith}
 use lib.ListN.{length, drop}
 use Rattle.geometry.specs.declared.Geometry.{Geometry}
@@ -14,7 +14,7 @@ use Rattle.rules.specs.WellFormed.{Stand}
 use Rattle.chain.specs.declared.Cursor.{Cursor}
 use Rattle.chain.specs.Claims.{IsGood, Counted}
 use Rattle.chain.specs.KnownChain.{ChainStands}
-use Rattle.chain.specs.Steps.{firstStep, after}
+use Rattle.chain.specs.Steps.{firstStep}
 use Rattle.chain.proofs.Following.{small-view}
 use Rattle.entries.specs.declared.Seat.{Seat}
 use Rattle.entries.specs.Seats.{Fits, opened, openOf, atEntry, advanced}

@@ -2,16 +2,15 @@
 use mathlib.Core.Path.{_≡_}
 use mathlib.Core.Bool.{Bool}
 use mathlib.Core.List.{List, [], _∷_, _++_}
-use Prim.Native.Nat.{ℕ, zero, suc, _+_, _-_, _*_, _/_, _≤_, _<_}
+use Prim.Native.Nat.{ℕ, zero, suc, _+_, _*_, _/_, _≤_, _<_}
 use lib.ListN.{length, getD, take, drop}
 use Rattle.geometry.specs.declared.Geometry.{Geometry}
 use Rattle.geometry.specs.Geometry.{entrySize, controlSize}
 use Rattle.geometry.specs.Number.{number}
 use Rattle.packet.specs.Packet.{Packet, bad, good, View}
-use Rattle.rules.specs.declared.Entry.{Entry}
 use Rattle.rules.specs.PageSets.{mem}
 use Rattle.rules.specs.Chain.{Link, link}
-use Rattle.rules.specs.Names.{key, entryOf}
+use Rattle.rules.specs.Names.{key}
 use Rattle.chain.specs.declared.Cursor.{Cursor}
 use Rattle.chain.specs.KnownChain.{ChainStands}
 use Rattle.chain.specs.Steps.{after}

@@ -1,5 +1,5 @@
 -- An edit's call: what is left in its geometry is what the rules leave; and what a format leaves.
-use mathlib.Core.Path.{_≡_, refl, ap, ap₂, sym, _∙_}
+use mathlib.Core.Path.{_≡_, refl, ap, sym, _∙_}
 use mathlib.Core.Logic.{_⊎_, inl, inr}
 use mathlib.Core.Bool.{Bool}
 use mathlib.Core.List.{List, _++_}
@@ -10,20 +10,13 @@ use Rattle.geometry.specs.declared.Geometry.{Geometry}
 use Rattle.geometry.specs.declared.Shape.{Shape}
 use Rattle.geometry.specs.declared.Shape.the-variants.{Fits, Wrong}
 use Rattle.geometry.specs.Geometry.{geometryOf}
-use Rattle.packet.specs.Packet.{View, viewOf}
 use Rattle.rules.specs.Result.{Res, ok, err}
 use Rattle.rules.specs.ResultLaws.{clash}
-use Rattle.rules.specs.Tree.{Image}
-use Rattle.rules.specs.Check.{check}
-use Rattle.rules.specs.Owners.{tableAfter}
 use Rattle.rules.specs.Format.{format}
-use Rattle.rules.specs.Calls.{inGeometry, shape, done, changed, formatCall}
+use Rattle.rules.specs.Calls.{inGeometry, shape, done, formatCall}
 use Rattle.rules.specs.CallLaws.{format-refused}
 use Rattle.rules.specs.RefusalLaws.{format-faults}
 use Rattle.editing.specs.CallEdits.{format-call}
-use Rattle.walk.specs.declared.Walk.{Walk}
-use Rattle.walk.specs.declared.Walk.the-variants as w
-use Rattle.volume.specs.Scans.{TableChecked}
 use Rattle.volume.specs.declared.Edited.{Edited}
 use Rattle.volume.specs.Edits.{editTold, EditLeaves}
 use Rattle.volume.proofs.EditLaws.{changed-leaves}

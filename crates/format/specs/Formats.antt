@@ -9,12 +9,12 @@ use Rattle.geometry.specs.declared.Geometry.{Geometry}
 use Rattle.geometry.specs.declared.Shape.the-variants.{Fits}
 use Rattle.geometry.specs.Geometry.{dataCapacity, bitmapSize, geometryOf}
 use Rattle.geometry.specs.Number.{numberBytes}
-use Rattle.packet.specs.Packet.{viewOf, Write, play}
-use Rattle.rules.specs.Result.{Res, ok, err}
+use Rattle.packet.specs.Packet.{Write, play}
+use Rattle.rules.specs.Result.{ok, err}
 use Rattle.rules.specs.Chain.{linked, spread, pagesFor}
 use Rattle.rules.specs.Control.{marker}
 use Rattle.rules.specs.Format.{upward, emptyImage, formatWrites}
-use Rattle.editing.specs.FormatLaws.{Formatted}
+use Rattle.rules.specs.Demand2.{Formatted}
 use Rattle.marks.specs.Marks.{marksFrom}
 use Rattle.volume.specs.declared.Edited.{Edited}
 use Rattle.volume.specs.Edits.{editTold}

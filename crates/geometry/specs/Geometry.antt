@@ -1,6 +1,6 @@
 -- Document 01, "Geometry": page length P (`size`), page count N (`pages`), bytes of a page number n (`width`), and what follows from them.
 use mathlib.Core.Path.{_≡_}
-use mathlib.Core.Bool.{Bool, true, false, _&&_}
+use mathlib.Core.Bool.{Bool, _&&_}
 use mathlib.Core.List.{List}
 use Prim.Native.Nat.{ℕ, _+_, _-_, _*_, _/_, _≤_}
 use lib.ListN.{length}

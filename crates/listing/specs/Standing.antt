@@ -10,7 +10,7 @@ use Rattle.packet.specs.Packet.{View}
 use Rattle.rules.specs.declared.Entry.{Entry}
 use Rattle.rules.specs.declared.Line.{Line}
 use Rattle.rules.specs.Result.{ok, err}
-use Rattle.rules.specs.Chain.{Link, first, content}
+use Rattle.rules.specs.Chain.{Link, first}
 use Rattle.rules.specs.Names.{extensionNumber, attribute, directoryNumber}
 use Rattle.rules.specs.Tree.{labelOf, Items, end, page, file, dir, startOf, tokens, linkTokens, Image}
 use Rattle.rules.specs.WellFormed.{Under}

@@ -3,7 +3,6 @@ use mathlib.Core.Path.{_≡_, refl, ap, ap₂, sym, _∙_, subst}
 use mathlib.Core.List.{List, [], _∷_, _++_, append-assoc}
 use Prim.Native.Nat.{ℕ, _+_, _*_, _≤_, _<_}
 use native.Mathlib.Omega.{arith}
-use lib.Dec.{eqb}
 use lib.ListN.{length, drop, length-append}
 use borrow.Author.Tests.{eq-eqb, ne-eqb}
 use Rattle.geometry.specs.declared.Geometry.{Geometry}
@@ -25,7 +24,6 @@ use Rattle.entries.specs.declared.Seat.{Seat}
 use Rattle.entries.specs.Seats.{openOf, advanced}
 use Rattle.entries.proofs.Seated.{skip-of}
 use Rattle.entries.proofs.TokensAt.{TokensAt, PageAt, EntryAt, first-page, next-entry, no-more, page-after, next-tokens}
-use Rattle.lookup.specs.declared.Search.{Search}
 use Rattle.lookup.specs.declared.Search.the-variants as search
 use Rattle.lookup.specs.Searches as searches
 

@@ -2,30 +2,27 @@
 use mathlib.Core.Path.{_≡_, refl, ap, ap₂, sym, _∙_, subst}
 use mathlib.Core.Bool.{true, false}
 use mathlib.Core.List.{List, [], _∷_}
-use Prim.Native.Nat.{ℕ, zero, suc, _+_, _-_, _*_, _%_, _≤_}
+use Prim.Native.Nat.{ℕ, zero, suc, _+_, _-_, _%_, _≤_}
 use native.Mathlib.Omega.{arith}
-use lib.Dec.{eqb}
 use lib.ListN.{take, drop}
 use lib.Seq.{drop-drop}
 use borrow.Author.Tests.{eq-eqb, ne-eqb, eqb-true, eqb-false}
 use Rattle.geometry.specs.declared.Geometry.{Geometry}
-use Rattle.geometry.specs.Choose.{choose}
 use Rattle.geometry.specs.ChooseLaws.{choose-true, choose-false}
 use Rattle.geometry.specs.Number.{number}
 use Rattle.packet.specs.Packet.{View}
 use Rattle.rules.specs.declared.Entry.{Entry}
-use Rattle.rules.specs.PageSetLaws.{hits, Hit, same, other}
+use Rattle.rules.specs.PageSetLaws.{hits, same, other}
 use Rattle.rules.specs.Result.{Res, ok, err}
 use Rattle.rules.specs.ResultLaws.{clash, ok-inj}
-use Rattle.rules.specs.Chain.{Link, first}
+use Rattle.rules.specs.Chain.{first}
 use Rattle.rules.specs.Names.{key, directoryNumber}
-use Rattle.rules.specs.Tree.{Label, keyOf, Items, end, page, file, dir, startOf, fileEntry, directoryEntry}
+use Rattle.rules.specs.Tree.{Label, keyOf, Items, end, page, file, dir, startOf, directoryEntry}
 use Rattle.rules.specs.Control.{Above}
 use Rattle.rules.specs.WellFormed.{Under}
 use Rattle.rules.specs.Paths.{namesIn, directoryKey, Found, nothing, aFile, aDirectory, find, Site, below, Place, inDirectory, directoryAt}
 use Rattle.chain.specs.KnownChain.{ChainStands}
 use Rattle.listing.specs.Standing.{Chained, Below}
-use Rattle.lookup.specs.declared.Search.{Search}
 use Rattle.lookup.specs.declared.Search.the-variants as search
 use Rattle.lookup.specs.declared.Resolved.{Resolved}
 use Rattle.lookup.specs.declared.Resolved.the-variants as resolved

@@ -1,10 +1,10 @@
 -- Bits summed to a byte, and bytes written one after the other.
 use mathlib.Core.Path.{_≡_, refl, ap, ap₂, sym, _∙_}
 use mathlib.Core.List.{List, [], _∷_, _++_}
-use Prim.Native.Nat.{ℕ, _+_, _*_, _≤_, _<_}
+use Prim.Native.Nat.{ℕ, _+_, _*_, _<_}
 use native.Mathlib.Omega.{arith}
 use native.Mathlib.Numerals.{add-one}
-use lib.ListN.{length, getD, take, drop, set}
+use lib.ListN.{length, getD, take, set}
 use lib.Seq.{take-suc-set}
 use Rattle.rules.specs.OwnerLaws.{nonzero, nonzero-le}
 use Rattle.marks.specs.Marks.{byteMarks, marksFrom}

@@ -1,12 +1,12 @@
 -- The bytes of a table are the bitmap of the pages that it represents.
 use mathlib.Core.Path.{_≡_, refl, ap, ap₂, sym, _∙_}
-use mathlib.Core.List.{List, [], _∷_, _++_}
+use mathlib.Core.List.{List, _∷_, _++_}
 use Prim.Native.Nat.{ℕ, zero, suc, _+_, _*_, _^_, _<_}
 use native.Mathlib.Omega.{arith}
 use lib.Dec.{ltb}
 use lib.ListN.{length, getD}
 use Rattle.geometry.specs.Number.{Bytes}
-use Rattle.rules.specs.PageSets.{bit, count, mem}
+use Rattle.rules.specs.PageSets.{bit, mem}
 use Rattle.rules.specs.Bitmap.{byteFor, bitmapFrom}
 use Rattle.rules.specs.OwnerLaws.{nonzero, nonzero-le, Represents}
 use Rattle.marks.specs.Marks.{byteMarks, marksFrom}

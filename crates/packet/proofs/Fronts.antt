@@ -1,7 +1,7 @@
 -- A page whose front is written part by part, and a page written in its image.
 use mathlib.Core.Path.{_≡_, refl, ap, sym, _∙_}
 use mathlib.Core.List.{List, [], _∷_, _++_, append-nil, append-assoc}
-use Prim.Native.Nat.{ℕ, suc, _+_, _-_, _*_, _≤_, _<_}
+use Prim.Native.Nat.{ℕ, _+_, _-_, _*_, _≤_, _<_}
 use native.Mathlib.Nat.{add-sub-cancel-left}
 use native.Mathlib.Omega.{arith}
 use lib.ListN.{length, take, drop, length-append, drop-of-length-le, replicate, length-replicate}
@@ -11,7 +11,7 @@ use Rattle.geometry.specs.Number.{numberBytes}
 use Rattle.geometry.specs.NumberLaws.{length-number}
 use Rattle.geometry.specs.declared.Geometry.{Geometry}
 use Rattle.geometry.specs.Page.{overwritten, pageOf, withPage}
-use Rattle.packet.specs.Packet.{checkOf, packetBody, packetBytes, written, Write, write, writePage}
+use Rattle.packet.specs.Packet.{checkOf, packetBody, packetBytes, written, write, writePage}
 
 -- b with the bytes xs over its front
 abbrev pub front : List ℕ → List ℕ → List ℕ

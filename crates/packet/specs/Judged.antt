@@ -1,5 +1,5 @@
 -- For contracts: what the code answers of a packet, and a packet whose check is not computed.
-use mathlib.Core.Bool.{Bool, _&&_}
+use mathlib.Core.Bool.{_&&_}
 use mathlib.Core.List.{List}
 use Prim.Native.Nat.{ℕ, _+_, _-_}
 use lib.Dec.{leb}

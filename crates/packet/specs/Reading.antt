@@ -1,5 +1,5 @@
 -- What a right packet's page has: its data bytes after the length byte, its pointer after them, and room for both and the check.
-use mathlib.Core.Path.{_≡_, refl, ap, sym, _∙_, subst}
+use mathlib.Core.Path.{_≡_, refl, ap, sym, subst}
 use mathlib.Core.Bool.{Bool, true, false, _&&_}
 use mathlib.Core.List.{List}
 use Prim.Native.Nat.{ℕ, _+_, _-_, _≤_}
@@ -10,7 +10,7 @@ use lib.Seq.{length-take-le}
 use borrow.Author.Tests.{leb-true, le-leb}
 use Rattle.geometry.specs.ChooseLaws.{choose-true, on-choose}
 use Rattle.geometry.specs.Number.{number}
-use Rattle.packet.specs.Packet.{Packet, bad, good, checkOf, pointerOf, isPacket, packetOf}
+use Rattle.packet.specs.Packet.{bad, good, checkOf, pointerOf, isPacket, packetOf}
 use Rattle.packet.specs.Judged.{frameOf}
 
 pub record Right (n : ℕ) (page bytes : List ℕ) (next : ℕ) : Type 0 where

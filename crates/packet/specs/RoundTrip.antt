@@ -1,17 +1,16 @@
 -- What is written is judged good, with those bytes and that pointer.
 use mathlib.Core.Path.{_≡_, refl, ap, sym, _∙_, subst}
-use mathlib.Core.Bool.{true, false, _&&_}
-use mathlib.Core.List.{List, [], _∷_, _++_, append-assoc}
-use Prim.Native.Nat.{ℕ, suc, _+_, _-_, _*_, _^_, _≤_, _<_}
+use mathlib.Core.Bool.{true}
+use mathlib.Core.List.{List, _∷_, _++_, append-assoc}
+use Prim.Native.Nat.{ℕ, suc, _+_, _-_, _^_, _≤_, _<_}
 use native.Mathlib.Omega.{arith}
-use lib.ListN.{length, getD, take, drop, length-append}
+use lib.ListN.{length, take, drop, length-append}
 use lib.Seq.{take-at, drop-at}
 use borrow.Author.Tests.{le-leb, eq-eqb}
-use Rattle.crc16.specs.Crc16.{crc16}
 use Rattle.geometry.specs.ChooseLaws.{choose-true}
 use Rattle.geometry.specs.Number.{number, numberBytes}
 use Rattle.geometry.specs.NumberLaws.{length-number, number-of}
-use Rattle.packet.specs.Packet.{Packet, bad, good, checkOf, pointerOf, isPacket, packetOf, packetBody, packetBytes, written}
+use Rattle.packet.specs.Packet.{good, checkOf, pointerOf, isPacket, packetOf, packetBody, packetBytes, written}
 
 pub length-packet : (n p : ℕ) (bytes : List ℕ) (next : ℕ) → length (packetBytes n p bytes next) ≡ length bytes + n + 3
 unfolding packetBytes

@@ -1,18 +1,16 @@
 -- The cases of a path, as the code meets them.
 use mathlib.Core.Path.{_≡_, refl, ap, sym, _∙_}
-use mathlib.Core.Bool.{Bool, true, false, not, _&&_}
-use mathlib.Core.List.{List, [], _∷_}
+use mathlib.Core.Bool.{Bool, true, false, not}
+use mathlib.Core.List.{List, _∷_}
 use Prim.Native.Nat.{ℕ, zero, suc, _+_, _-_, _*_, _/_, _%_, _≤_, _<_}
 use native.Mathlib.Omega.{arith}
-use lib.Dec.{leb, eqb}
 use lib.ListN.{length, getD, take, drop}
 use lib.Seq.{drop-drop}
 use borrow.Author.Tests.{le-leb, lt-leb, eq-eqb, ne-eqb, not-true, not-false}
 use Rattle.geometry.specs.Number.{number}
 use Rattle.rules.specs.Result.{andThen, refuse-unless}
 use Rattle.rules.specs.Names.{validName}
-use Rattle.rules.specs.Paths.{namesIn, validNames, pathLength, pathOf}
-use Rattle.path.specs.declared.Parsed.{Parsed}
+use Rattle.rules.specs.Paths.{namesIn, validNames, pathOf}
 use Rattle.path.specs.declared.Parsed.the-variants.{Path, Malformed}
 use Rattle.path.specs.Told.{told}
 

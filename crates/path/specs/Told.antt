@@ -1,5 +1,4 @@
 -- For contracts: what the code answers of a path.
-use Prim.Native.Nat.{ℕ}
 use lib.ListN.{length}
 use Rattle.rules.specs.Result.{Res, ok, err}
 use Rattle.rules.specs.Paths as paths

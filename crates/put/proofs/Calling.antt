@@ -1,5 +1,5 @@
 -- The call: the check's fault first, and what a put leaves, demand 3 among it.
-use mathlib.Core.Path.{_≡_, ap, sym, _∙_, subst}
+use mathlib.Core.Path.{_≡_, ap, sym, _∙_}
 use mathlib.Core.List.{List, _++_}
 use Prim.Native.Nat.{ℕ, _<_}
 use lib.ListN.{length, getD, drop}
@@ -7,13 +7,12 @@ use Rattle.geometry.specs.declared.Geometry.{Geometry}
 use Rattle.geometry.specs.declared.Shape.the-variants.{Fits}
 use Rattle.geometry.specs.Geometry.{geometryOf}
 use Rattle.packet.specs.Packet.{viewOf}
-use Rattle.rules.specs.Result.{Res, ok, err}
+use Rattle.rules.specs.Result.{Res, err}
 use Rattle.rules.specs.ResultLaws.{then-err}
 use Rattle.rules.specs.Check.{check}
 use Rattle.rules.specs.Put.{put}
 use Rattle.rules.specs.Calls.{putCall}
 use Rattle.rules.specs.CallLaws.{put-refused}
-use Rattle.rules.specs.Candidate.{Demand3}
 use Rattle.reading.specs.CheckCall.{bytes-known}
 use Rattle.editing.specs.CallEdits.{put-call}
 use Rattle.editing.specs.Demand3.{demand-3}

@@ -1,7 +1,7 @@
 -- A put whose directory has no space: a page joins it with the file's entry, then the bitmap.
 use mathlib.Core.Path.{_≡_, refl, ap, ap₂, sym, _∙_, subst}
 use mathlib.Core.List.{List, [], _∷_, _++_}
-use Prim.Native.Nat.{ℕ, suc, _+_, _≤_, _<_}
+use Prim.Native.Nat.{ℕ, _+_, _≤_, _<_}
 use native.Mathlib.Omega.{arith}
 use lib.ListN.{length, take, drop, getD, set}
 use Rattle.geometry.specs.declared.Geometry.{Geometry}
@@ -13,7 +13,7 @@ use Rattle.rules.specs.PageSetLaws.{hit-same, count-append, range-le}
 use Rattle.rules.specs.Chain.{pages}
 use Rattle.rules.specs.Names.{entryBytes}
 use Rattle.rules.specs.Tree.{Items, end, page, file, dir, Token, newPage, entry, tokens, ownPages, allPages, mapPages, fileEntry}
-use Rattle.rules.specs.OwnerLaws.{Represents, represents-set, represents-free}
+use Rattle.rules.specs.OwnerLaws.{represents-set, represents-free}
 use Rattle.rules.specs.Paths.{Found}
 use Rattle.rules.specs.Put.{put}
 use Rattle.rules.specs.Candidate.{chainPages}
@@ -23,7 +23,7 @@ use Rattle.marks.specs.RootLaws.{zero-taken}
 use Rattle.entries.specs.declared.Seat.{Seat}
 use Rattle.slots.specs.Slots.{HasSpan, Rewrites}
 use Rattle.storing.specs.Free.{freeFrom, Next, NextFree, CountsFree, HasRoom, Stores}
-use Rattle.storing.specs.FreeLaws.{first-free, from-unused, from-low}
+use Rattle.storing.specs.FreeLaws.{first-free}
 use Rattle.volume.specs.declared.Edited.the-variants as edited
 use Rattle.volume.specs.Edits.{Answered}
 use Rattle.editing.specs.PutLaws as laws

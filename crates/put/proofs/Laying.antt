@@ -1,7 +1,7 @@
 -- A put whose directory keeps its pages: the file's entry written in a page of it, then the bitmap.
-use mathlib.Core.Path.{_≡_, refl, ap, ap₂, sym, _∙_, subst}
-use mathlib.Core.List.{List, [], _∷_, _++_, append-nil}
-use Prim.Native.Nat.{ℕ, _+_, _*_, _≤_, _<_}
+use mathlib.Core.Path.{_≡_, ap, sym, _∙_, subst}
+use mathlib.Core.List.{List, [], _∷_, append-nil}
+use Prim.Native.Nat.{ℕ, _+_, _≤_, _<_}
 use native.Mathlib.Omega.{arith}
 use lib.ListN.{length, take, drop, getD}
 use Rattle.geometry.specs.declared.Geometry.{Geometry}
@@ -15,7 +15,7 @@ use Rattle.rules.specs.Put.{put}
 use Rattle.reading.specs.EntryLaws.{length-entry}
 use Rattle.editing.specs.PageChange.{entriesBytes}
 use Rattle.entries.specs.declared.Seat.{Seat}
-use Rattle.marks.specs.MapPages.{HasRoot, WritesMap}
+use Rattle.marks.specs.MapPages.{WritesMap}
 use Rattle.slots.specs.Slots.{HasSpan, Rewrites, entryFrom}
 use Rattle.storing.specs.Free.{freeFrom, NextFree, CountsFree, HasRoom, Stores}
 use Rattle.storing.specs.FreeLaws.{from-all}

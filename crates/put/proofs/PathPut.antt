@@ -1,7 +1,7 @@
 -- A put by path: each refusal in its place, and the file that is inserted or replaced.
-use mathlib.Core.Path.{_≡_, ap, sym, _∙_, subst}
+use mathlib.Core.Path.{_≡_, ap, sym, subst}
 use mathlib.Core.List.{List}
-use Prim.Native.Nat.{ℕ, _/_, _≤_, _<_}
+use Prim.Native.Nat.{ℕ, _≤_, _<_}
 use native.Mathlib.Omega.{arith}
 use lib.ListN.{getD}
 use borrow.Author.Tests.{ne-eqb}
@@ -15,8 +15,7 @@ use Rattle.rules.specs.Chain.{Link}
 use Rattle.rules.specs.Names.{attribute}
 use Rattle.rules.specs.Tree.{Label}
 use Rattle.rules.specs.Control.{theRoot}
-use Rattle.rules.specs.Check.{check}
-use Rattle.rules.specs.Paths.{Path, pathOf, fileKey, Found, nothing, aFile, find, atRoot, Place, directoryAt}
+use Rattle.rules.specs.Paths.{Path, pathOf, fileKey, aFile, find, atRoot, Place, directoryAt}
 use Rattle.rules.specs.Put.{writable, put}
 use Rattle.reading.specs.Accepted.{accepted-iff}
 use Rattle.reading.specs.CheckCall.{bytes-known}

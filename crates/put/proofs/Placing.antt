@@ -1,27 +1,23 @@
 -- Where a file's entry goes: to the first page with space or a page that joins, or to the place of the file it replaces.
-use mathlib.Core.Path.{_≡_, refl, ap, ap₂, sym, _∙_, subst}
-use mathlib.Core.Bool.{Bool, true, false}
+use mathlib.Core.Path.{_≡_, ap, sym, _∙_, subst}
 use mathlib.Core.List.{List, [], _∷_, _++_}
-use Prim.Native.Nat.{ℕ, _+_, _/_, _≤_}
+use Prim.Native.Nat.{ℕ, _+_, _≤_}
 use native.Mathlib.Omega.{arith}
-use lib.ListN.{length}
 use Rattle.geometry.specs.declared.Geometry.{Geometry}
-use Rattle.geometry.specs.Geometry.{firstEntries, laterEntries}
 use Rattle.packet.specs.Packet.{viewOf}
 use Rattle.rules.specs.declared.Entry.{Entry}
 use Rattle.rules.specs.PageSets.{bit, count}
-use Rattle.rules.specs.Chain.{Link, pages}
-use Rattle.rules.specs.Names.{attribute}
-use Rattle.rules.specs.Tree.{Label, keyOf, Items, Token, newPage, entry, tokens, fileEntry, keys, used}
-use Rattle.rules.specs.Owners.{own, owners}
+use Rattle.rules.specs.Chain.{pages}
+use Rattle.rules.specs.Tree.{Label, keyOf, Items, newPage, entry, tokens, fileEntry, keys, used}
+use Rattle.rules.specs.Owners.{owners}
 use Rattle.rules.specs.OwnerLaws.{Represents, represents-same, represents-owners}
-use Rattle.rules.specs.Paths.{fileKey, Found, nothing, aFile, find}
-use Rattle.rules.specs.Put.{isFull, keptPages, put}
+use Rattle.rules.specs.Paths.{fileKey, Found}
+use Rattle.rules.specs.Put.{keptPages, put}
 use Rattle.rules.specs.EditLaws.{none-found, found-file}
 use Rattle.rules.specs.Candidate.{chainPages}
 use Rattle.editing.specs.PageChange.{entryTokens}
 use Rattle.editing.specs.FormedPaths.{formed}
-use Rattle.editing.specs.PutDirectory.{extraPages, extra-old, extra-new, after-old, after-new, same-label}
+use Rattle.editing.specs.PutDirectory.{extra-old, extra-new, after-old, after-new, same-label}
 use Rattle.editing.specs.PutLaws.{Asked, label, kept-old}
 use Rattle.chain.specs.KnownChain.{KnownChain}
 use Rattle.entries.specs.declared.Seat.{Seat}

@@ -1,15 +1,14 @@
 -- The file's pages of a put: enough or too few of them free, and the chain that the code stores in them.
-use mathlib.Core.Path.{_≡_, refl, ap, ap₂, sym, _∙_, subst}
-use mathlib.Core.List.{List, [], _∷_, _++_}
-use Prim.Native.Nat.{ℕ, zero, suc, _+_, _≤_, _<_}
+use mathlib.Core.Path.{_≡_, ap, sym, _∙_, subst}
+use mathlib.Core.List.{List, [], _++_}
+use Prim.Native.Nat.{ℕ, _+_, _≤_, _<_}
 use native.Mathlib.Omega.{arith}
 use lib.ListN.{length, take, drop, length-drop}
-use lib.Seq.{length-take-le}
 use Rattle.geometry.specs.declared.Geometry.{Geometry}
 use Rattle.geometry.specs.Geometry.{dataCapacity}
 use Rattle.packet.specs.Packet.{play}
 use Rattle.rules.specs.declared.Entry.{Entry}
-use Rattle.rules.specs.Result.{Res, ok, err}
+use Rattle.rules.specs.Result.{ok}
 use Rattle.rules.specs.PageSets.{count, range, freePages}
 use Rattle.rules.specs.PageSetLaws.{count-append}
 use Rattle.rules.specs.Chain.{Link, pages, first, linked, spread, pagesFor}
@@ -20,10 +19,8 @@ use Rattle.rules.specs.Paths.{fileKey}
 use Rattle.rules.specs.Put.{replace, keptPages, put}
 use Rattle.editing.specs.PutLaws as laws
 use Rattle.editing.specs.PutLaws.{Asked}
-use Rattle.editing.specs.PutDone.{imageAfter, put-fits, put-full}
-use Rattle.storing.specs.Free.{freeFrom, Next, found, none, NextFree, CountsFree, HasRoom, Stored, Stores}
-use Rattle.storing.specs.FreeLaws.{from-all}
-use Rattle.volume.specs.declared.Edited.{Edited}
+use Rattle.editing.specs.PutDone.{put-fits, put-full}
+use Rattle.storing.specs.Free.{freeFrom, Next, found, none, NextFree, CountsFree, HasRoom, Stores}
 use Rattle.volume.specs.declared.Edited.the-variants as edited
 use Rattle.volume.specs.Edits.{leaves, Answered}
 use Rattle.stages.specs.OneEdit as one

@@ -8,18 +8,17 @@ use Rattle.geometry.specs.declared.Shape.the-variants.{Fits}
 use Rattle.geometry.specs.Geometry.{controlSize, geometryOf}
 use Rattle.packet.specs.Packet.{good, viewOf}
 use Rattle.rules.specs.declared.Entry.{Entry}
-use Rattle.rules.specs.Result.{Res, ok, err}
+use Rattle.rules.specs.Result.{ok, err}
 use Rattle.rules.specs.Chain.{Link}
-use Rattle.rules.specs.Tree.{Label, keyOf, Items, fileEntry, Token, newPage, entry, tokens}
+use Rattle.rules.specs.Tree.{Label, Items, fileEntry, Token, newPage, entry, tokens}
 use Rattle.rules.specs.Owners.{owners}
 use Rattle.rules.specs.OwnerLaws.{Represents}
 use Rattle.rules.specs.Paths.{fileKey, nothing, aFile, find}
-use Rattle.rules.specs.Put.{keptPages, put}
+use Rattle.rules.specs.Put.{keptPages, put, extraPages, itemsAfter}
 use Rattle.rules.specs.Candidate.{Demand3}
+use Rattle.rules.specs.Demand2.{PutDone}
 use Rattle.editing.specs.PageChange.{entryTokens, controlOn}
-use Rattle.editing.specs.PutDirectory.{extraPages, itemsAfter}
 use Rattle.editing.specs.PutLaws.{Asked, label}
-use Rattle.editing.specs.PutDone.{PutDone}
 use Rattle.chain.specs.KnownChain.{ChainStands}
 use Rattle.entries.specs.declared.Seat.{Seat}
 use Rattle.lookup.specs.Searches.{TreeAt, PlaceOf}

@@ -12,10 +12,9 @@ use Rattle.rules.specs.declared.Line.{Line}
 use Rattle.rules.specs.Result.{Res, ok, err}
 use Rattle.rules.specs.ResultLaws.{clash}
 use Rattle.rules.specs.Tree.{Image}
-use Rattle.rules.specs.Check.{check}
 use Rattle.rules.specs.Listing.{linesOf, lineAt}
 use Rattle.rules.specs.Calls.{readBytes, lengthOf, filled, asked, listCall, readCall}
-use Rattle.reading.specs.CheckCall.{WellFormedAt, asked-formed, asked-answered, bytes-known}
+use Rattle.reading.specs.CheckCall.{asked-formed, asked-answered, bytes-known}
 use Rattle.listing.specs.Standing.{Accepted}
 use Rattle.walk.specs.declared.Walk.{Walk}
 use Rattle.walk.specs.declared.Walk.the-variants as w

@@ -13,7 +13,7 @@ use Rattle.rules.specs.Tree.{Image}
 use Rattle.rules.specs.Check.{check}
 use Rattle.rules.specs.Listing.{linesOf, lineAt}
 use Rattle.rules.specs.Calls.{readBytes, lengthOf, filled}
-use Rattle.reading.specs.CheckCall.{WellFormedAt}
+use Rattle.rules.specs.Demand2.{WellFormedAt}
 use Rattle.chain.specs.KnownChain.{ChainStands}
 use Rattle.query.specs.declared.Listed.{Listed}
 use Rattle.query.specs.declared.Listed.the-variants as listed

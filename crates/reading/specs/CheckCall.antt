@@ -1,34 +1,23 @@
 -- The calls: check answers 0 exactly when the image is well formed in its geometry; list and read are answered from its tree.
-use mathlib.Core.Path.{_≡_, refl, ap, sym, _∙_, subst}
+use mathlib.Core.Path.{_≡_, refl, ap, sym, _∙_}
 use mathlib.Core.Logic.{_↔_}
 use mathlib.Core.List.{List, [], _∷_}
-use Prim.Native.Nat.{ℕ, zero, suc, _<_}
-use native.Mathlib.Omega.{arith}
+use Prim.Native.Nat.{ℕ, suc, _<_}
 use lib.ListN.{length, getD}
-use Rattle.geometry.specs.declared.Geometry.{Geometry}
 use Rattle.geometry.specs.declared.Shape.{Shape}
 use Rattle.geometry.specs.declared.Shape.the-variants.{Fits, Wrong}
 use Rattle.geometry.specs.Geometry.{geometryOf}
 use Rattle.geometry.specs.Number.{Bytes}
 use Rattle.geometry.specs.ShapeLaws.{fit-of}
-use Rattle.packet.specs.Packet.{viewOf}
 use Rattle.rules.specs.declared.Totals.{Totals}
-use Rattle.rules.specs.Result.{Res, ok, err, andThen}
+use Rattle.rules.specs.Result.{Res, ok, andThen}
 use Rattle.rules.specs.ResultLaws.{clash, on-then, then-ok}
 use Rattle.rules.specs.Tree.{Image}
 use Rattle.rules.specs.Owners.{totals}
-use Rattle.rules.specs.WellFormed.{WellFormed}
-use Rattle.rules.specs.Check.{check}
 use Rattle.rules.specs.Calls.{asked, checkCall}
 use Rattle.rules.specs.CallLaws.{asked-fits, asked-wrong}
+use Rattle.rules.specs.Demand2.{WellFormedAt}
 use Rattle.reading.specs.Accepted.{accepted-iff}
-
--- the image is well formed in the geometry that the sizes give
-pub record WellFormedAt (P N : ℕ) (image table : List ℕ) : Type 0 where
-  pub geometry : Geometry
-  pub right : geometryOf P N (length image) (length table) ≡ Fits geometry
-  pub reading : Image
-  pub formed : WellFormed geometry image reading
 
 module _ (P N : ℕ) (image table : List ℕ) (bytes : Bytes image) where
   module _ {A : Type 0} (question : Image → Res A) where

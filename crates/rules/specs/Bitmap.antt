@@ -1,5 +1,5 @@
 -- Document 01, "Directory pages": the bitmap. Bit k, low bit of the first byte first, is 1 exactly when page k is in use; bits from N up are 0.
-use mathlib.Core.List.{List, [], _∷_, _++_}
+use mathlib.Core.List.{List, [], _∷_}
 use Prim.Native.Nat.{ℕ, zero, suc, _+_, _*_, _/_, _%_, _^_}
 use lib.Dec.{eqb}
 use lib.ListN.{length, getD, take, drop}
@@ -7,7 +7,7 @@ use Rattle.geometry.specs.declared.Geometry.{Geometry}
 use Rattle.geometry.specs.Choose.{choose}
 use Rattle.geometry.specs.Geometry.{bitmapSize}
 use Rattle.rules.specs.PageSets.{bit, mem}
-use Rattle.rules.specs.Chain.{Link, link, content}
+use Rattle.rules.specs.Chain.{Link, link}
 use Rattle.rules.specs.Tree.{Map, inRoot, inFile}
 
 -- bit k of a bitmap

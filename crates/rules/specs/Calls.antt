@@ -18,7 +18,7 @@ use Rattle.rules.specs.Control.{theRoot}
 use Rattle.rules.specs.Check.{check}
 use Rattle.rules.specs.Owners.{totals, tableAfter}
 use Rattle.rules.specs.Listing.{linesOf, lineAt}
-use Rattle.rules.specs.Paths.{Path, pathOf, fileKey, Found, nothing, aFile, aDirectory, find, atRoot, directoryAt}
+use Rattle.rules.specs.Paths.{pathOf, fileKey, Found, nothing, aFile, aDirectory, find, atRoot, directoryAt}
 use Rattle.rules.specs.Format.{format}
 use Rattle.rules.specs.Put.{put}
 use Rattle.rules.specs.Delete.{delete}

@@ -1,21 +1,19 @@
 -- Document 01, "Words of demand 3", over byte images.
 use mathlib.Core.Path.{_≡_}
 use mathlib.Core.Logic.{_↔_}
-use mathlib.Core.Bool.{Bool, true, false}
 use mathlib.Core.List.{List, [], _∷_, _++_}
 use Prim.Native.Nat.{ℕ, _≤_}
-use lib.Dec.{eqb}
 use lib.ListN.{length}
 use Rattle.geometry.specs.declared.Geometry.{Geometry}
 use Rattle.geometry.specs.declared.Shape.the-variants.{Fits}
 use Rattle.geometry.specs.Geometry.{geometryOf}
 use Rattle.geometry.specs.Number.{Bytes}
 use Rattle.packet.specs.Packet.{viewOf}
-use Rattle.rules.specs.Result.{Res, ok}
+use Rattle.rules.specs.Result.{ok}
 use Rattle.rules.specs.PageSets.{count}
 use Rattle.rules.specs.Chain.{Link, pages, content}
-use Rattle.rules.specs.Names.{key, attribute, entryBytes}
-use Rattle.rules.specs.Tree.{Label, Items, fileEntry, directoryEntry, ownPages, Map, inRoot, inFile, Image, used}
+use Rattle.rules.specs.Names.{attribute, entryBytes}
+use Rattle.rules.specs.Tree.{Label, fileEntry, directoryEntry, ownPages, Map, inRoot, inFile, Image, used}
 use Rattle.rules.specs.Control.{theRoot}
 use Rattle.rules.specs.Check.{check}
 use Rattle.rules.specs.Paths.{Path, pathOf, fileKey, directoryKey, Found, nothing, aFile, aDirectory, find, atRoot, Place, directoryAt}

@@ -1,9 +1,9 @@
 -- Document 01, "Packet and chain": chains of pages.
-use mathlib.Core.Bool.{Bool, not}
+use mathlib.Core.Bool.{not}
 use mathlib.Core.List.{List, [], _∷_, _++_}
-use Prim.Native.Nat.{ℕ, zero, suc, _+_, _-_, _/_}
+use Prim.Native.Nat.{ℕ, zero, suc, _-_, _/_}
 use lib.Dec.{ltb, eqb}
-use lib.ListN.{length, take, drop}
+use lib.ListN.{take, drop}
 use Rattle.geometry.specs.Choose.{choose}
 use Rattle.packet.specs.Packet.{Packet, bad, good, View, Write, write}
 use Rattle.rules.specs.Result.{Res, ok, err, andThen as _>>=_, andAfter as _>>_, refuse-unless}

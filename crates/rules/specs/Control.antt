@@ -1,15 +1,15 @@
 -- Document 01, "Directory pages": the control fields of the root and of a subdirectory, and whole entries.
-use mathlib.Core.Bool.{Bool, true, false, _&&_}
-use mathlib.Core.List.{List, [], _∷_, _++_}
-use Prim.Native.Nat.{ℕ, zero, suc, _+_, _-_, _*_, _/_, _%_}
+use mathlib.Core.Bool.{Bool, _&&_}
+use mathlib.Core.List.{List, _∷_, _++_}
+use Prim.Native.Nat.{ℕ, zero, suc, _+_, _-_, _*_, _%_}
 use lib.Dec.{leb, ltb, eqb}
 use lib.ListN.{length, getD, take, drop, replicate}
 use Rattle.geometry.specs.declared.Geometry.{Geometry}
 use Rattle.geometry.specs.Choose.{choose}
 use Rattle.geometry.specs.Geometry.{entrySize, controlSize}
 use Rattle.geometry.specs.Number.{number, numberBytes}
-use Rattle.rules.specs.Result.{Res, ok, err, andThen as _>>=_, andAfter as _>>_, refuse-unless}
-use Rattle.rules.specs.Chain.{Link, first, Test}
+use Rattle.rules.specs.Result.{Res, ok, andThen as _>>=_, andAfter as _>>_, refuse-unless}
+use Rattle.rules.specs.Chain.{first, Test}
 use Rattle.rules.specs.Names.{ROOT}
 use Rattle.rules.specs.Tree.{Map, inRoot, inFile}
 

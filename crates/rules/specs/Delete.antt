@@ -1,12 +1,12 @@
 -- Document 01, "Edits": delete.
-use mathlib.Core.List.{List, [], _∷_}
+use mathlib.Core.List.{List, []}
 use Prim.Native.Nat.{ℕ}
 use lib.Dec.{eqb}
 use Rattle.geometry.specs.declared.Geometry.{Geometry}
 use Rattle.geometry.specs.Choose.{choose}
 use Rattle.packet.specs.Packet.{viewOf}
 use Rattle.rules.specs.Result.{Res, ok, err, andThen as _>>=_, andAfter as _>>_}
-use Rattle.rules.specs.Tree.{keyOf, Items, end, page, file, dir, Image}
+use Rattle.rules.specs.Tree.{keyOf, Items, end, page, file, dir}
 use Rattle.rules.specs.Control.{theRoot}
 use Rattle.rules.specs.Check.{check}
 use Rattle.rules.specs.Paths.{Path, pathOf, fileKey, Found, nothing, aFile, aDirectory, find, atRoot, Place, directoryAt}

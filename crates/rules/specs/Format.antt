@@ -1,15 +1,14 @@
 -- Document 01, "Edits": format.
-use mathlib.Core.Bool.{Bool, true, false, not, _||_}
+use mathlib.Core.Bool.{Bool, not, _||_}
 use mathlib.Core.List.{List, [], _∷_, _++_}
 use Prim.Native.Nat.{ℕ, zero, suc, _+_}
-use lib.ListN.{length}
 use Rattle.geometry.specs.declared.Geometry.{Geometry}
 use Rattle.geometry.specs.Choose.{choose}
 use Rattle.geometry.specs.Geometry.{dataCapacity, bitmapSize}
 use Rattle.packet.specs.Packet.{Write, play}
-use Rattle.rules.specs.Result.{Res, ok, err, andThen as _>>=_, andAfter as _>>_, refuse-unless}
-use Rattle.rules.specs.Chain.{Link, linked, spread, pagesFor}
-use Rattle.rules.specs.Tree.{Items, end, page, directoryLinks, Map, inRoot, inFile, Image, used}
+use Rattle.rules.specs.Result.{Res, ok, andThen as _>>=_, andAfter as _>>_, refuse-unless}
+use Rattle.rules.specs.Chain.{linked, spread, pagesFor}
+use Rattle.rules.specs.Tree.{end, page, directoryLinks, Map, inRoot, inFile, Image, used}
 use Rattle.rules.specs.Control.{localAllowed, rootControl}
 use Rattle.rules.specs.Bitmap.{bitmapFrom, bitmapOf}
 use Rattle.rules.specs.Writes.{mapWrites}

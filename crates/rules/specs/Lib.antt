@@ -17,6 +17,7 @@ pub mod Calls
 pub mod ListText
 pub mod WellFormed
 pub mod Candidate
+pub mod Demand2
 pub mod ResultLaws
 pub mod PageSetLaws
 pub mod ChainLaws

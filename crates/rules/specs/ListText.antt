@@ -5,8 +5,6 @@ use Prim.Native.Nat.{ℕ, zero, suc, _+_, _-_, _/_, _%_}
 use lib.Dec.{leb, ltb, eqb}
 use lib.ListN.{length, take, drop}
 use Rattle.geometry.specs.declared.Geometry.{Geometry}
-use Rattle.geometry.specs.declared.Shape.{Shape}
-use Rattle.geometry.specs.declared.Shape.the-variants.{Fits, Wrong}
 use Rattle.geometry.specs.Choose.{choose}
 use Rattle.geometry.specs.Geometry.{geometryOf}
 use Rattle.geometry.specs.Number.{number, numberBytes}
@@ -14,7 +12,6 @@ use Rattle.packet.specs.Packet.{viewOf}
 use Rattle.rules.specs.declared.Totals.{Totals}
 use Rattle.rules.specs.declared.Line.{Line}
 use Rattle.rules.specs.Result.{Res, ok, err, andThen as _>>=_, andAfter as _>>_, refuse-unless}
-use Rattle.rules.specs.Tree.{Image}
 use Rattle.rules.specs.Check.{check}
 use Rattle.rules.specs.Owners.{totals}
 use Rattle.rules.specs.Listing.{linesOf}

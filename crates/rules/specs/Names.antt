@@ -1,8 +1,8 @@
 -- Document 01, "Directory pages": names, extensions and entries.
 use mathlib.Core.Bool.{Bool, true, false, _&&_, _||_}
 use mathlib.Core.List.{List, [], _∷_, _++_}
-use Prim.Native.Nat.{ℕ, zero, suc, _+_, _-_, _*_, _/_, _%_}
-use lib.Dec.{leb, ltb, eqb}
+use Prim.Native.Nat.{ℕ, _+_, _*_, _/_, _%_}
+use lib.Dec.{leb, eqb}
 use lib.ListN.{getD, take, drop}
 use Rattle.geometry.specs.Choose.{choose}
 use Rattle.geometry.specs.Number.{number, numberBytes}

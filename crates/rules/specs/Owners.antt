@@ -1,6 +1,6 @@
 -- Totals and the owner table, both counted over the chains of the tree (document 01, "Numbers that an answer can carry").
 use mathlib.Core.List.{List, [], _∷_, _++_}
-use Prim.Native.Nat.{ℕ, zero, suc, _+_}
+use Prim.Native.Nat.{ℕ, suc, _+_}
 use lib.ListN.{length, drop, set, replicate}
 use Rattle.rules.specs.declared.Totals.{Totals}
 use Rattle.rules.specs.Result.{Res, ok, err}

@@ -1,7 +1,7 @@
 -- Document 01, "Edits": paths, and what stands at one.
-use mathlib.Core.Bool.{Bool, true, false, _&&_}
-use mathlib.Core.List.{List, [], _∷_, _++_}
-use Prim.Native.Nat.{ℕ, zero, suc, _+_, _-_, _*_, _/_, _%_}
+use mathlib.Core.Bool.{Bool, true, _&&_}
+use mathlib.Core.List.{List, [], _∷_}
+use Prim.Native.Nat.{ℕ, zero, suc, _-_, _/_, _%_}
 use lib.Dec.{leb, eqb}
 use lib.ListN.{length, getD, take, drop}
 use Rattle.geometry.specs.Choose.{choose}
@@ -44,6 +44,10 @@ directoryKey name = key name 127
 
 abbrev pub fileKey : Path → ℕ
 fileKey q = key (q .name) (q .extension)
+
+-- its name and extension, top bit clear
+abbrev pub fileLabel : Path → Label
+fileLabel q = record { name = q .name; extension = q .extension }
 
 -- what stands in a directory under a key
 pub data Found : Type 0 where

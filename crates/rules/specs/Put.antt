@@ -1,14 +1,14 @@
 -- Document 01, "Edits": put.
 use mathlib.Core.Bool.{Bool, true, false}
-use mathlib.Core.List.{List, [], _∷_, _++_}
+use mathlib.Core.List.{List, [], _++_}
 use Prim.Native.Nat.{ℕ, zero, suc, _+_, _-_}
-use lib.Dec.{leb, ltb, eqb}
+use lib.Dec.{leb, eqb}
 use lib.ListN.{length, take, drop, getD}
 use Rattle.geometry.specs.declared.Geometry.{Geometry}
 use Rattle.geometry.specs.Choose.{choose}
 use Rattle.geometry.specs.Geometry.{dataCapacity, firstEntries, laterEntries}
 use Rattle.packet.specs.Packet.{viewOf, play}
-use Rattle.rules.specs.Result.{Res, ok, err, andThen as _>>=_, andAfter as _>>_, refuse-unless}
+use Rattle.rules.specs.Result.{Res, ok, andThen as _>>=_, andAfter as _>>_, refuse-unless}
 use Rattle.rules.specs.PageSets.{bit, mem, freePages}
 use Rattle.rules.specs.Chain.{Link, spread, pagesFor}
 use Rattle.rules.specs.Tree.{Label, keyOf, Items, end, page, file, dir, allPages, keys, mapPages, Image, used}
@@ -16,7 +16,7 @@ use Rattle.rules.specs.Names.{attribute}
 use Rattle.rules.specs.Control.{theRoot}
 use Rattle.rules.specs.Bitmap.{bitmapOf}
 use Rattle.rules.specs.Check.{check}
-use Rattle.rules.specs.Paths.{Path, pathOf, fileKey, Found, nothing, aFile, aDirectory, find, atRoot, Place, directoryAt, changeAt}
+use Rattle.rules.specs.Paths.{Path, pathOf, fileKey, fileLabel, Found, nothing, aFile, aDirectory, find, atRoot, Place, directoryAt, changeAt}
 use Rattle.rules.specs.Writes.{Edit, edited, editWrites}
 
 -- a new entry, put in front by `new`, goes to the end of the first directory page with space, in chain order: `room` entries are free on this page,
@@ -55,21 +55,22 @@ writable (aDirectory l d) = ok tt
 unfoldable pub keptPages : Path → Image → List ℕ
 keptPages q i = allPages (changeAt (q .directories) (replace (fileKey q) []) (i .tree)) ++ mapPages (i .map)
 
+-- how many pages join the directory: one if the file is new and no page has space
+unfoldable pub extraPages : Geometry → Label → Items → ℕ
+extraPages g l d = choose (mem (keyOf l) (keys d)) 0 (bit (isFull (laterEntries g) (firstEntries g) 0 d))
+
+-- the directory with the file: in the place of the one it replaces, or as a new entry, q the page that may join
+unfoldable pub itemsAfter : Geometry → Label → ℕ → List Link → Items → Items
+itemsAfter g l q chain d = choose (mem (keyOf l) (keys d)) (replace (keyOf l) chain d) (insert (file l chain) (laterEntries g) q (firstEntries g) 0 d)
+
 -- the edit of a put over the free pages, rising; 17 if they are too few. If the directory needs a page, the lowest free one is its; the file then takes the next
 unfoldable pub putEdit : Geometry → List ℕ → Path → List ℕ → Place → Res Edit
 putEdit g free q bytes place =
-    let there = mem (fileKey q) (keys (place .items)) in
-    let extra = choose there 0 (bit (isFull (laterEntries g) (firstEntries g) 0 (place .items))) in
+    let extra = extraPages g (fileLabel q) (place .items) in
     let wanted = pagesFor (dataCapacity g) (length bytes) in
-    let chain = spread (dataCapacity g) (take wanted (drop extra free)) bytes in
-    let new = file (record { name = q .name; extension = q .extension }) chain in do
+    let chain = spread (dataCapacity g) (take wanted (drop extra free)) bytes in do
       refuse-unless (leb (extra + wanted) (length free)) 17 0
-      ok (record {
-        site = place .site;
-        before = place .items;
-        after = choose there (replace (fileKey q) chain (place .items)) (insert new (laterEntries g) (getD free 0 0) (firstEntries g) 0 (place .items));
-        chain = chain;
-      })
+      ok (record { site = place .site; before = place .items; after = itemsAfter g (fileLabel q) (getD free 0 0) chain (place .items); chain = chain })
 
 -- the image after an edit that marks nothing beforehand
 unfoldable pub plainEdit : Geometry → List ℕ → Edit → Image → List ℕ → List ℕ

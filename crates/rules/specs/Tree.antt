@@ -1,12 +1,11 @@
 -- The tree of an accepted image, page boundaries kept; and what stands in a directory's pages (document 01, "Directory pages").
 use mathlib.Core.List.{List, [], _∷_, _++_}
-use Prim.Native.Nat.{ℕ, zero, suc, _+_, _/_}
+use Prim.Native.Nat.{ℕ, zero, suc, _/_}
 use lib.ListN.{length, drop}
 use Rattle.geometry.specs.declared.Geometry.{Geometry}
 use Rattle.geometry.specs.Geometry.{entrySize}
-use Rattle.packet.specs.Packet.{Write}
 use Rattle.rules.specs.declared.Entry.{Entry}
-use Rattle.rules.specs.Chain.{Link, link, pages, first, linked}
+use Rattle.rules.specs.Chain.{Link, link, pages, first}
 use Rattle.rules.specs.Names.{key, entryOf, entryBytes}
 
 -- name and extension byte of an entry

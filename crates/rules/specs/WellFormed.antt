@@ -2,14 +2,14 @@
 use mathlib.Core.Path.{_≡_}
 use mathlib.Core.Bool.{true}
 use mathlib.Core.List.{List, [], _∷_, _++_}
-use Prim.Native.Nat.{ℕ, zero, suc, _*_, _^_, _≤_, _<_}
+use Prim.Native.Nat.{ℕ, zero, suc, _^_, _<_}
 use lib.ListN.{length}
 use Rattle.geometry.specs.declared.Geometry.{Geometry}
-use Rattle.geometry.specs.Geometry.{Fit, bitmapSize}
+use Rattle.geometry.specs.Geometry.{Fit}
 use Rattle.geometry.specs.Number.{Bytes}
 use Rattle.packet.specs.Packet.{good, View, Write, write, viewOf}
-use Rattle.rules.specs.PageSets.{count, range, Once, Within}
-use Rattle.rules.specs.Chain.{Link, first, content, linked}
+use Rattle.rules.specs.PageSets.{Once, Within}
+use Rattle.rules.specs.Chain.{content, linked}
 use Rattle.rules.specs.Names.{validName, fileNumber, directoryNumber}
 use Rattle.rules.specs.Tree.{Label, Items, end, page, file, dir, startOf, directoryLinks, keys, Map, inRoot, inFile, Image, used}
 use Rattle.rules.specs.Control.{rootControl, subControl, Above, theRoot}

@@ -1,14 +1,13 @@
 -- A page's data put together with some bytes exchanged, as the code does it, and written.
 use mathlib.Core.Path.{_≡_, refl, ap, ap₂, sym, _∙_, subst}
 use mathlib.Core.List.{List, [], _++_, append-assoc}
-use Prim.Native.Nat.{ℕ, _+_, _-_, _*_, _≤_, _<_}
+use Prim.Native.Nat.{ℕ, _+_, _-_, _≤_, _<_}
 use native.Mathlib.Omega.{arith}
 use lib.ListN.{length, take, drop, length-append, length-drop}
 use lib.Seq.{length-take-le, take-at, take-all}
 use Rattle.geometry.specs.declared.Geometry.{Geometry}
 use Rattle.geometry.specs.Geometry.{Fit}
 use Rattle.geometry.specs.Page.{pageOf, overwritten}
-use Rattle.geometry.specs.PageLaws.{page-length}
 use Rattle.packet.specs.Packet.{good, View, viewOf, write, writePage}
 use Rattle.packet.specs.Reading.{right-packet}
 use Rattle.packet.proofs.Fronts.{front-more}
@@ -18,7 +17,7 @@ use Rattle.chain.specs.declared.Step.the-variants as step
 use Rattle.chain.specs.Claims.{IsGood, Counted}
 use Rattle.chain.specs.Steps.{firstStep, after, stepOf}
 use Rattle.chain.proofs.Following.{stepped, small-view}
-use Rattle.slots.specs.Slots.{overFront, spliced, SpanIn, HasSpan}
+use Rattle.slots.specs.Slots.{overFront, spliced, HasSpan}
 
 pub length-spliced : (from to : ℕ) (new b : List ℕ) → from ≤ to → to ≤ length b → length (spliced from to new b) ≡ from + length new + (length b - to)
 length-spliced from to new b h k =

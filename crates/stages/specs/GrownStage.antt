@@ -16,7 +16,7 @@ use Rattle.rules.specs.Writes.{changes, backwards}
 use Rattle.reading.specs.PacketLaws.{stand-right}
 use Rattle.editing.specs.Plays.{WriteFits, WritesFit, write-fit, view-elsewhere}
 use Rattle.editing.specs.PageChange.{entryTokens, controlOn, fromPage, Parted, parted, bytes-of-entries, links-of-entries, entriesBytes, changes-grown}
-use Rattle.slots.specs.Slots.{spliced, HasSpan, Rewrites}
+use Rattle.slots.specs.Slots.{HasSpan, Rewrites}
 use Rattle.stages.specs.OneEdit.{OneEdit, control, old, new, old-stands, new-fits, stage₁, stage₂, fit₁}
 use Rattle.stages.specs.PageStage.{fits-from}
 

@@ -10,10 +10,10 @@ use Rattle.geometry.specs.Number.{Bytes}
 use Rattle.packet.specs.Packet.{viewOf, Write, play}
 use Rattle.rules.specs.PageSets.{Within}
 use Rattle.rules.specs.PageSetLaws.{range-le}
-use Rattle.rules.specs.Chain.{Link, content, linked}
+use Rattle.rules.specs.Chain.{Link, linked}
 use Rattle.rules.specs.Tree.{Items, startOf, directoryLinks, allPages, Map, inRoot, inFile, mapPages, Image, used}
 use Rattle.rules.specs.Control.{theRoot}
-use Rattle.rules.specs.Bitmap.{mapSize, bitmapOf, refill, remap}
+use Rattle.rules.specs.Bitmap.{mapSize, bitmapOf, remap}
 use Rattle.rules.specs.BitmapLaws.{length-bitmap}
 use Rattle.rules.specs.WellFormed.{Stand, MapHolds, WellFormed}
 use Rattle.rules.specs.OwnerLaws.{Represents}

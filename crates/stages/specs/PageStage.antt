@@ -2,7 +2,7 @@
 use mathlib.Core.Path.{_≡_, refl, ap, ap₂, sym, _∙_, subst}
 use mathlib.Core.Bool.{Bool, true, false}
 use mathlib.Core.List.{List, [], _∷_, _++_, append-assoc}
-use Prim.Native.Nat.{ℕ, _+_, _-_, _*_, _≤_}
+use Prim.Native.Nat.{ℕ, _+_, _*_}
 use native.Mathlib.Omega.{arith}
 use lib.ListN.{length, take, drop, length-append}
 use lib.Seq.{take-at, drop-at}
@@ -20,7 +20,7 @@ use Rattle.reading.specs.PacketLaws.{stand-right}
 use Rattle.editing.specs.Plays.{WriteFits, WritesFit, play-same}
 use Rattle.editing.specs.DirectoryWrites.{same-write}
 use Rattle.editing.specs.MapWrites.{control-length}
-use Rattle.editing.specs.PageChange.{OneChange, changes-none, changes-one, entryTokens, entriesBytes, controlOn, pageBytes, page-change}
+use Rattle.editing.specs.PageChange.{OneChange, changes-none, changes-one, entryTokens, entriesBytes, controlOn, page-change}
 use Rattle.slots.specs.Slots.{spliced, HasSpan, Rewrites}
 use Rattle.stages.specs.OneEdit.{OneEdit, marks, control, old, new, old-stood, old-stands, new-fits, stage₁, stage₂, bytes₁}
 

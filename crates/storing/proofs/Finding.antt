@@ -1,7 +1,7 @@
 -- The owner table searched and counted page by page: the free pages that are left give the whole.
 use mathlib.Core.Path.{_≡_, refl, ap, sym, _∙_}
 use mathlib.Core.Logic.{inl, inr}
-use mathlib.Core.List.{List, [], _∷_}
+use mathlib.Core.List.{List}
 use Prim.Native.Nat.{ℕ, suc, _+_, _-_, _/_, _≤_, _<_}
 use native.Mathlib.Nat.{eq-zero-or-pos, zero-div, div-le-self}
 use native.Mathlib.Omega.{arith}

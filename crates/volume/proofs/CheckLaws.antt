@@ -1,9 +1,9 @@
 -- Both halves together: the bitmap compared, the table filled, the call.
-use mathlib.Core.Path.{_≡_, refl, ap, ap₂, sym, _∙_, subst}
-use mathlib.Core.List.{List, [], _++_}
-use Prim.Native.Nat.{ℕ, zero, suc, _+_, _-_, _≤_, _<_}
+use mathlib.Core.Path.{_≡_, ap, ap₂, sym, _∙_, subst}
+use mathlib.Core.List.{List, _++_}
+use Prim.Native.Nat.{ℕ, _+_, _-_, _≤_, _<_}
 use native.Mathlib.Omega.{arith}
-use lib.ListN.{length, getD, take, drop, replicate}
+use lib.ListN.{length, getD, take, drop}
 use Rattle.geometry.specs.declared.Geometry.{Geometry}
 use Rattle.geometry.specs.declared.Shape.the-variants.{Fits}
 use Rattle.geometry.specs.Geometry.{geometryOf, Fit}
@@ -15,7 +15,6 @@ use Rattle.rules.specs.Result.{Res, ok, err, andThen}
 use Rattle.rules.specs.ResultLaws.{clash, then-ok, then-err}
 use Rattle.rules.specs.Tree.{Image, used}
 use Rattle.rules.specs.Owners.{owners, totals, tableAfter}
-use Rattle.rules.specs.OwnerLaws.{Represents}
 use Rattle.rules.specs.Check.{Scan, judgeBits, scan, check}
 use Rattle.rules.specs.Calls.{asked, checkCall}
 use Rattle.rules.specs.CallLaws.{asked-fits}

@@ -1,9 +1,9 @@
 -- The bitmap file claimed, as the code goes.
-use mathlib.Core.Path.{_≡_, refl, ap, sym, _∙_, subst}
+use mathlib.Core.Path.{_≡_, ap, sym, _∙_, subst}
 use mathlib.Core.List.{List, []}
-use Prim.Native.Nat.{ℕ, zero, suc, _+_, _≤_, _<_}
+use Prim.Native.Nat.{ℕ, suc}
 use native.Mathlib.Omega.{arith}
-use lib.Dec.{ltb, eqb}
+use lib.Dec.{eqb}
 use lib.ListN.{length, replicate, length-replicate}
 use borrow.Author.Tests.{eq-eqb, ne-eqb, lt-ltb, le-ltb}
 use Rattle.geometry.specs.declared.Geometry.{Geometry}
@@ -11,19 +11,17 @@ use Rattle.geometry.specs.Geometry.{bitmapSize}
 use Rattle.packet.specs.Packet.{View}
 use Rattle.rules.specs.Result.{Res, ok, err, andThen, refuse-unless}
 use Rattle.rules.specs.ResultLaws.{then-ok, then-err, refuse-true, refuse-false}
-use Rattle.rules.specs.PageSets.{count, range, Within}
 use Rattle.rules.specs.Chain.{Link, pages, content, walk}
-use Rattle.rules.specs.ChainLaws.{length-pages, walk-sound}
-use Rattle.rules.specs.Tree.{Map, inFile, mapPages}
+use Rattle.rules.specs.ChainLaws.{length-pages}
+use Rattle.rules.specs.Tree.{inFile}
 use Rattle.rules.specs.Owners.{own}
-use Rattle.rules.specs.OwnerLaws.{Represents, represents-none, represents-own, represents-length, inUse}
+use Rattle.rules.specs.OwnerLaws.{Represents, represents-none, represents-length, inUse}
 use Rattle.directory.specs.declared.control.Kind.the-variants as kind
 use Rattle.directory.specs.Faults.{testOf}
 use Rattle.chain.specs.declared.Claim.{Claim}
 use Rattle.chain.specs.declared.Claim.the-variants as claim
 use Rattle.chain.specs.Claims.{Claims}
 use Rattle.walk.specs.declared.Walk.the-variants as w
-use Rattle.walk.specs.Walks.{Answers}
 use Rattle.walk.proofs.Parts.{test-file, IsClaimed, claimed-chain, claim-refused}
 use Rattle.volume.specs.Scans.{judgeFileMap, noEntries, MapClaimed}
 

@@ -1,10 +1,9 @@
 -- The first half of the check from its parts: page 0, the bitmap's place, the root.
 use mathlib.Core.Path.{_≡_, refl, ap, sym, _∙_, subst}
 use mathlib.Core.Bool.{Bool, true, false}
-use mathlib.Core.List.{List, [], _++_}
-use Prim.Native.Nat.{ℕ, zero, suc, _+_, _-_, _≤_, _<_}
+use mathlib.Core.List.{List, []}
+use Prim.Native.Nat.{ℕ, suc, _+_, _-_, _≤_, _<_}
 use native.Mathlib.Omega.{arith}
-use lib.Dec.{leb, ltb}
 use lib.Seq.{drop-drop, take-take}
 use lib.ListN.{length, getD, take, drop, replicate, length-append, length-replicate}
 use borrow.Author.Tests.{ltb-true, leb-true}
@@ -18,17 +17,17 @@ use Rattle.packet.specs.declared.Judged.{Judged}
 use Rattle.packet.specs.declared.Judged.the-variants.{Whole, Bad}
 use Rattle.packet.specs.Packet.{Packet, bad, good, View, packetOf, viewOf}
 use Rattle.packet.specs.Judged.{judged}
-use Rattle.packet.specs.Reading.{Right, right-packet}
+use Rattle.packet.specs.Reading.{right-packet}
 use Rattle.rules.specs.declared.Totals.{Totals}
 use Rattle.rules.specs.Result.{Res, ok, err, andThen, andAfter, refuse-unless}
-use Rattle.rules.specs.ResultLaws.{ok-inj, clash, on-then, on-refuse, then-ok, then-err, refuse-true, refuse-false}
-use Rattle.rules.specs.PageSets.{count, range, Within}
+use Rattle.rules.specs.ResultLaws.{ok-inj, clash, on-then, on-refuse, then-ok, then-err}
+use Rattle.rules.specs.PageSets.{count, Within}
 use Rattle.rules.specs.PageSetLaws.{count-append}
 use Rattle.rules.specs.Chain.{Link, content, packetAt, anyPage}
 use Rattle.rules.specs.ChainLaws.{packet-good, length-pages, walk-sound}
-use Rattle.rules.specs.Tree.{Items, ownPages, innerPages, allPages, Map, inRoot, inFile, mapPages, Image, used}
+use Rattle.rules.specs.Tree.{Items, ownPages, innerPages, allPages, Map, inRoot, inFile, mapPages, used}
 use Rattle.rules.specs.Control.{theRoot, Head, headOf, mapStart, mapCount, rootPage, localAllowed, placeZeros, fieldAt}
-use Rattle.rules.specs.Owners.{fileCount, directoryCount, own, owners, totals}
+use Rattle.rules.specs.Owners.{own, owners}
 use Rattle.rules.specs.OwnerLaws.{nonzero, Represents, represents-none, represents-own, represents-length, inUse, length-own, represents-owners}
 use Rattle.rules.specs.Check.{Scan, rawBits, judgeBits, judgeMap, judgeDirectory, judgeSub, scan, check}
 use Rattle.rules.specs.Soundness.{scan-sound}
@@ -38,7 +37,7 @@ use Rattle.directory.specs.Faults.{control}
 use Rattle.walk.specs.declared.Walk.{Walk}
 use Rattle.walk.specs.declared.Walk.the-variants as w
 use Rattle.walk.specs.Walks.{Answers, plusDirectory, ownDirectory}
-use Rattle.volume.specs.Scans.{rootOf, judgeFileMap, noEntries, MapClaimed, RootWalked, Scanned}
+use Rattle.volume.specs.Scans.{rootOf, judgeFileMap, noEntries, MapClaimed, Scanned}
 use Rattle.chain.specs.KnownChain.{ChainStands}
 use Rattle.chain.proofs.Following.{chain-stands}
 

@@ -2,7 +2,7 @@
 use mathlib.Core.Path.{_≡_}
 use mathlib.Core.Logic.{_↔_}
 use mathlib.Core.List.{List, []}
-use Prim.Native.Nat.{ℕ, suc, _+_, _≤_, _<_}
+use Prim.Native.Nat.{ℕ, suc}
 use lib.Dec.{ltb, eqb}
 use lib.ListN.{length, replicate}
 use Rattle.geometry.specs.declared.Geometry.{Geometry}
@@ -14,9 +14,9 @@ use Rattle.rules.specs.Chain.{content, anyPage, walk}
 use Rattle.rules.specs.Tree.{Map, inFile, mapPages, Image}
 use Rattle.rules.specs.Control.{theRoot, headOf, rootPage}
 use Rattle.rules.specs.Owners.{own, owners, totals}
-use Rattle.rules.specs.OwnerLaws.{Represents, inUse}
+use Rattle.rules.specs.OwnerLaws.{Represents}
 use Rattle.rules.specs.Check.{Scan, judgeBits, judgeDirectory, judgeSub, scan, check}
-use Rattle.reading.specs.CheckCall.{WellFormedAt}
+use Rattle.rules.specs.Demand2.{WellFormedAt}
 use Rattle.directory.specs.declared.control.Root.{Root}
 use Rattle.directory.specs.declared.control.Root.the-variants as root
 use Rattle.directory.specs.Faults.{control}

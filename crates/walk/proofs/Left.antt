@@ -26,7 +26,7 @@ use Rattle.chain.specs.Claims.{IsGood, Counted}
 use Rattle.chain.specs.Steps.{firstStep}
 use Rattle.entries.specs.declared.Seat.{Seat}
 use Rattle.entries.specs.Seats.{chainKeys, openOf, advanced, HasEntries}
-use Rattle.entries.proofs.TokensAt.{TokensAt, PageAt, EntryAt, tokenKeys, token-keys, first-page, next-entry, no-more, page-after, next-tokens}
+use Rattle.entries.proofs.TokensAt.{TokensAt, EntryAt, tokenKeys, token-keys, first-page, next-entry, no-more, page-after, next-tokens}
 use Rattle.walk.specs.declared.Walk.{Walk}
 use Rattle.walk.specs.declared.Walk.the-variants as w
 use Rattle.walk.specs.Walks.{Good, Answers, plusPart, ownPart, Met, EntryWalked}

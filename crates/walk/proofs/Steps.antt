@@ -1,8 +1,7 @@
 -- A directory's entries, one by one: totals, owner table and what is left of them.
-use mathlib.Core.Path.{_≡_, refl, ap, ap₂, sym, _∙_, subst}
-use mathlib.Core.Bool.{Bool, true, false, not}
+use mathlib.Core.Path.{_≡_, refl, ap, sym, _∙_}
 use mathlib.Core.List.{List, [], _∷_, _++_}
-use Prim.Native.Nat.{ℕ, zero, suc, _+_, _-_, _≤_, _<_}
+use Prim.Native.Nat.{ℕ, suc, _+_, _≤_, _<_}
 use native.Mathlib.Omega.{arith}
 use lib.ListN.{length, length-append}
 use Rattle.geometry.specs.declared.Geometry.{Geometry}
@@ -10,19 +9,19 @@ use Rattle.geometry.specs.Geometry.{controlSize}
 use Rattle.packet.specs.Packet.{View}
 use Rattle.rules.specs.declared.Entry.{Entry}
 use Rattle.rules.specs.declared.Totals.{Totals}
-use Rattle.rules.specs.Result.{Res, ok, err, andThen}
+use Rattle.rules.specs.Result.{ok, err}
 use Rattle.rules.specs.ResultLaws.{then-ok, then-err}
 use Rattle.rules.specs.PageSets.{count, range, Within}
 use Rattle.rules.specs.PageSetLaws.{count-append}
 use Rattle.rules.specs.Chain.{Link, pages, Test, walk}
 use Rattle.rules.specs.ChainLaws.{length-pages}
 use Rattle.rules.specs.Names.{key}
-use Rattle.rules.specs.Tree.{Items, end, page, file, dir, Token, newPage, entry, linkTokens, ownPages, innerPages, allPages}
+use Rattle.rules.specs.Tree.{Items, end, page, Token, newPage, entry, linkTokens, ownPages, innerPages, allPages}
 use Rattle.rules.specs.Control.{Above}
 use Rattle.rules.specs.Owners.{fileCount, directoryCount, own, ownEntries}
-use Rattle.rules.specs.OwnerLaws.{Represents, inUse, represents-own, represents-entries, represents-length, represents-within, length-own, length-entries}
+use Rattle.rules.specs.OwnerLaws.{Represents, represents-own, represents-entries, represents-length, length-own, length-entries}
 use Rattle.rules.specs.Check.{Part, chain, directory, partPages, add, Judge, judgeEntry, judgeEntries, judgeDirectory, judgeSub}
-use Rattle.rules.specs.Soundness.{PartClear, entriesOf, entry-sound, entries-sound, sub-sound, pages-tokens}
+use Rattle.rules.specs.Soundness.{PartClear, entriesOf, entries-sound, sub-sound, pages-tokens}
 use Rattle.walk.specs.declared.Walk.{Walk}
 use Rattle.walk.specs.declared.Walk.the-variants as w
 use Rattle.walk.specs.Walks.{Good, Ready, Answers, plusEntries, plusDirectory, plusPart, ownDirectory, ownPart}

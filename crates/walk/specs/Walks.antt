@@ -15,7 +15,6 @@ use Rattle.rules.specs.PageSets.{mem}
 use Rattle.rules.specs.Chain.{Link, pages, Test}
 use Rattle.rules.specs.Names.{key}
 use Rattle.rules.specs.Tree.{Items, ownPages, innerPages}
-use Rattle.rules.specs.Control.{Above}
 use Rattle.rules.specs.Owners.{fileCount, directoryCount, own, ownEntries}
 use Rattle.rules.specs.OwnerLaws.{Represents, inUse}
 use Rattle.rules.specs.Check.{Part, chain, directory, judgeLabel, judgeFile, judgeEntry, judgeDirectory, judgeSub}

@@ -1,11 +1,11 @@
 -- Whatever answers what is left of the chain answers the whole; each page claimed was free, so the chain ends.
 use mathlib.Core.Path.{_≡_, refl, sym, _∙_}
 use mathlib.Core.List.{List}
-use Prim.Native.Nat.{ℕ, _+_, _-_, _<_}
+use Prim.Native.Nat.{ℕ, _+_, _-_}
 use native.Mathlib.Omega.{arith}
 use lib.ListN.{length, length-set}
 use Rattle.packet.specs.Packet.{viewOf}
-use Rattle.rules.specs.OwnerLaws.{Represents, taken, represents-taken, inUse}
+use Rattle.rules.specs.OwnerLaws.{Represents, taken, represents-taken}
 use Rattle.directory.specs.Faults.{testOf}
 use Rattle.chain.proofs.Claiming.{has-owner, no-owner, inside, counted-on, Held, held-first, counts, crossed, refused, last, again, leaves-room, stays-small}
 use borrow.Author.Needs.{needs}

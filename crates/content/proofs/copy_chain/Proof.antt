@@ -7,7 +7,7 @@ use lib.ListN.{length}
 use Rattle.packet.specs.Packet.{viewOf}
 use Rattle.rules.specs.Chain.{Link, content}
 use Rattle.chain.specs.KnownChain.{ChainStands}
-use Rattle.chain.proofs.Following.{never-refused, page-known, counts-up, data-inside, read-first}
+use Rattle.chain.proofs.Following.{never-refused, page-known, counts-up, data-inside}
 use Rattle.content.proofs.Reading.{Copying, copy-first, has-place, copied-all, copy-on}
 use borrow.Author.Needs.{needs}
 use Rattle.content.proofs.copy_chain.Statement.{statement}

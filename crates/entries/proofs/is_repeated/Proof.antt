@@ -1,5 +1,4 @@
 -- Page by page: whatever chain stands there, what is left of its entries decides.
-use mathlib.Core.Path.{_≡_}
 use mathlib.Core.List.{List}
 use Prim.Native.Nat.{_+_, _-_, _≤_}
 use native.Mathlib.Omega.{arith}
@@ -8,7 +7,7 @@ use Rattle.geometry.specs.Geometry.{controlSize}
 use Rattle.packet.specs.Packet.{viewOf}
 use Rattle.rules.specs.PageSets.{mem}
 use Rattle.rules.specs.Chain.{Link}
-use Rattle.entries.specs.Seats.{chainKeys, HasEntries}
+use Rattle.entries.specs.Seats.{chainKeys}
 use Rattle.entries.proofs.KeyLaws.{entry-least}
 use Rattle.entries.proofs.Seated.{counts-on}
 use Rattle.entries.proofs.Looking.{Looking, started, searched, found, not-found, next-good, look-on}

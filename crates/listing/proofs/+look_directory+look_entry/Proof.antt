@@ -1,5 +1,5 @@
 -- Whatever answers what is ahead in a directory answers the whole; a subdirectory has a level less.
-use Prim.Native.Nat.{ℕ, _+_, _-_, _*_, _<_}
+use Prim.Native.Nat.{_<_, ℕ, _+_, _-_, _*_}
 use native.Mathlib.Omega.{arith}
 use Rattle.packet.specs.Packet.{viewOf}
 use Rattle.rules.specs.Tree.{Items}

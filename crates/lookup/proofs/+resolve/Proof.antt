@@ -1,9 +1,9 @@
 -- Whatever the names left lead to is what all lead to; a name less is left each time.
 use mathlib.Core.Path.{sym, _∙_}
 use native.Mathlib.Omega.{arith}
-use Prim.Native.Nat.{ℕ, _<_}
+use Prim.Native.Nat.{_<_, ℕ}
 use Rattle.packet.specs.Packet.{viewOf}
-use Rattle.lookup.proofs.Resolving.{lead-here, lead-absent, Next, lead-next, lead-on}
+use Rattle.lookup.proofs.Resolving.{lead-here, lead-absent, lead-next, lead-on}
 use borrow.Author.Needs.{needs}
 use borrow.Fn.Kinds.{In}
 use borrow.Fn.PlainCycle.{Measures, is, falls, and}

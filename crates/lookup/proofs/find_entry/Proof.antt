@@ -1,6 +1,5 @@
 use mathlib.Core.Path.{subst}
 use Rattle.packet.specs.Packet.{viewOf}
-use Rattle.lookup.specs.declared.Spot.{Spot}
 use Rattle.lookup.specs.Searches.{IsPlace}
 use borrow.Author.Needs.{needs}
 use Rattle.lookup.proofs.find_entry.Statement.{statement}

@@ -1,6 +1,6 @@
 use native.Mathlib.Omega.{arith}
 use lib.ListN.{length-take}
-use Rattle.packet.proofs.Cases.{Framed, frame-fits, no-frame, wrong-check, right-check}
+use Rattle.packet.proofs.Cases.{frame-fits, no-frame, wrong-check, right-check}
 use borrow.Author.Needs.{needs}
 use Rattle.packet.proofs.judge.Statement.{statement}
 use Rattle.packet.proofs.judge.Tie as tie

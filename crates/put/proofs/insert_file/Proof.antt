@@ -1,4 +1,3 @@
-use mathlib.Core.Path.{_∙_}
 use Rattle.put.proofs.Placing.{has-tree, to-lay, to-grow, lay-answer, grow-answer}
 use borrow.Author.Needs.{needs}
 use Rattle.put.proofs.insert_file.Statement.{statement}

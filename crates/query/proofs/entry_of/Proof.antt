@@ -1,6 +1,5 @@
-use mathlib.Core.Path.{sym, _∙_, subst}
+use mathlib.Core.Path.{sym, subst}
 use Rattle.rules.specs.Listing.{linesOf}
-use Rattle.listing.specs.declared.Look.{Look}
 use Rattle.listing.specs.Standing.{Tells}
 use borrow.Author.Needs.{needs}
 use Rattle.query.proofs.entry_of.Statement.{statement}

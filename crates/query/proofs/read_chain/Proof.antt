@@ -1,5 +1,3 @@
-use mathlib.Core.Path.{sym}
-use mathlib.Core.List.{List}
 use native.Mathlib.Omega.{arith}
 use Rattle.rules.specs.Chain.{content}
 use Rattle.query.proofs.FileRead.{too-short, long-enough}

@@ -1,6 +1,5 @@
 -- The page's data are put together and written.
 use mathlib.Core.Path.{refl, sym, _∙_}
-use mathlib.Core.List.{List}
 use Prim.Native.Nat.{ℕ, _+_, _-_}
 use native.Mathlib.Omega.{arith}
 use lib.ListN.{length, length-replicate}

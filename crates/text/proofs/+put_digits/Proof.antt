@@ -1,4 +1,4 @@
-use Prim.Native.Nat.{ℕ, _<_}
+use Prim.Native.Nat.{_<_, ℕ}
 use Rattle.text.proofs.Steps.{nothing, and-then, no-digit, one-digit, one-digit-more}
 use borrow.Author.Needs.{needs}
 use borrow.Fn.Kinds.{In}

@@ -1,4 +1,3 @@
-use mathlib.Core.Path.{refl}
 use native.Mathlib.Omega.{arith}
 use Rattle.volume.specs.Scans.{MapClaimed}
 use Rattle.volume.proofs.MapLaws.{empty-table, map-none, map-refused, map-counted, map-short, map-done}

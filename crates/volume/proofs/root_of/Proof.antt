@@ -2,8 +2,7 @@ use mathlib.Core.Path.{sym, ap, _∙_}
 use native.Mathlib.Omega.{arith}
 use lib.ListN.{length}
 use Rattle.geometry.specs.PageLaws.{page-length}
-use Rattle.packet.specs.Packet.{viewOf, packetOf}
-use Rattle.packet.specs.Judged.{judged}
+use Rattle.packet.specs.Packet.{viewOf}
 use Rattle.volume.proofs.ScanLaws.{root-bad, root-good, page-fits, root-page}
 use borrow.Author.Needs.{needs}
 use Rattle.volume.proofs.root_of.Statement.{statement}

@@ -1,5 +1,4 @@
 use native.Mathlib.Omega.{arith}
-use Rattle.rules.specs.Control.{rootPage}
 use Rattle.directory.specs.Faults.{testOf}
 use borrow.Author.Needs.{needs}
 use Rattle.volume.proofs.walk_root.Statement.{statement}

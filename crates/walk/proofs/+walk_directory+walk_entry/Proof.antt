@@ -3,10 +3,10 @@ use mathlib.Core.Path.{_≡_, refl, sym, _∙_}
 use mathlib.Core.List.{List}
 use native.Mathlib.Omega.{arith}
 use lib.ListN.{length}
-use Prim.Native.Nat.{ℕ, _+_, _-_, _*_, _≤_, _<_}
+use Prim.Native.Nat.{_<_, ℕ, _+_, _-_, _*_, _≤_}
 use Rattle.packet.specs.Packet.{viewOf}
 use Rattle.rules.specs.Chain.{Link}
-use Rattle.rules.specs.OwnerLaws.{Represents, taken, represents-taken}
+use Rattle.rules.specs.OwnerLaws.{Represents, taken}
 use Rattle.chain.specs.KnownChain.{ChainStands, KnownChain}
 use Rattle.entries.proofs.Seated.{counts-on, same-next}
 use Rattle.walk.proofs.Parts.{claim-few, totals-fit, below-some, below-ready, entry-refused, file-entry, entry-below, entry-directory}

@@ -1,5 +1,5 @@
-use mathlib.Core.Path.{_≡_, sym, _∙_}
-use Rattle.chain.proofs.StepLaws.{Taken, taken, enter-refused, reaches, entered-fault, entered-on}
+use mathlib.Core.Path.{sym, _∙_}
+use Rattle.chain.proofs.StepLaws.{taken, enter-refused, reaches, entered-fault, entered-on}
 use borrow.Author.Needs.{needs}
 use Rattle.chain.proofs.Cursor.enter.Statement.{statement}
 use Rattle.chain.proofs.Cursor.enter.Tie as tie

@@ -1,5 +1,4 @@
 use mathlib.Core.Path.{_∙_}
-use native.Mathlib.Omega.{arith}
 use Rattle.entries.proofs.SeatLaws.{entry-inside, entry-from, entry-reads}
 use borrow.Author.Needs.{needs}
 use Rattle.entries.proofs.Seat.entry.Statement.{statement}

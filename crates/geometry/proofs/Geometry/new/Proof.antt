@@ -1,4 +1,3 @@
-use mathlib.Core.Path.{_∙_}
 use Rattle.geometry.proofs.Shapes.{small-page, large-page, few-pages, many-pages}
 use borrow.Author.Needs.{needs}
 use Rattle.geometry.proofs.Geometry.new.Statement.{statement}

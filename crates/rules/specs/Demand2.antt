@@ -1,0 +1,126 @@
+-- Demand 2, over byte images: what a call that is done leaves.
+use mathlib.Core.Path.{_≡_}
+use mathlib.Core.Bool.{Bool}
+use mathlib.Core.List.{List, [], _∷_}
+use Prim.Native.Nat.{ℕ, _+_, _-_}
+use lib.Dec.{eqb}
+use lib.ListN.{length, drop}
+use Rattle.geometry.specs.declared.Geometry.{Geometry}
+use Rattle.geometry.specs.declared.Shape.the-variants.{Fits}
+use Rattle.geometry.specs.Geometry.{geometryOf, dataCapacity}
+use Rattle.geometry.specs.Choose.{choose}
+use Rattle.geometry.specs.Number.{Bytes}
+use Rattle.geometry.specs.Page.{pageOf}
+use Rattle.packet.specs.Packet.{Write, write}
+use Rattle.rules.specs.Result.{Res, ok}
+use Rattle.rules.specs.PageSets.{count, freePages}
+use Rattle.rules.specs.Chain.{Link, pages, content, pagesFor}
+use Rattle.rules.specs.Tree.{Label, end, page, mapPages, Image, used}
+use Rattle.rules.specs.Control.{theRoot}
+use Rattle.rules.specs.Bitmap.{bitmapOf}
+use Rattle.rules.specs.WellFormed.{WellFormed}
+use Rattle.rules.specs.Paths.{Path, pathOf, fileLabel, Found, nothing, aFile, aDirectory, atRoot, Place, directoryAt}
+use Rattle.rules.specs.Writes.{Edit, edited, editWrites}
+use Rattle.rules.specs.Format.{emptyImage, formatWrites}
+use Rattle.rules.specs.Put.{keptPages, extraPages, putEdit}
+use Rattle.rules.specs.Delete.{deleteEdit}
+use Rattle.rules.specs.Calls.{bytesOf}
+use Rattle.rules.specs.Candidate.{atPath, chainPages, foundEntry, reads, targetPath, filePath}
+
+-- the image is well formed in the geometry that the sizes give
+pub record WellFormedAt (P N : ℕ) (image table : List ℕ) : Type 0 where
+  pub geometry : Geometry
+  pub right : geometryOf P N (length image) (length table) ≡ Fits geometry
+  pub reading : Image
+  pub formed : WellFormed geometry image reading
+
+-- what a path shows: the bytes of its entry, the pages of its chain, what it reads, and what a read of it answers
+pub record Shown : Type 0 where
+  pub entry : List ℕ
+  pub pages : List ℕ
+  pub bytes : List ℕ
+  pub answer : Res (List ℕ)
+
+abbrev pub shown : Geometry → Found → Shown
+shown g f = record { entry = foundEntry g f; pages = chainPages f; bytes = reads f; answer = bytesOf f }
+
+-- the larger of two numbers
+abbrev pub larger : ℕ → ℕ → ℕ
+larger a b = a + (b - a)
+
+-- where the longest packet ends that is written into page p; 0 if none is
+abbrev pub reach : Geometry → ℕ → List Write → ℕ
+reach g p [] = 0
+reach g p (write q b n ∷ ws) = choose (eqb p q) (larger (length b + g .width + 3) (reach g p ws)) (reach g p ws)
+
+-- an edit from the tree i to the tree j by these page writes
+pub record EditDone (g : Geometry) (image : List ℕ) (i j : Image) (ws : List Write) (after : List ℕ) : Type 0 where
+  pub wellFormed : WellFormed g after j
+  pub areBytes : Bytes after
+  pub sized : length after ≡ length image
+  pub mapPages-same : mapPages (j .map) ≡ mapPages (i .map)
+  -- in every page the bytes after the packets written there are as before
+  pub rest : (p : ℕ) → drop (reach g p ws) (pageOf g p after) ≡ drop (reach g p ws) (pageOf g p image)
+
+-- a format: an accepted image without entries
+pub record Formatted (g : Geometry) (local : Bool) (image after : List ℕ) : Type 0 where
+  -- accepted, with the root's page and the bitmap file's alone
+  pub wellFormed : WellFormed g after (emptyImage g local)
+  pub noEntries : emptyImage g local .tree ≡ page 0 end
+  pub sized : length after ≡ length image
+  pub areBytes : Bytes image → Bytes after
+  -- in every page the bytes after the packets written there are as before
+  pub rest : (p : ℕ) → drop (reach g p (formatWrites g (emptyImage g local))) (pageOf g p after) ≡ drop (reach g p (formatWrites g (emptyImage g local))) (pageOf g p image)
+
+-- a delete: an accepted image without the path's file, all else as before
+pub record Deleted (g : Geometry) (path image after : List ℕ) : Type 0 where
+  pub before : Image
+  pub accepted : WellFormed g image before
+  pub to : Path
+  pub formed : pathOf path ≡ ok to
+  pub place : Place
+  pub there : directoryAt (to .directories) atRoot theRoot (before .tree) ≡ ok place
+  -- accepted, with the old tree but for that entry; bytes outside the packets written stay
+  pub tree : Image
+  pub tree-is : tree ≡ edited g (to .directories) (deleteEdit to place) before
+  pub done : EditDone g image before tree (editWrites g (bitmapOf g (used before) (before .map)) (deleteEdit to place) before tree) after
+  -- the path's file was there and is gone
+  pub label : Label
+  pub links : List Link
+  pub was : atPath (filePath to) before ≡ aFile label links
+  pub gone : atPath (filePath to) tree ≡ nothing
+  -- every other path shows what it showed: entry, pages, bytes
+  pub others : (ks : List ℕ) → (ks ≡ filePath to → ⊥) → shown g (atPath ks tree) ≡ shown g (atPath ks before)
+  -- the pages of its chain are free
+  pub total : (x : ℕ) → count x (used tree) + count x (pages links) ≡ count x (used before)
+
+-- a put: an accepted image that reads the bytes at the path, all else as before
+pub record PutDone (g : Geometry) (path bytes image after : List ℕ) : Type 0 where
+  pub before : Image
+  pub accepted : WellFormed g image before
+  pub to : Path
+  pub formed : pathOf path ≡ ok to
+  pub place : Place
+  pub there : directoryAt (to .directories) atRoot theRoot (before .tree) ≡ ok place
+  pub edit : Edit
+  pub made : putEdit g (freePages (keptPages to before) (g .pages)) to bytes place ≡ ok edit
+  -- accepted, with the edited tree; bytes outside the packets written stay
+  pub tree : Image
+  pub tree-is : tree ≡ edited g (to .directories) edit before
+  pub done : EditDone g image before tree (editWrites g (bitmapOf g (used before) (before .map)) edit before tree) after
+  -- the path's file has the path's name and extension byte, top bit clear, and reads the bytes
+  pub links : List Link
+  pub file : atPath (filePath to) tree ≡ aFile (fileLabel to) links
+  pub reads : content links ≡ bytes
+  -- every other path shows what it showed: entry, pages, bytes; of the target, its entry, and its pages with those that join it
+  pub others : (ks : List ℕ) → (ks ≡ filePath to → ⊥) → (ks ≡ targetPath to → ⊥) → shown g (atPath ks tree) ≡ shown g (atPath ks before)
+  pub target-label : Label
+  pub target-before : atPath (targetPath to) before ≡ aDirectory target-label (place .items)
+  pub target-after : atPath (targetPath to) tree ≡ aDirectory target-label (edit .after)
+  pub target-entry : foundEntry g (atPath (targetPath to) tree) ≡ foundEntry g (atPath (targetPath to) before)
+  pub joined : List ℕ
+  pub target-pages : (x : ℕ) → count x (chainPages (atPath (targetPath to) tree)) ≡ count x (chainPages (atPath (targetPath to) before)) + count x joined
+  -- a page joins it exactly if the file is new and no page has space
+  pub joins : length joined ≡ extraPages g (fileLabel to) (place .items)
+  -- the pages in use
+  pub total : length (used tree) + length (chainPages (atPath (filePath to) before)) ≡ length (used before) + length joined + pagesFor (dataCapacity g) (length bytes)
