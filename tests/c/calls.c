@@ -1,4 +1,4 @@
-/* Calls check, list, read, format and delete as firmware calls them, with numbers and byte slices, and prints each answer and each byte lent.
+/* Calls check, list, read, format, put and delete as firmware calls them, with numbers and byte slices, and prints each answer and each byte lent.
  *
  * The argument names a file: page length and page count (4 bytes each, low byte first), then the image, which ends the file.
  * Standard input has the calls; a number is 4 bytes, low byte first:
@@ -7,14 +7,15 @@
  *   l  bytes of the owner table, position
  *   r  bytes of the owner table, bytes of the path, bytes of the output, then the path
  *   f  bytes of the owner table, 0 for a bitmap file or any other number for a local bitmap
+ *   p  bytes of the owner table, bytes of the path, bytes of the file, then the path and the file's bytes
  *   d  bytes of the owner table, bytes of the path, then the path
  *   s  bytes of stack to use in blocks of 1,024, to show that a limit of the stack holds
  *
- * For each call it prints the letter and the fields of the answer, then a line with the owner table, for `r` one with the output and for `f` and
- * `d` one with the image, in hexadecimal. The calls after an edit have the image as it left it.
+ * For each call it prints the letter and the fields of the answer, then a line with the owner table, for `r` one with the output and for `f`, `p`
+ * and `d` one with the image, in hexadecimal. The calls after an edit have the image as it left it.
  * Owner table and output hold the byte C7 before each call. A slice of no bytes has no address.
- * It ends with 1 if a call changed the path, bytes next to a lent slice, or the image where it must not (c, l, r and every refusal), and with 2 if
- * its input is not as above.
+ * It ends with 1 if a call changed the path, the file's bytes, bytes next to a lent slice, or the image where it must not (c, l, r and every
+ * refusal), and with 2 if its input is not as above.
  */
 #include <inttypes.h>
 #include <stdio.h>
@@ -28,6 +29,7 @@ enum {
     MOST_OWNERS = 150000,
     MOST_PATH = 4096,
     MOST_OUT = 1 << 20,
+    MOST_FILE = MOST_IMAGE,
     MARGIN = 64,
     BLOCK = 1024,
     BEFORE = 0xC7
@@ -42,7 +44,8 @@ struct lent {
 static uint8_t image_bytes[MARGIN + MOST_IMAGE + MARGIN], image_before[MOST_IMAGE];
 static uint8_t owner_bytes[MARGIN + MOST_OWNERS + MARGIN];
 static uint8_t out_bytes[MARGIN + MOST_OUT + MARGIN];
-static uint8_t path[MOST_PATH], path_before[MOST_PATH];
+static uint8_t path_bytes[MARGIN + MOST_PATH + MARGIN], path_before[MOST_PATH];
+static uint8_t file_bytes[MARGIN + MOST_FILE + MARGIN], file_before[MOST_FILE];
 static struct lent image;
 static uint32_t page_length, page_count;
 
@@ -118,20 +121,22 @@ static void print_bytes(const struct lent *lent)
     putchar('\n');
 }
 
-/* Reads a path; one of no bytes has no address. */
-static const uint8_t *read_path(size_t length)
+/* Reads the bytes of a slice that a call must not change, and keeps a copy of them. */
+static struct lent read_given(uint8_t *buffer, uint8_t *before, size_t length)
 {
-    if (fread(path, 1, length, stdin) != length)
-        wrong_input("a path is missing");
-    memcpy(path_before, path, length);
-    return length == 0 ? NULL : path;
+    struct lent lent = lend(buffer, length);
+    if (fread(before, 1, length, stdin) != length)
+        wrong_input("the bytes of a slice are missing");
+    memcpy(buffer + MARGIN, before, length);
+    return lent;
 }
 
-/* Sees that the path is as before. */
-static void see_path(size_t length)
+/* Sees that a slice which a call must not change is as before. */
+static void see_given(const uint8_t *buffer, const uint8_t *before, size_t length, const char *what)
 {
-    if (memcmp(path, path_before, length) != 0)
-        wrong_write("path");
+    if (memcmp(buffer + MARGIN, before, length) != 0)
+        wrong_write(what);
+    see_margins(buffer, length, what);
 }
 
 /* After a call that must not change the image: sees that it did not, nor bytes next to a slice, and prints the owner table. */
@@ -170,13 +175,13 @@ static void call_read(void)
     struct lent owners = lend(owner_bytes, length_up_to(MOST_OWNERS));
     size_t path_length = length_up_to(MOST_PATH);
     struct lent out = lend(out_bytes, length_up_to(MOST_OUT));
-    const uint8_t *wanted = read_path(path_length);
-    struct owfs_length told = owfs_read(page_length, page_count, image.bytes, image.length, wanted, path_length, out.bytes, out.length, owners.bytes,
+    struct lent path = read_given(path_bytes, path_before, path_length);
+    struct owfs_length told = owfs_read(page_length, page_count, image.bytes, image.length, path.bytes, path.length, out.bytes, out.length, owners.bytes,
                                         owners.length);
     printf("r %" PRIu32 " %" PRIu32 " %" PRIu32 "\n", told.number, told.page, told.length);
     after_call(&owners);
     see_margins(out_bytes, out.length, "margin of the output");
-    see_path(path_length);
+    see_given(path_bytes, path_before, path.length, "path");
     print_bytes(&out);
 }
 
@@ -199,14 +204,29 @@ static void call_format(void)
     after_edit('f', told, &owners);
 }
 
+/* p: a put. */
+static void call_put(void)
+{
+    struct lent owners = lend(owner_bytes, length_up_to(MOST_OWNERS));
+    size_t path_length = length_up_to(MOST_PATH);
+    size_t file_length = length_up_to(MOST_FILE);
+    struct lent path = read_given(path_bytes, path_before, path_length);
+    struct lent file = read_given(file_bytes, file_before, file_length);
+    struct owfs_answer told = owfs_put(page_length, page_count, image.bytes, image.length, path.bytes, path.length, file.bytes, file.length, owners.bytes,
+                                       owners.length);
+    see_given(path_bytes, path_before, path.length, "path");
+    see_given(file_bytes, file_before, file.length, "bytes of the file");
+    after_edit('p', told, &owners);
+}
+
 /* d: a delete. */
 static void call_delete(void)
 {
     struct lent owners = lend(owner_bytes, length_up_to(MOST_OWNERS));
     size_t path_length = length_up_to(MOST_PATH);
-    const uint8_t *wanted = read_path(path_length);
-    struct owfs_answer told = owfs_delete(page_length, page_count, image.bytes, image.length, wanted, path_length, owners.bytes, owners.length);
-    see_path(path_length);
+    struct lent path = read_given(path_bytes, path_before, path_length);
+    struct owfs_answer told = owfs_delete(page_length, page_count, image.bytes, image.length, path.bytes, path.length, owners.bytes, owners.length);
+    see_given(path_bytes, path_before, path.length, "path");
     after_edit('d', told, &owners);
 }
 
@@ -237,6 +257,7 @@ int main(int count, char **arguments)
         case 'l': call_list(); break;
         case 'r': call_read(); break;
         case 'f': call_format(); break;
+        case 'p': call_put(); break;
         case 'd': call_delete(); break;
         case 's': call_stack(); break;
         default: wrong_input("no such call");

@@ -252,6 +252,15 @@ fn times<T: PartialEq + Debug>(
 }
 
 impl Times {
+    /// Prints lines with the ratios of these times to those of one check of the same image.
+    fn print_over_check(&self, check: &Times, call: &str, what: &str) {
+        let ratio = |time: Duration, check: Duration| time.as_secs_f64() / check.as_secs_f64();
+        let library = ratio(self.library, check.library);
+        let second = ratio(self.second, check.second);
+        println!("{call} over one check, {what}: library, ratio {library:.2}");
+        println!("{call} over one check, {what}: second program, ratio {second:.2}");
+    }
+
     /// Prints a line with the ratio.
     fn print(&self, call: &str, what: &str) {
         let micro = |time: Duration| time.as_secs_f64() * 1e6;
@@ -309,6 +318,49 @@ impl Bench {
             |image| library::format(p, n, image, &mut self.owners, 0),
             |image| referee::format(p, n, image, &mut self.second_owners, 0),
         )
+    }
+
+    /// The image without its last file, which leaves pages free for one of its length.
+    fn without_last_file(&self) -> Bench {
+        let mut built = self.built.clone();
+        let last = built.entries.pop().expect("the image has a file");
+        let (p, n) = (built.page_length, built.page_count);
+        let mut owners = self.owners.clone();
+        let told = referee::delete(p, n, &mut built.image, &last.path, &mut owners);
+        assert_eq!(told.number, 0);
+        Bench {
+            built,
+            what: format!("{} but one file", self.what),
+            owners: self.owners.clone(),
+            second_owners: self.second_owners.clone(),
+        }
+    }
+
+    /// Times a put of this path, of a file as long as the image's last.
+    fn put(&mut self, path: &[u8]) -> Times {
+        let (p, n) = (self.built.page_length, self.built.page_count);
+        let length = self.built.entries[self.built.entries.len() - 1].bytes.len();
+        let bytes: Vec<u8> = (0..length).map(|place| (place * 13 / 7) as u8).collect();
+        edit_times(
+            &self.built.image,
+            |image| library::put(p, n, image, path, &bytes, &mut self.owners),
+            |image| referee::put(p, n, image, path, &bytes, &mut self.second_owners),
+        )
+    }
+
+    /// Times and prints a put that replaces the last file and one of a new file, each beside one check of its image.
+    fn print_puts(&mut self, check: &Times) {
+        let last = self.built.entries[self.built.entries.len() - 1]
+            .path
+            .clone();
+        let replacement = self.put(&last);
+        replacement.print("replacement of the last file", &self.what);
+        replacement.print_over_check(check, "replacement of the last file", &self.what);
+        let mut bench = self.without_last_file();
+        let check = bench.check();
+        let new_file = bench.put(&last);
+        new_file.print("put of a new file", &bench.what);
+        new_file.print_over_check(&check, "put of a new file", &bench.what);
     }
 
     /// Times a delete of the last file.
@@ -373,8 +425,9 @@ fn print_method() {
          and an output of the file's length, all written before."
     );
     println!(
-        "Edits: each format and each delete gets a fresh copy of the image; making the copy is part of neither time. \
-         Both programs leave the same image."
+        "Edits: each format, put and delete gets a fresh copy of the image; making the copy is part of neither time. \
+         Both programs leave the same image. A put is of a file as long as the last, of other bytes; its time over one check's \
+         is that of the same image in the same run."
     );
     println!(
         "Warmed: each program is called for {} ms before it is timed. Then {ROUNDS} rounds of about {} ms \
@@ -397,9 +450,11 @@ fn main() {
     for (page_length, page_count) in [(32, 256), (32, 1_024), (128, 4_096)] {
         for full in [Full::Files, Full::LongFiles, Full::Directories] {
             let mut bench = full.image(page_length, page_count);
-            bench.check().print("check", &bench.what);
+            let check = bench.check();
+            check.print("check", &bench.what);
             bench.list().print("list of the last entry", &bench.what);
             bench.read().print("read of the last file", &bench.what);
+            bench.print_puts(&check);
             bench.delete().print("delete of the last file", &bench.what);
             bench.format().print("format over it", &bench.what);
         }

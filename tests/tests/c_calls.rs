@@ -1,5 +1,6 @@
 //! The library called by a C program (`tests/c/calls.c`), compiled here with warnings as errors, against the second program;
-//! and the largest directory with a limited stack. The archive is made by `rt staticlib owfs`.
+//! the largest directory with a limited stack; and an example of firmware (`tests/c/firmware.c`), with what it prints.
+//! The archive is made by `rt staticlib owfs`.
 
 mod common;
 
@@ -14,6 +15,7 @@ use common::generators::{
 };
 use common::{Button, Seed, Tally};
 use referee::builder::plan::Built;
+use referee::builder::random::random_name;
 use referee::rng::Rng;
 
 /// What the C program's owner table and output hold before a call.
@@ -39,6 +41,11 @@ enum Call {
     Format {
         owner_bytes: usize,
         local: u32,
+    },
+    Put {
+        owner_bytes: usize,
+        path: Vec<u8>,
+        bytes: Vec<u8>,
     },
     Delete {
         owner_bytes: usize,
@@ -66,6 +73,14 @@ impl Call {
                 bytes
             }
             Call::Format { owner_bytes, local } => request(b'f', &[*owner_bytes as u32, *local]),
+            Call::Put {
+                owner_bytes,
+                path,
+                bytes,
+            } => {
+                let lengths = [*owner_bytes as u32, path.len() as u32, bytes.len() as u32];
+                [request(b'p', &lengths).as_slice(), path, bytes].concat()
+            }
             Call::Delete { owner_bytes, path } => {
                 let mut bytes = request(b'd', &[*owner_bytes as u32, path.len() as u32]);
                 bytes.extend(path);
@@ -119,6 +134,16 @@ impl Call {
                 let first = line('f', told.number, &[told.page]);
                 format!("{first}{}{}", hex(&owners), hex(image))
             }
+            Call::Put {
+                owner_bytes,
+                path,
+                bytes,
+            } => {
+                let mut owners = vec![BEFORE; *owner_bytes];
+                let told = referee::put(p, n, image, path, bytes, &mut owners);
+                let first = line('p', told.number, &[told.page]);
+                format!("{first}{}{}", hex(&owners), hex(image))
+            }
             Call::Delete { owner_bytes, path } => {
                 let mut owners = vec![BEFORE; *owner_bytes];
                 let told = referee::delete(p, n, image, path, &mut owners);
@@ -159,25 +184,30 @@ fn scratch(name: &str) -> PathBuf {
     Path::new(env!("CARGO_TARGET_TMPDIR")).join(name)
 }
 
-/// The C program, compiled once.
+/// Compiles a C program of `tests/c` with these options and the library.
+fn compiled(source: &str, options: &[&str]) -> PathBuf {
+    let tests = Path::new(env!("CARGO_MANIFEST_DIR"));
+    let program = scratch(source).with_extension("");
+    let compiled = Command::new("cc")
+        .args(["-Wall", "-Wextra", "-Werror"])
+        .args(options)
+        .arg("-I")
+        .arg(tests.join("../include"))
+        .arg(tests.join("c").join(source))
+        .arg(tests.join("../target/staticlib/libowfs.a"))
+        .arg("-o")
+        .arg(&program)
+        .output()
+        .expect("cc runs");
+    let said = String::from_utf8_lossy(&compiled.stderr);
+    assert!(compiled.status.success(), "cc: {said}");
+    program
+}
+
+/// The C program that makes calls, compiled once.
 fn program() -> &'static Path {
     static PROGRAM: OnceLock<PathBuf> = OnceLock::new();
-    PROGRAM.get_or_init(|| {
-        let tests = Path::new(env!("CARGO_MANIFEST_DIR"));
-        let program = scratch("calls");
-        let compiled = Command::new("cc")
-            .args(["-std=c11", "-Wall", "-Wextra", "-Werror", "-I"])
-            .arg(tests.join("../include"))
-            .arg(tests.join("c/calls.c"))
-            .arg(tests.join("../target/staticlib/libowfs.a"))
-            .arg("-o")
-            .arg(&program)
-            .output()
-            .expect("cc runs");
-        let said = String::from_utf8_lossy(&compiled.stderr);
-        assert!(compiled.status.success(), "cc: {said}");
-        program
-    })
+    PROGRAM.get_or_init(|| compiled("calls.c", &["-std=c11"]))
 }
 
 /// Writes page length, page count and image to a file.
@@ -242,7 +272,17 @@ fn printed(output: &Output, expected: &str) {
     assert!(text == expected, "as many lines");
 }
 
-/// Some calls with a generated image, deletes among them; near the end there may be a format.
+/// A path and bytes for a put: near what the image holds, or of a new file in the root.
+fn random_put(case: &Case, rng: &mut Rng) -> (Vec<u8>, Vec<u8>) {
+    let path = match rng.below(3) {
+        0 => [&random_name(rng)[..], &[rng.below(100) as u8]].concat(),
+        _ => random_path(&case.built, rng).path,
+    };
+    let length = [0, rng.below(60), rng.below(3_000), 40_000][rng.below(4)];
+    (path, rng.bytes(length))
+}
+
+/// Some calls with a generated image, puts and deletes among them; near the end there may be a format.
 fn random_calls(case: &Case, rng: &mut Rng, tally: &mut Tally) -> Vec<Call> {
     let mut calls = Vec::new();
     let format_at = if rng.chance(50) { 14 } else { usize::MAX };
@@ -255,13 +295,21 @@ fn random_calls(case: &Case, rng: &mut Rng, tally: &mut Tally) -> Vec<Call> {
             calls.push(Call::Format { owner_bytes, local });
             continue;
         }
-        calls.push(match rng.below(8) {
+        calls.push(match rng.below(10) {
             0 => Call::Check { owner_bytes },
             1..=3 => {
+                let (path, bytes) = random_put(case, rng);
+                Call::Put {
+                    owner_bytes,
+                    path,
+                    bytes,
+                }
+            }
+            4 | 5 => {
                 let path = random_path(&case.built, rng).path;
                 Call::Delete { owner_bytes, path }
             }
-            4 | 5 => {
+            6 | 7 => {
                 let (label, position) = labelled_position(case.built.entries.len(), rng);
                 tally.add(label);
                 Call::List {
@@ -316,6 +364,7 @@ fn answers_in_c() {
     tally.demand_numbers("l", 5, (0..=13).filter(|&number| number != 5).chain([15]));
     tally.demand_numbers("r", 5, (0..=13).chain([14, 15, 18]));
     tally.demand_numbers("f", 5, [0, 1, 4]);
+    tally.demand_numbers("p", 5, 0..=17);
     tally.demand_numbers("d", 5, (0..=13).chain([14, 15, 16]));
 }
 
@@ -364,18 +413,43 @@ fn read_of_50000_entries_with_a_limited_stack() {
     with_limited_stack(&call, "read");
 }
 
+/// The path of the last file of the largest directory that is not read-only.
+fn last_path() -> Vec<u8> {
+    let mut entries = largest().0.entries.iter().rev();
+    let last = entries.find(|entry| entry.listing.attribute == 0);
+    last.expect("a file that is not read-only").path.clone()
+}
+
 #[test]
 fn delete_of_50000_entries_with_a_limited_stack() {
-    let entries = &largest().0.entries;
-    let last = entries
-        .iter()
-        .rev()
-        .find(|entry| entry.listing.attribute == 0);
     let call = Call::Delete {
         owner_bytes: 131_071,
-        path: last.expect("a file to delete").path.clone(),
+        path: last_path(),
     };
     with_limited_stack(&call, "delete");
+}
+
+/// A new file on three pages.
+#[test]
+fn put_to_50000_entries_with_a_limited_stack() {
+    let call = Call::Put {
+        owner_bytes: 131_070,
+        path: b"NEW'\x63".to_vec(),
+        bytes: vec![0xA5; 2 * 251 + 1],
+    };
+    with_limited_stack(&call, "put");
+}
+
+/// The last file replaced by one on all pages that are free.
+#[test]
+fn replacement_in_50000_entries_with_a_limited_stack() {
+    let free = 65_535 - largest().0.totals.used as usize;
+    let call = Call::Put {
+        owner_bytes: 131_072,
+        path: last_path(),
+        bytes: vec![0x5A; 251 * (free + 1)],
+    };
+    with_limited_stack(&call, "replace");
 }
 
 /// Format is refused over the largest directory, whose owners it tells, and done with a bitmap file.
@@ -405,4 +479,29 @@ fn the_stack_is_limited() {
     assert!(!output.status.success(), "{}", output.status);
     let output = run(plain(&image), &image, &request(b's', &[more]), "plain");
     printed(&output, &format!("s {}\n", more / 1_024));
+}
+
+/// What the example of firmware prints.
+const FIRMWARE: &str = "\
+format: 0 page 0
+check: 0 page 0, pages in use 1, files 0
+put of 9 bytes: 0 page 0
+read: 0 page 0, \"Monday 12\"
+check: 0 page 0, pages in use 2, files 1
+put of 34 bytes: 0 page 0
+read: 0 page 0, \"Monday 12, Tuesday 15, Wednesday 9\"
+check: 0 page 0, pages in use 3, files 1
+put of 512 bytes: 17 page 0
+read: 0 page 0, \"Monday 12, Tuesday 15, Wednesday 9\"
+delete: 0 page 0
+delete: 15 page 0
+check: 0 page 0, pages in use 1, files 0
+";
+
+/// The example is C99 without a warning, and every step is as it expects.
+#[test]
+fn example_of_firmware() {
+    let program = compiled("firmware.c", &["-std=c99", "-pedantic"]);
+    let output = Command::new(program).output().expect("the example runs");
+    printed(&output, FIRMWARE);
 }

@@ -1,7 +1,9 @@
-//! The check: known vectors, and the pages that document 001 prints.
+//! The check of both programs: known vectors, and the pages that document 001 prints. The archive is made by `rt staticlib owfs`.
 
+mod common;
+
+use common::both::{check_bytes, crc16};
 use referee::rng::Rng;
-use referee::{check_bytes, crc16};
 
 /// The register after `bytes`, worked bit by bit: each bit that leaves it and is 1 subtracts the polynomial.
 fn bit_by_bit(start: u16, bytes: &[u8]) -> u16 {
@@ -21,7 +23,7 @@ fn four_bits_at_a_time_is_bit_by_bit() {
         assert_eq!(crc16(start, &[0x5A]), bit_by_bit(start, &[0x5A]));
     }
     let mut rng = Rng::new(0x27);
-    for length in 0..300 {
+    for length in 0..600 {
         let bytes = rng.bytes(length);
         let start = rng.next_u64() as u16;
         assert_eq!(crc16(start, &bytes), bit_by_bit(start, &bytes), "{length}");

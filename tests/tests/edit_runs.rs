@@ -1,29 +1,25 @@
-//! Long seeded runs on one image: the library and the second program format, delete, check, list and read alike, after each other's
-//! edits and after puts of the second program. Every answer and every lent byte is compared; the files' bytes are those that were put.
+//! Long seeded runs on one image: the library and the second program format, put, delete, check, list and read alike, after each other's
+//! edits. Every answer and every lent byte is compared, and each is known by construction: the image has a plan, which the edits change.
 //! The archive is made by `rt staticlib owfs`.
 
 mod common;
 
-use std::collections::BTreeMap;
-
-use common::generators::worn_plan;
-use common::{answer, both, Button, Seed, Tally};
-use referee::builder::plan::{Built, ChainOf};
+use common::generators::{files, worn_plan};
+use common::plans::{directories, formatted_plan, overlaid, plan_with, plan_without, Room};
+use common::puts::{
+    count_room, crowded_plan, done_features, labelled_path, path_in, random_bytes, thinned_plan,
+    tight_bytes, DONE, ENTRIES, ROOM,
+};
+use common::{answer, both, run_seeds, Button, Seed, Tally};
+use referee::builder::plan::{Built, BuiltEntry, ImagePlan};
 use referee::rng::Rng;
 
-/// What is known of a file.
-struct File {
-    bytes: Vec<u8>,
-    read_only: bool,
-}
-
-/// A button, and what is known of its files and directories.
+/// A button, the plan of what it holds, and the plan's image with the answers it must give.
 struct Run<'a> {
     button: Button,
-    files: BTreeMap<Vec<u8>, File>,
-    /// The names that lead to each directory; the root's are empty.
-    directories: Vec<Vec<u8>>,
-    rng: Rng,
+    plan: ImagePlan,
+    built: Built,
+    rng: &'a mut Rng,
     tally: &'a mut Tally,
 }
 
@@ -33,41 +29,23 @@ impl<'a> Run<'a> {
         page_length: u32,
         page_count: u32,
         local: u32,
-        mut rng: Rng,
+        rng: &'a mut Rng,
         tally: &'a mut Tally,
     ) -> Run<'a> {
-        let mut button = Button::zeros(page_length, page_count);
-        button.image = rng.bytes(button.image.len());
-        let mut run = Run {
-            button,
-            files: BTreeMap::new(),
-            directories: vec![Vec::new()],
-            rng,
-            tally,
-        };
+        let plan = formatted_plan(page_length, page_count, local != 0);
+        let mut run = Run::generated(plan, rng, tally);
+        run.button.image = run.rng.bytes(run.button.image.len());
         run.format(local);
         run
     }
 
-    /// A generated image.
-    fn generated(built: &Built, rng: Rng, tally: &'a mut Tally) -> Run<'a> {
-        let mut files = BTreeMap::new();
-        let mut directories = vec![Vec::new()];
-        for entry in &built.entries {
-            if built.chains[entry.chain].of == ChainOf::Directory {
-                directories.push(entry.path.clone());
-                continue;
-            }
-            let file = File {
-                bytes: entry.bytes.clone(),
-                read_only: entry.listing.attribute == 1,
-            };
-            files.insert(entry.path.clone(), file);
-        }
+    /// An image of a plan.
+    fn generated(plan: ImagePlan, rng: &'a mut Rng, tally: &'a mut Tally) -> Run<'a> {
+        let built = plan.build();
         Run {
-            button: Button::from(built),
-            files,
-            directories,
+            button: Button::from(&built),
+            plan,
+            built,
             rng,
             tally,
         }
@@ -78,20 +56,18 @@ impl<'a> Run<'a> {
         2 * self.button.page_count as usize + self.rng.below(4)
     }
 
-    /// The path of a file that is there, or of any in a directory that is there, or of none.
-    fn path(&mut self) -> Vec<u8> {
-        let paths: Vec<&Vec<u8>> = self.files.keys().collect();
-        if self.rng.chance(60) {
-            if let Some(path) = self.rng.pick(&paths) {
-                return path.to_vec();
-            }
-        }
-        let mut path = self
-            .rng
-            .pick(&self.directories)
-            .cloned()
-            .unwrap_or_default();
-        if self.rng.chance(4) && path.len() < 32 {
+    /// The file of a path.
+    fn file(&self, path: &[u8]) -> Option<&BuiltEntry> {
+        files(&self.built)
+            .into_iter()
+            .find(|file| file.path == path)
+    }
+
+    /// A path of one of a few names in a directory that is there, or in none.
+    fn few_names(&mut self) -> Vec<u8> {
+        let directories = directories(&self.plan);
+        let mut path = directories[self.rng.below(directories.len())].0.clone();
+        if self.rng.chance(5) && path.len() < 32 {
             path.extend(*b"NONE");
         }
         let digit = b'0' + self.rng.below(8) as u8;
@@ -100,119 +76,182 @@ impl<'a> Run<'a> {
         path
     }
 
+    /// A path, most often of a file that is there or could be.
+    fn path(&mut self) -> Vec<u8> {
+        if self.rng.chance(30) {
+            return self.few_names();
+        }
+        labelled_path(&self.plan, &self.built, self.rng).1
+    }
+
+    /// The path of a file that is there, if there is one; else any.
+    fn file_path(&mut self) -> Vec<u8> {
+        let path = self
+            .rng
+            .pick(&files(&self.built))
+            .map(|file| file.path.clone());
+        path.unwrap_or_else(|| self.path())
+    }
+
+    /// Demands the image of another plan, laid over the image as it was, after an edit that was done.
+    fn edited(&mut self, before: &Button, plan: ImagePlan) {
+        self.built = plan.build();
+        self.plan = plan;
+        let expected = overlaid(before, &self.built);
+        assert!(self.button.image == expected, "known by construction");
+    }
+
     /// Format with both: an empty root, or 4 and all as before.
     fn format(&mut self, local: u32) {
+        let before = self.button.clone();
         let table = self.table();
-        let told = both::format(&mut self.button, table, local, &mut self.rng);
+        let told = both::format(&mut self.button, table, local, self.rng);
         self.tally.add(format!("format {}", told.number));
-        if local != 0 && self.button.page_count >= 32 {
+        let (page_length, page_count) = (before.page_length, before.page_count);
+        if local != 0 && page_count >= 32 {
             assert_eq!(told, answer(4, 0));
             return;
         }
         assert_eq!(told, answer(0, 0));
-        self.files.clear();
-        self.directories = vec![Vec::new()];
+        let plan = formatted_plan(page_length, page_count, local != 0);
+        self.edited(&before, plan);
     }
 
-    /// A put of the second program.
+    /// A put with both of random bytes.
     fn put(&mut self, path: &[u8]) {
-        let most = self.button.page_length as usize - 4;
-        let length = match self.rng.below(8) {
-            0 => 0,
-            1 => most,
-            2 => self
-                .rng
-                .below(most * self.button.page_count as usize / 3 + 1),
-            _ => self.rng.below(3 * most),
+        let bytes = random_bytes(&self.plan, path, self.rng);
+        self.put_bytes(path, &bytes);
+    }
+
+    /// Puts of small files with both until a directory must grow, then two that have just enough pages, or one too few.
+    fn crowd(&mut self) {
+        let directories = directories(&self.plan);
+        let names = directories[self.rng.below(directories.len())].0.clone();
+        for _ in 0..40 {
+            let path = path_in(&names, self.rng);
+            match Room::of(&self.plan, &path) {
+                Ok(room) if room.space.is_some() && !room.free.is_empty() => {
+                    self.put_bytes(&path, b"");
+                }
+                _ => break,
+            }
+        }
+        for _ in 0..2 {
+            let path = path_in(&names, self.rng);
+            if let Ok(room) = Room::of(&self.plan, &path) {
+                let bytes = tight_bytes(&room, self.rng);
+                self.put_bytes(&path, &bytes);
+            }
+        }
+    }
+
+    /// A put with both.
+    fn put_bytes(&mut self, path: &[u8], bytes: &[u8]) {
+        let before = self.button.clone();
+        let table = self.table();
+        let told = both::put(&mut self.button, table, path, bytes, self.rng);
+        self.tally.add("puts");
+        self.tally.add(format!("put {}", told.number));
+        if let Ok(room) = Room::of(&self.plan, path) {
+            count_room(&room, bytes, told.number, self.tally);
+        }
+        let plan = match plan_with(&self.plan, path, bytes) {
+            Ok(plan) => plan,
+            Err(number) => return assert_eq!(told, answer(number, 0), "known by construction"),
         };
-        let bytes = self.rng.bytes(length);
-        let done = self.button.put(path, &bytes).0;
-        self.tally.add(format!("put {}", done.number));
-        if done.number == 0 {
-            let file = File {
-                bytes,
-                read_only: false,
-            };
-            self.files.insert(path.to_vec(), file);
+        assert_eq!(told, answer(0, 0), "known by construction");
+        let built = self.built.clone();
+        self.edited(&before, plan);
+        for label in done_features(&built, &self.built, path) {
+            self.tally.add(label);
         }
     }
 
     /// A delete with both.
     fn delete(&mut self, path: &[u8]) {
+        let before = self.button.clone();
         let table = self.table();
-        let told = both::delete(&mut self.button, table, path, &mut self.rng);
+        let told = both::delete(&mut self.button, table, path, self.rng);
         self.tally.add(format!("delete {}", told.number));
-        let number = match self.files.get(path) {
-            None => 15,
-            Some(file) if file.read_only => 16,
-            Some(_) => 0,
-        };
-        assert_eq!(told, answer(number, 0));
-        if number == 0 {
-            self.files.remove(path);
+        match self.file(path).map(|file| file.listing.attribute) {
+            None => assert!(told == answer(14, 0) || told == answer(15, 0)),
+            Some(1) => assert_eq!(told, answer(16, 0)),
+            Some(_) => {
+                assert_eq!(told, answer(0, 0));
+                let plan = plan_without(&self.plan, path).expect("the plan has the file");
+                self.edited(&before, plan);
+            }
         }
     }
 
-    /// A delete with both of a path that is malformed.
-    fn delete_malformed(&mut self, mut path: Vec<u8>) {
-        let last = path.len() - 1;
-        match self.rng.below(3) {
-            0 => path.truncate(last),
-            1 => path[last] |= 0x80,
-            _ => path[last - 4] = b'a',
+    /// A put or a delete with both of a path that is malformed.
+    fn malformed(&mut self, mut path: Vec<u8>) {
+        match (path.len(), self.rng.below(3)) {
+            (0, _) => path = b"A".to_vec(),
+            (length, 0) => path.truncate(length / 4 * 4),
+            (length, 1) => path[length - 1] |= 0x80,
+            _ => path[0] = b'a',
+        }
+        if self.rng.chance(50) {
+            return self.put(&path);
         }
         let table = self.table();
-        let told = both::delete(&mut self.button, table, &path, &mut self.rng);
+        let told = both::delete(&mut self.button, table, &path, self.rng);
         self.tally.add(format!("delete {}", told.number));
         assert_eq!(told, answer(14, 0));
     }
 
     /// A read with both, into an output that may be too short.
     fn read(&mut self, path: &[u8]) {
-        let known = self.files.get(path).map(|file| file.bytes.clone());
+        let known = self.file(path).map(|file| file.bytes.clone());
         let length = known.as_ref().map_or(0, Vec::len);
         let out_bytes = (length + self.rng.below(4)).saturating_sub(self.rng.below(3));
         let table = self.table();
-        let (told, bytes) = both::read_bytes(&self.button, table, path, out_bytes, &mut self.rng);
+        let (told, bytes) = both::read_bytes(&self.button, table, path, out_bytes, self.rng);
         self.tally.add(format!("read {}", told.number));
+        let told = answer(told.number, told.page);
         match known {
-            None => assert_eq!(answer(told.number, told.page), answer(15, 0)),
+            None => assert!(told == answer(14, 0) || told == answer(15, 0)),
             Some(known) if known.len() <= out_bytes => {
-                assert_eq!((told.number, bytes), (0, known));
+                assert_eq!((told, bytes), (answer(0, 0), known));
             }
-            Some(_) => assert_eq!(answer(told.number, told.page), answer(18, 0)),
+            Some(_) => assert_eq!(told, answer(18, 0)),
         }
     }
 
     /// A check with both.
     fn check(&mut self) {
         let table = self.table();
-        let totals = both::check(&self.button, table, &mut self.rng);
+        let totals = both::check(&self.button, table, self.rng);
         self.tally.add(format!("check {}", totals.number));
-        assert_eq!(totals.number, 0);
-        assert_eq!(totals.files as usize, self.files.len());
-        assert_eq!(totals.directories as usize, self.directories.len() - 1);
+        assert_eq!(totals, self.built.totals);
     }
 
     /// A listing with both.
     fn list(&mut self) {
-        let entries = self.files.len() + self.directories.len() - 1;
-        let position = self.rng.below(entries + 1);
+        let position = self.rng.below(self.built.entries.len() + 1);
         let table = self.table();
-        let told = both::list(&self.button, table, position as u32, &mut self.rng);
+        let told = both::list(&self.button, table, position as u32, self.rng);
         self.tally.add(format!("list {}", told.number));
-        assert_eq!(told.number, if position < entries { 0 } else { 15 });
+        match self.built.entries.get(position) {
+            Some(entry) => assert_eq!(told, entry.listing),
+            None => assert_eq!(answer(told.number, told.page), answer(15, 0)),
+        }
     }
 
     /// One random call.
     fn step(&mut self) {
-        let path = self.path();
+        let path = match self.rng.below(3) {
+            0 => self.file_path(),
+            _ => self.path(),
+        };
         match self.rng.below(200) {
-            0..=79 => self.put(&path),
-            80..=143 => self.delete(&path),
-            144..=149 => self.delete_malformed(path),
+            0..=89 => self.put(&path),
+            90..=143 => self.delete(&path),
+            144..=149 => self.malformed(path),
             150..=173 => self.read(&path),
-            174..=185 => self.check(),
+            174..=183 => self.check(),
+            184 | 185 => self.crowd(),
             186..=196 => self.list(),
             197 => {
                 let local = [1, 7, u32::MAX][self.rng.below(3)];
@@ -229,14 +268,16 @@ impl<'a> Run<'a> {
         for _ in 0..steps {
             self.step();
         }
-        let mut paths: Vec<Vec<u8>> = self.files.keys().cloned().collect();
+        let left = files(&self.built).into_iter();
+        let mut paths: Vec<Vec<u8>> = left.map(|file| file.path.clone()).collect();
         self.rng.shuffle(&mut paths);
         for path in paths {
             self.read(&path);
             self.delete(&path);
         }
         self.check();
-        assert!(self.files.values().all(|file| file.read_only));
+        let mut left = files(&self.built).into_iter();
+        assert!(left.all(|file| file.listing.attribute == 1));
     }
 }
 
@@ -268,12 +309,13 @@ fn formatted_images() {
     for (place, (page_length, page_count, local)) in buttons.into_iter().enumerate() {
         let seed = 0xB000_0000 + place as u64;
         let _seed = Seed(seed);
-        let rng = Rng::new(seed);
-        Run::formatted(page_length, page_count, local, rng, &mut tally).run(800);
+        let mut rng = Rng::new(seed);
+        Run::formatted(page_length, page_count, local, &mut rng, &mut tally).run(800);
     }
     tally.print();
+    tally.demand(6_000, &["puts"]);
     tally.demand_numbers("format", 20, [0, 4]);
-    tally.demand_numbers("put", 100, [0, 17]);
+    tally.demand_numbers("put", 100, [0, 14, 15, 17]);
     tally.demand_numbers("delete", 100, [0, 14, 15]);
     tally.demand_numbers("read", 100, [0, 15, 18]);
     tally.demand_numbers("check", 100, [0]);
@@ -284,16 +326,21 @@ fn formatted_images() {
 #[test]
 fn generated_images() {
     let mut tally = Tally::default();
-    for seed in 0xB100_0000..0xB100_0000 + 200 {
-        let _seed = Seed(seed);
-        let mut rng = Rng::new(seed);
-        let built = worn_plan(&mut rng).build();
-        Run::generated(&built, rng, &mut tally).run(60);
-    }
+    run_seeds(0xB100_0000..0xB100_0000 + 300, |seed, rng| {
+        let plan = match seed % 3 {
+            0 => worn_plan(rng),
+            1 => thinned_plan(rng),
+            _ => crowded_plan(rng),
+        };
+        Run::generated(plan, rng, &mut tally).run(80);
+    });
     tally.print();
+    tally.demand(10_000, &["puts"]);
+    tally.demand(10, &DONE);
+    tally.demand(10, &ENTRIES);
+    tally.demand(10, &ROOM);
     tally.demand_numbers("format", 20, [0, 4]);
-    tally.demand_numbers("put", 100, [0, 16, 17]);
-    tally.demand_numbers("put", 20, [15]);
+    tally.demand_numbers("put", 100, [0, 14, 15, 16, 17]);
     tally.demand_numbers("delete", 100, [0, 14, 15, 16]);
     tally.demand_numbers("read", 100, [0, 15, 18]);
     tally.demand_numbers("check", 100, [0]);

@@ -4,51 +4,20 @@
 
 mod common;
 
-use std::ops::Range;
-
 use common::generators::{
-    chain_features, damaged_case, deep_image, fault_case, files, flip, formatted_plan,
-    is_below_hidden, labelled_local, labelled_owner_bytes, largest_image, misfit, overlaid,
-    plan_without, random_path, random_sizes, sound_case, two_faults_case, worn_plan, Case, Made,
+    any_length, any_number, chain_features, counted_owner_bytes, damaged_case, deep_image,
+    directories_of, fault_case, faulty_case, files, flip, is_below_hidden, is_enough,
+    labelled_local, largest_image, misfit, random_path, random_sizes, sound_case, worn_plan, Case,
+    Made, OWNER_TABLES,
 };
-use common::{answer, both, Button, Seed, Tally};
+use common::plans::{formatted_plan, overlaid, plan_without};
+use common::{answer, both, run_seeds, Button, Seed, Tally};
 use referee::builder::pages::{path, Pages};
 use referee::builder::plan::{Built, BuiltEntry, ChainOf, ImagePlan};
 use referee::builder::random::random_name;
 use referee::geometry::Geometry;
 use referee::rng::Rng;
 use referee::Answer;
-
-/// Runs so many cases, each from a seed of its own.
-fn run_seeds(seeds: Range<u64>, mut case: impl FnMut(u64, &mut Rng)) {
-    println!("seeds {seeds:?}");
-    for seed in seeds {
-        let _seed = Seed(seed);
-        case(seed, &mut Rng::new(seed));
-    }
-}
-
-/// Bytes of an owner table, counted by their label.
-fn owner_bytes(page_count: u32, rng: &mut Rng, tally: &mut Tally) -> usize {
-    let (label, bytes) = labelled_owner_bytes(page_count, rng);
-    tally.add(label);
-    bytes
-}
-
-/// Whether an owner table of so many bytes is long enough.
-fn is_enough(page_count: u32, owner_bytes: usize) -> bool {
-    owner_bytes >= 2 * page_count as usize
-}
-
-/// The labels of owner tables.
-const OWNER_TABLES: [&str; 6] = [
-    "owner table just long enough",
-    "owner table one byte longer",
-    "owner table longer",
-    "owner table one byte too short",
-    "owner table too short",
-    "no owner table",
-];
 
 /// The labels of paths with the answers that a delete must have given to them.
 const PATHS: [&str; 24] = [
@@ -181,7 +150,7 @@ fn delete_features(built: &Built, entry: &BuiltEntry, after: &Button) -> Vec<&'s
         (entry.bytes.is_empty(), "file without bytes"),
         (entry.listing.level == 8, "file at level 8"),
         (
-            is_below_hidden(built, entry),
+            is_below_hidden(built, directories_of(entry)),
             "file below a hidden directory",
         ),
         (
@@ -207,7 +176,7 @@ impl Worn<'_> {
     /// Deletes the file of a path from a copy of the image; the answer and the image afterwards are the plan's.
     fn delete(&mut self, label: &str, path: &[u8], rng: &mut Rng) {
         let mut button = Button::from(self.built);
-        let owner_bytes = owner_bytes(button.page_count, rng, self.tally);
+        let owner_bytes = counted_owner_bytes(button.page_count, rng, self.tally);
         let told = both::delete(&mut button, owner_bytes, path, rng);
         self.tally.add(format!("delete {}", told.number));
         if !is_enough(button.page_count, owner_bytes) {
@@ -325,16 +294,12 @@ fn delete_from(case: &Case, tally: &mut Tally, rng: &mut Rng) {
     for _ in 0..2 {
         let wanted = random_path(&case.built, rng);
         let mut button = case.button.clone();
-        let owner_bytes = owner_bytes(button.page_count, rng, tally);
+        let owner_bytes = counted_owner_bytes(button.page_count, rng, tally);
         let told = both::delete(&mut button, owner_bytes, &wanted.path, rng);
         tally.add(format!("delete {}", told.number));
-        let refusal = match case.made {
-            _ if !is_enough(button.page_count, owner_bytes) => answer(1, 0),
-            Made::OneFault(fault) => fault,
-            Made::Misfit => answer(1, 0),
-            _ => continue,
-        };
-        assert_eq!(told, refusal, "known by construction");
+        if let Some(refusal) = case.known_refusal(owner_bytes) {
+            assert_eq!(told, refusal, "known by construction");
+        }
     }
 }
 
@@ -343,17 +308,7 @@ fn delete_from(case: &Case, tally: &mut Tally, rng: &mut Rng) {
 fn deletes_from_faulty_images() {
     let mut tally = Tally::default();
     run_seeds(0xA200_0000..0xA200_0000 + 3_000, |seed, rng| {
-        let case = match seed % 20 {
-            0..=9 => fault_case(2 + (seed / 20 % 12) as u32, rng),
-            10..=12 => {
-                let pair = (seed / 20 % 144) as u32;
-                two_faults_case([2 + pair / 12, 2 + pair % 12], rng)
-            }
-            13..=15 => damaged_case(Made::Sealed, rng),
-            16 | 17 => damaged_case(Made::Flipped, rng),
-            18 => damaged_case(Made::Packets, rng),
-            _ => damaged_case(Made::Misfit, rng),
-        };
+        let case = faulty_case(seed, rng);
         delete_from(&case, &mut tally, rng);
     });
     tally.print();
@@ -414,7 +369,7 @@ fn formats_of_any_image() {
         let (local_label, local) = labelled_local(rng);
         let bitmap = if local == 0 { "bitmap file" } else { "local" };
         tally.add(local_label);
-        let owner_bytes = owner_bytes(button.page_count, rng, &mut tally);
+        let owner_bytes = counted_owner_bytes(button.page_count, rng, &mut tally);
         let told = format_known(&mut button, owner_bytes, local, rng);
         tally.add(format!("format {}", told.number));
         tally.add(format!("{label}, {bitmap}: {}", told.number));
@@ -555,24 +510,6 @@ fn deletes_from_65535_pages() {
         assert_eq!(totals.number, 0);
         flip(&mut button.image, &mut rng);
         both::delete(&mut button, 131_070, &files[any].path, &mut rng);
-    }
-}
-
-/// A number for P or N that is often just inside or outside its limits.
-fn any_number(limits: &[u32], rng: &mut Rng) -> u32 {
-    match rng.below(5) {
-        0 => rng.next_u64() as u32 >> rng.below(32),
-        _ => limits[rng.below(limits.len())],
-    }
-}
-
-/// A length that fits, or nearly, or not at all.
-fn any_length(fitting: u64, rng: &mut Rng) -> usize {
-    let fitting = fitting.min(100_000) as usize;
-    match rng.below(6) {
-        0 => rng.below(2_000),
-        1 => (fitting + rng.below(3)).saturating_sub(1),
-        _ => fitting,
     }
 }
 

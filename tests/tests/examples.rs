@@ -1,11 +1,14 @@
-//! The examples of document 01, byte for byte, by their numbers there.
+//! The examples of document 01, byte for byte, by their numbers there. Each call is made by the library and by the second program, with equal
+//! answers and equal bytes. The archive is made by `rt staticlib owfs`.
 
 mod common;
 
-use common::{answer, Button};
-use referee::builder::pages::path;
-use referee::check_bytes;
+use common::both::check_bytes;
+use common::{answer, both, Button};
+use referee::builder::pages::{path, Pages};
 use referee::geometry::Geometry;
+use referee::rng::Rng;
+use referee::{Answer, Listing, Totals};
 
 const PAGE_0_FORMATTED: [u8; 11] = [
     0x08, 0xAA, 0x00, 0x80, 0x01, 0x00, 0x00, 0x00, 0x00, 0x30, 0x38,
@@ -18,24 +21,119 @@ const PAGE_0_DEMO: [u8; 18] = [
 
 const PAGE_1_DEMO: [u8; 8] = [0x05, 0x54, 0x45, 0x53, 0x54, 0x00, 0x14, 0x6A];
 
+/// What the bytes of an image are before it is formatted.
+const FILLS: [u8; 3] = [0x00, 0xFF, 0x5A];
+
+/// A button on which both programs make each call.
+struct Pair {
+    button: Button,
+    rng: Rng,
+}
+
+impl Pair {
+    /// An image as it stands.
+    fn of(button: Button) -> Pair {
+        Pair {
+            button,
+            rng: Rng::new(0x01),
+        }
+    }
+
+    /// An image of pages of 32 bytes that hold this byte throughout.
+    fn filled(page_count: u32, fill: u8) -> Pair {
+        let mut button = Button::zeros(32, page_count);
+        button.image.fill(fill);
+        Pair::of(button)
+    }
+
+    /// An image of 16 pages of 32 bytes that starts with these pages.
+    fn starting_with(pages: &[&[u8]]) -> Pair {
+        let mut button = Button::zeros(32, 16);
+        for (page, bytes) in pages.iter().enumerate() {
+            button.image[32 * page..32 * page + bytes.len()].copy_from_slice(bytes);
+        }
+        Pair::of(button)
+    }
+
+    /// Bytes of an owner table that is long enough.
+    fn table(&self) -> usize {
+        2 * self.button.page_count as usize
+    }
+
+    /// A format, with the owners of the image as it then stands.
+    fn format(&mut self, local: bool) -> (Answer, Vec<u16>) {
+        let table = self.table();
+        let told = both::format(&mut self.button, table, u32::from(local), &mut self.rng);
+        (told, self.button.check().1)
+    }
+
+    /// A put, with the owners of the image as it then stands.
+    fn put(&mut self, path: &[u8], bytes: &[u8]) -> (Answer, Vec<u16>) {
+        let table = self.table();
+        let told = both::put(&mut self.button, table, path, bytes, &mut self.rng);
+        (told, self.button.check().1)
+    }
+
+    /// A delete, with the owners of the image as it then stands.
+    fn delete(&mut self, path: &[u8]) -> (Answer, Vec<u16>) {
+        let table = self.table();
+        let told = both::delete(&mut self.button, table, path, &mut self.rng);
+        (told, self.button.check().1)
+    }
+
+    /// A check, with the owners.
+    fn check(&mut self) -> (Totals, Vec<u16>) {
+        let totals = both::check(&self.button, self.table(), &mut self.rng);
+        (totals, self.button.check().1)
+    }
+
+    /// The entry at a position.
+    fn list(&mut self, position: u32) -> Listing {
+        both::list(&self.button, self.table(), position, &mut self.rng)
+    }
+
+    /// The number of a read into an output as long as the image, and the bytes read.
+    fn read(&mut self, path: &[u8]) -> (u32, Vec<u8>) {
+        let out = self.button.image.len();
+        let (length, bytes) =
+            both::read_bytes(&self.button, self.table(), path, out, &mut self.rng);
+        (length.number, bytes)
+    }
+}
+
+/// The totals of an accepted image.
+fn totals(used: u32, files: u32, directories: u32) -> Totals {
+    Totals {
+        number: 0,
+        page: 0,
+        used,
+        files,
+        directories,
+    }
+}
+
+/// Demands that the first pages have these owners and all others none.
+fn owned(owners: &[u16], first: &[u16]) {
+    assert_eq!(owners[..first.len()], *first);
+    assert!(owners[first.len()..].iter().all(|&owner| owner == 0));
+}
+
 /// Example 2 with every other byte of the image set to `fill`.
-fn example_2(fill: u8) -> Button {
-    let mut button = Button::zeros(32, 16);
-    button.image.fill(fill);
-    let (done, owners) = button.format(true);
+fn example_2(fill: u8) -> Pair {
+    let mut pair = Pair::filled(16, fill);
+    let (done, owners) = pair.format(true);
     assert_eq!(done, answer(0, 0));
-    assert_eq!(owners[0], 1);
-    assert!(owners[1..].iter().all(|&owner| owner == 0));
-    button
+    owned(&owners, &[1]);
+    pair
 }
 
 /// Example 3: example 2 and a put of DEMO.12.
-fn example_3(fill: u8) -> Button {
-    let mut button = example_2(fill);
-    let (done, owners) = button.put(b"DEMO\x0C", b"TEST");
+fn example_3(fill: u8) -> Pair {
+    let mut pair = example_2(fill);
+    let (done, owners) = pair.put(b"DEMO\x0C", b"TEST");
     assert_eq!(done, answer(0, 0));
-    assert_eq!(owners[..3], [1, 3, 0]);
-    button
+    owned(&owners, &[1, 3]);
+    pair
 }
 
 #[test]
@@ -44,42 +142,80 @@ fn example_01_check_of_page_1() {
     assert_eq!(check_bytes(1, &packet), [0x07, 0xA0]);
 }
 
+/// The printed page 0 is written, and no byte after it.
 #[test]
 fn example_02_format() {
-    for fill in [0x00, 0xFF, 0x5A] {
-        let button = example_2(fill);
+    for fill in FILLS {
+        let button = example_2(fill).button;
         assert_eq!(button.page(0)[..11], PAGE_0_FORMATTED);
         assert!(button.image[11..].iter().all(|&byte| byte == fill));
     }
 }
 
+/// The printed page 0 is accepted and has no entry.
+#[test]
+fn example_02_printed_page() {
+    let mut pair = Pair::starting_with(&[&PAGE_0_FORMATTED]);
+    let (told, owners) = pair.check();
+    assert_eq!(told, totals(1, 0, 0));
+    owned(&owners, &[1]);
+    let absent = Listing {
+        number: 15,
+        ..Listing::default()
+    };
+    assert_eq!(pair.list(0), absent);
+}
+
+/// The printed pages are written, and no byte after their packets.
 #[test]
 fn example_03_put() {
-    for fill in [0x00, 0xFF, 0x5A] {
-        let button = example_3(fill);
+    for fill in FILLS {
+        let mut pair = example_3(fill);
+        let button = &pair.button;
         assert_eq!(button.page(0)[..18], PAGE_0_DEMO);
         assert_eq!(button.page(1)[..8], PAGE_1_DEMO);
         assert!(button.page(0)[18..].iter().all(|&byte| byte == fill));
         assert!(button.image[40..].iter().all(|&byte| byte == fill));
-        assert_eq!(button.read(b"DEMO\x0C"), (0, b"TEST".to_vec()));
-        let (totals, _) = button.check();
-        assert_eq!((totals.used, totals.files, totals.directories), (2, 1, 0));
+        assert_eq!(pair.read(b"DEMO\x0C"), (0, b"TEST".to_vec()));
+        assert_eq!(pair.check().0, totals(2, 1, 0));
     }
+}
+
+/// The printed pages are accepted, listed and read.
+#[test]
+fn example_03_printed_pages() {
+    let mut pair = Pair::starting_with(&[&PAGE_0_DEMO, &PAGE_1_DEMO]);
+    let (told, owners) = pair.check();
+    assert_eq!(told, totals(2, 1, 0));
+    owned(&owners, &[1, 3]);
+    let demo = Listing {
+        name: u32::from_le_bytes(*b"DEMO"),
+        extension: 12,
+        start: 1,
+        pages: 1,
+        length: 4,
+        ..Listing::default()
+    };
+    assert_eq!(pair.list(0), demo);
+    assert_eq!(pair.read(b"DEMO\x0C"), (0, b"TEST".to_vec()));
 }
 
 #[test]
 fn example_04_delete() {
-    let mut button = example_3(0xFF);
-    let before = button.clone();
-    let (done, owners) = button.delete(b"DEMO\x0C");
-    assert_eq!(done, answer(0, 0));
-    assert_eq!(owners[..2], [1, 0]);
-    assert_eq!(button.page(0)[..11], PAGE_0_FORMATTED);
-    assert_eq!(
-        button.page(0)[11..18],
-        [0x4F, 0x0C, 0x01, 0x01, 0x00, 0x73, 0xA5]
-    );
-    assert_eq!(button.image[18..], before.image[18..]);
+    for fill in FILLS {
+        let mut pair = example_3(fill);
+        let before = pair.button.clone();
+        let (done, owners) = pair.delete(b"DEMO\x0C");
+        assert_eq!(done, answer(0, 0));
+        owned(&owners, &[1]);
+        let button = &pair.button;
+        assert_eq!(button.page(0)[..11], PAGE_0_FORMATTED);
+        let stays = [0x4F, 0x0C, 0x01, 0x01, 0x00, 0x73, 0xA5];
+        assert_eq!(button.page(0)[11..18], stays);
+        assert_eq!(button.page(1)[..8], PAGE_1_DEMO);
+        assert_eq!(button.image[18..], before.image[18..]);
+        assert_eq!(pair.delete(b"DEMO\x0C").0, answer(15, 0));
+    }
 }
 
 #[test]
@@ -92,69 +228,162 @@ fn example_05_checks_that_document_001_misprints() {
 #[test]
 fn example_06_pages_of_files() {
     for (length, pages) in [(0, 1), (28, 1), (29, 2)] {
-        let mut button = example_2(0);
+        let mut pair = example_2(0);
         let bytes = vec![7; length];
-        assert_eq!(button.put(b"F   \x00", &bytes).0, answer(0, 0));
-        let (listing, _) = button.list(0);
+        assert_eq!(pair.put(b"F   \x00", &bytes).0, answer(0, 0));
+        let listing = pair.list(0);
         assert_eq!(listing.pages, pages);
         assert_eq!(listing.length as usize, length);
-        assert_eq!(button.read(b"F   \x00"), (0, bytes));
+        assert_eq!(pair.check().0, totals(1 + pages, 1, 0));
+        assert_eq!(pair.read(b"F   \x00"), (0, bytes));
     }
 }
 
 #[test]
 fn example_07_all_pages() {
     let bytes: Vec<u8> = (0..421_u32).map(|byte| byte as u8).collect();
-    let mut button = example_2(0);
-    assert_eq!(button.put(b"BIG \x07", &bytes).0, answer(17, 0));
-    assert_eq!(button.put(b"BIG \x07", &bytes[..420]).0, answer(0, 0));
-    assert_eq!(button.list(0).0.pages, 15);
-    assert_eq!(button.check().0.used, 16);
-    assert_eq!(button.put(b"BIG \x07", &bytes).0, answer(17, 0));
+    let mut pair = example_2(0);
+    assert_eq!(pair.put(b"BIG \x07", &bytes).0, answer(17, 0));
+    assert_eq!(pair.put(b"BIG \x07", &bytes[..420]).0, answer(0, 0));
+    assert_eq!(pair.list(0).pages, 15);
+    assert_eq!(pair.check().0, totals(16, 1, 0));
+    assert_eq!(pair.put(b"BIG \x07", &bytes).0, answer(17, 0));
     let other: Vec<u8> = bytes[..420].iter().map(|byte| !byte).collect();
-    let (done, owners) = button.put(b"BIG \x07", &other);
+    let (done, owners) = pair.put(b"BIG \x07", &other);
     assert_eq!(done, answer(0, 0));
     assert_eq!(owners[0], 1);
     assert!(owners[1..].iter().all(|&owner| owner == 3));
-    assert_eq!(button.read(b"BIG \x07"), (0, other));
+    assert_eq!(pair.read(b"BIG \x07"), (0, other));
 }
 
 #[test]
 fn example_08_fourth_file() {
-    let mut button = example_2(0);
-    for (place, file) in ["A", "B", "C"].iter().enumerate() {
-        assert_eq!(button.put(&path(&[], file, 1), b"one").0, answer(0, 0));
-        assert_eq!(button.check().0.used as usize, 2 + place);
+    let mut pair = example_2(0);
+    for (file, used) in [("A", 2), ("B", 3), ("C", 4), ("D", 6)] {
+        assert_eq!(pair.put(&path(&[], file, 1), b"one").0, answer(0, 0));
+        assert_eq!(pair.check().0.used, used);
     }
-    assert_eq!(button.put(&path(&[], "D", 1), b"one").0, answer(0, 0));
-    let (totals, owners) = button.check();
-    assert_eq!(totals.used, 6);
-    assert_eq!(owners[..7], [1, 3, 4, 5, 1, 6, 0]);
+    owned(&pair.check().1, &[1, 3, 4, 5, 1, 6]);
 }
 
+/// N 31 with a local bitmap is formatted; N 32 is 4 and changes nothing, and its owners are those of the image as it stands.
+#[test]
+fn example_09_format() {
+    let mut pair = Pair::filled(31, 0xFF);
+    let (done, owners) = pair.format(true);
+    assert_eq!(done, answer(0, 0));
+    owned(&owners, &[1]);
+    assert_eq!(pair.button.page(0)[..11], PAGE_0_FORMATTED);
+    assert!(pair.button.image[11..].iter().all(|&byte| byte == 0xFF));
+    assert_eq!(pair.check().0, totals(1, 0, 0));
+
+    let mut pair = Pair::filled(32, 0xFF);
+    let (done, owners) = pair.format(true);
+    assert_eq!(done, answer(4, 0));
+    owned(&owners, &[]);
+    assert_eq!(pair.button, Pair::filled(32, 0xFF).button);
+    let (done, owners) = pair.format(false);
+    assert_eq!(done, answer(0, 0));
+    owned(&owners, &[1, 2]);
+    let accepted = pair.button.clone();
+    let (done, owners) = pair.format(true);
+    assert_eq!(done, answer(4, 0));
+    owned(&owners, &[1, 2]);
+    assert_eq!(pair.button, accepted);
+}
+
+/// N 31 with a local bitmap is accepted; the same page 0 with N 32 is 4.
 #[test]
 fn example_09_local_bitmap() {
-    let mut button = Button::zeros(32, 31);
-    assert_eq!(button.format(true).0, answer(0, 0));
-    assert_eq!(button.verdict(), answer(0, 0));
-    let mut button = Button::zeros(32, 32);
-    assert_eq!(button.format(true).0, answer(4, 0));
-    assert!(button.image.iter().all(|&byte| byte == 0));
-    assert_eq!(button.format(false).0, answer(0, 0));
+    let mut button = Button::formatted(32, 31, true);
+    assert_eq!(Pair::of(button.clone()).check().0, totals(1, 0, 0));
+    button.page_count = 32;
+    button.image.resize(32 * 32, 0);
+    let (told, owners) = Pair::of(button).check();
+    assert_eq!(answer(told.number, told.page), answer(4, 0));
+    owned(&owners, &[]);
 }
 
+/// Page numbers of one byte with N 256 and of two with N 257: length byte, marker, map address, bitmap control and the bitmap file's place
+/// in page 0, and the file's packets on pages 1 and 2.
 #[test]
-fn example_10_bytes_of_a_page_number() {
-    for (page_count, n, marker) in [(256, 1, 0xAA), (257, 2, 0xAB)] {
-        let number_length = Geometry::new(32, page_count).map(|g| g.number_length());
+fn example_10_format() {
+    let roots: [(u32, &[u8]); 2] = [
+        (256, &[8, 0xAA, 0, 0, 0, 0, 1, 2, 0]),
+        (257, &[10, 0xAB, 0, 0, 0, 1, 0, 2, 0, 0, 0]),
+    ];
+    for (page_count, root) in roots {
+        let mut pair = Pair::filled(page_count, 0xFF);
+        let (done, owners) = pair.format(false);
+        assert_eq!(done, answer(0, 0));
+        owned(&owners, &[1, 2, 2]);
+        assert_eq!(pair.check().0, totals(3, 0, 0));
+        let button = &pair.button;
+        assert_eq!(button.page(0)[..root.len()], *root);
+        let n = if page_count == 256 { 1 } else { 2 };
+        let number_length = Geometry::new(32, page_count).map(|known| known.number_length());
         assert_eq!(number_length, Some(n));
-        let mut button = Button::zeros(32, page_count);
-        assert_eq!(button.format(false).0, answer(0, 0));
-        assert_eq!(usize::from(button.page(0)[0]), 6 + 2 * n);
+        let lengths = [
+            root.len() - 1,
+            29,
+            page_count.div_ceil(8) as usize - (29 - n) + n,
+        ];
+        for (page, length) in lengths.into_iter().enumerate() {
+            let (packet, after) = button.page(page).split_at(1 + length);
+            assert_eq!(usize::from(packet[0]), length);
+            assert_eq!(after[..2], check_bytes(page as u16, packet));
+            assert!(after[2..].iter().all(|&byte| byte == 0xFF));
+        }
+        let pages = button.pages();
+        assert_eq!(pages.body(1)[..2], [0x07, 0x00]);
+        assert_eq!((pages.pointer(1), pages.pointer(2)), (2, 0));
+        assert!(button.image[3 * 32..].iter().all(|&byte| byte == 0xFF));
+    }
+}
+
+/// Page numbers of one byte with N 256 and of two with N 257: the other marker is refused at page 0.
+#[test]
+fn example_10_markers() {
+    for (page_count, marker) in [(256, 0xAA), (257, 0xAB)] {
+        let button = Button::formatted(32, page_count, false);
         assert_eq!(button.page(0)[1], marker);
-        assert_eq!(button.verdict(), answer(0, 0));
-        let last = usize::from(button.page(1)[0]);
-        assert_eq!(button.pages().pointer(1), 2);
-        assert_eq!(last, 29);
+        let mut other = button.pages();
+        other.alter(0, 1, &[marker ^ 1]);
+        let (told, owners) = Pair::of(Button::from(&other)).check();
+        assert_eq!(answer(told.number, told.page), answer(3, 0));
+        owned(&owners, &[]);
+    }
+}
+
+/// An image of so many pages with a bitmap file on pages 1 and 2 and a file on the last page.
+fn file_on_the_last_page(page_count: u32) -> Pages {
+    let last = page_count as usize - 1;
+    let mut pages = Button::formatted(32, page_count, false).pages();
+    let mut root = pages.file_control(1, 2);
+    root.extend(pages.entry("LAST", 7, last, 1));
+    let mut bits = vec![0; pages.geometry.bitmap_file_length()];
+    for used in [0, 1, 2, last] {
+        bits[used / 8] |= 1 << (used % 8);
+    }
+    let (first, second) = bits.split_at(pages.geometry.max_data());
+    pages.packet(0, &root, 0).packet(last, b"at the end", 0);
+    pages.packet(1, first, 2).packet(2, second, 0);
+    pages
+}
+
+/// A file on page 255, and on page 256, whose number needs two bytes: it is accepted, listed and read, and a put fills all pages before it.
+#[test]
+fn example_10_last_page() {
+    for (page_count, packet) in [(256, 28), (257, 27)] {
+        let mut pair = Pair::of(Button::from(&file_on_the_last_page(page_count)));
+        assert_eq!(pair.check().0, totals(4, 1, 0));
+        let listing = pair.list(0);
+        assert_eq!((listing.start, listing.length), (page_count - 1, 10));
+        assert_eq!(pair.read(b"LAST\x07"), (0, b"at the end".to_vec()));
+        let all = vec![0x42; packet * (page_count as usize - 4)];
+        assert_eq!(pair.put(b"ALL \x07", &all).0, answer(0, 0));
+        assert_eq!(pair.check().0, totals(page_count, 2, 0));
+        assert_eq!(pair.read(b"ALL \x07"), (0, all));
+        assert_eq!(pair.read(b"LAST\x07"), (0, b"at the end".to_vec()));
     }
 }

@@ -63,26 +63,14 @@ impl Trial<'_> {
         bytes
     }
 
-    /// The answer that every call must give with an owner table of so many bytes, if the image is known to be refused.
-    fn known_refusal(&self, owner_bytes: usize) -> Option<Answer> {
-        if owner_bytes < 2 * self.case.button.page_count as usize {
-            return Some(answer(1, 0));
-        }
-        match self.case.made {
-            Made::OneFault(fault) => Some(fault),
-            Made::Misfit => Some(answer(1, 0)),
-            _ => None,
-        }
-    }
-
     /// Whether the image is known to be accepted with an owner table of so many bytes.
     fn known_accepted(&self, owner_bytes: usize) -> bool {
-        self.case.made == Made::Sound && self.known_refusal(owner_bytes).is_none()
+        self.case.made == Made::Sound && self.case.known_refusal(owner_bytes).is_none()
     }
 
     /// Demands a known refusal.
     fn demand(&self, owner_bytes: usize, told: Answer) {
-        if let Some(refusal) = self.known_refusal(owner_bytes) {
+        if let Some(refusal) = self.case.known_refusal(owner_bytes) {
             assert_eq!(told, refusal, "known by construction");
         }
     }

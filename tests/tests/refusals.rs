@@ -4,6 +4,7 @@
 mod common;
 
 use common::generators::{damaged_case, deep_image, fault_case, files, Case, Made};
+use common::plans::geometry;
 use common::{answer, library, Button, Seed};
 use referee::builder::plan::Built;
 use referee::rng::Rng;
@@ -14,6 +15,17 @@ const BEFORE: u8 = 0xC7;
 
 /// Bytes of the owner table past the first 2N.
 const EXTRA: usize = 7;
+
+/// An edit of a path.
+#[derive(Clone, Copy)]
+enum Edit<'a> {
+    Delete,
+    /// With the file's bytes.
+    Put(&'a [u8]),
+}
+
+/// A put of a few bytes.
+const PUT: Edit = Edit::Put(b"new");
 
 /// The calls of the library with a copy of the image and an owner table that is longer than needed.
 struct Lent<'a> {
@@ -79,15 +91,22 @@ impl<'a> Lent<'a> {
         )
     }
 
-    /// A delete.
-    fn delete(&mut self, path: &[u8]) -> Answer {
-        library::delete(
-            self.button.page_length,
-            self.button.page_count,
-            &mut self.image,
-            path,
-            &mut self.owners,
-        )
+    /// A put or a delete; path and bytes stay as they are.
+    fn edit(&mut self, edit: Edit, path: &[u8]) -> Answer {
+        let (p, n) = (self.button.page_length, self.button.page_count);
+        let (image, owners) = (&mut self.image, &mut self.owners);
+        let lent_path = path.to_vec();
+        let told = match edit {
+            Edit::Delete => library::delete(p, n, image, &lent_path, owners),
+            Edit::Put(bytes) => {
+                let lent_bytes = bytes.to_vec();
+                let told = library::put(p, n, image, &lent_path, &lent_bytes, owners);
+                assert!(lent_bytes == bytes, "bytes");
+                told
+            }
+        };
+        assert!(lent_path == path, "path");
+        told
     }
 
     /// Demands image and output as before the call, and an owner table with these bytes in front and all others as before.
@@ -145,9 +164,9 @@ fn refused_by_all(case: &Case, refusal: Answer) {
     }
 }
 
-/// Demands that delete refuses an image with this and nothing else, whatever the path: of entries, malformed, of nothing, of any bytes.
+/// Demands that an edit refuses an image with this and nothing else, whatever the path: of entries, malformed, of nothing, of any bytes.
 /// Afterwards the owner numbers are all 0, but after 1 the table is as before.
-fn delete_refused_by_image(case: &Case, refusal: Answer, rng: &mut Rng) {
+fn edit_refused_by_image(edit: Edit, case: &Case, refusal: Answer, rng: &mut Rng) {
     let zeros = match refusal.number {
         1 => Vec::new(),
         _ => vec![0; 2 * case.button.page_count as usize],
@@ -160,13 +179,13 @@ fn delete_refused_by_image(case: &Case, refusal: Answer, rng: &mut Rng) {
     }
     for path in &paths {
         let mut lent = Lent::new(&case.button, 0);
-        assert_eq!(lent.delete(path), refusal, "{path:?}");
+        assert_eq!(lent.edit(edit, path), refusal, "{path:?}");
         lent.holds(&zeros);
     }
 }
 
-/// Demands a delete's refusal with this number (2 to 13) and the page known by construction.
-fn delete_refused_with(number: u32) {
+/// Demands a put's or a delete's refusal with this number (2 to 13) and the page known by construction.
+fn edits_refused_with(number: u32) {
     let first = 0x6600_0000 + 1_000 * u64::from(number);
     for seed in first..first + 40 {
         let _seed = Seed(seed);
@@ -176,15 +195,17 @@ fn delete_refused_with(number: u32) {
             panic!("a case with one fault");
         };
         assert_eq!(refusal.number, number);
-        delete_refused_by_image(&case, refusal, &mut rng);
+        for edit in [Edit::Delete, PUT, Edit::Put(b""), Edit::Put(&[7; 3_000])] {
+            edit_refused_by_image(edit, &case, refusal, &mut rng);
+        }
     }
 }
 
-/// Demands that a delete is refused with this number and nothing else, and leaves the accepted image's owners.
-fn delete_refused(built: &Built, path: &[u8], number: u32) {
+/// Demands that an edit is refused with this number and nothing else, and leaves the accepted image's owners.
+fn edit_refused(edit: Edit, built: &Built, path: &[u8], number: u32) {
     let button = Button::from(built);
     let mut lent = Lent::new(&button, 0);
-    assert_eq!(lent.delete(path), answer(number, 0), "{path:?}");
+    assert_eq!(lent.edit(edit, path), answer(number, 0), "{path:?}");
     lent.holds(&built.owners);
 }
 
@@ -327,18 +348,20 @@ fn number_18() {
 
 /// Page length, page count or image length.
 #[test]
-fn delete_number_1() {
+fn edit_number_1() {
     for seed in 0x6600_0000..0x6600_0000 + 100 {
         let _seed = Seed(seed);
         let mut rng = Rng::new(seed);
         let case = damaged_case(Made::Misfit, &mut rng);
-        delete_refused_by_image(&case, answer(1, 0), &mut rng);
+        for edit in [Edit::Delete, PUT] {
+            edit_refused_by_image(edit, &case, answer(1, 0), &mut rng);
+        }
     }
 }
 
-/// An owner table that is too short is 1 and is not touched, for a file that could be deleted and for one that could not.
+/// An owner table that is too short is 1 and is not touched, for a file that could be put or deleted and for one that could not.
 #[test]
-fn delete_number_1_for_the_owner_table() {
+fn edit_number_1_for_the_owner_table() {
     let seed = Seed(0x6600_1000);
     let built = deep_image(&mut Rng::new(seed.0));
     let button = Button::from(&built);
@@ -346,77 +369,79 @@ fn delete_number_1_for_the_owner_table() {
     for owner_bytes in [0, 1, needed / 2, needed - 2, needed - 1] {
         let paths = built.entries.iter().map(|entry| entry.path.as_slice());
         for path in paths.chain([&b"bad"[..], b"NONE\x01"]) {
-            let mut lent = Lent::new(&button, 0);
-            lent.owners.truncate(owner_bytes);
-            assert_eq!(lent.delete(path), answer(1, 0));
-            lent.holds(&[]);
+            for edit in [Edit::Delete, PUT] {
+                let mut lent = Lent::new(&button, 0);
+                lent.owners.truncate(owner_bytes);
+                assert_eq!(lent.edit(edit, path), answer(1, 0));
+                lent.holds(&[]);
+            }
         }
     }
 }
 
 #[test]
-fn delete_number_2_packet() {
-    delete_refused_with(2);
+fn edit_number_2_packet() {
+    edits_refused_with(2);
 }
 
 #[test]
-fn delete_number_3_marker() {
-    delete_refused_with(3);
+fn edit_number_3_marker() {
+    edits_refused_with(3);
 }
 
 #[test]
-fn delete_number_4_control_field() {
-    delete_refused_with(4);
+fn edit_number_4_control_field() {
+    edits_refused_with(4);
 }
 
 #[test]
-fn delete_number_5_in_progress() {
-    delete_refused_with(5);
+fn edit_number_5_in_progress() {
+    edits_refused_with(5);
 }
 
 #[test]
-fn delete_number_6_page_number() {
-    delete_refused_with(6);
+fn edit_number_6_page_number() {
+    edits_refused_with(6);
 }
 
 #[test]
-fn delete_number_7_crossed() {
-    delete_refused_with(7);
+fn edit_number_7_crossed() {
+    edits_refused_with(7);
 }
 
 #[test]
-fn delete_number_8_count() {
-    delete_refused_with(8);
+fn edit_number_8_count() {
+    edits_refused_with(8);
 }
 
 #[test]
-fn delete_number_9_name() {
-    delete_refused_with(9);
+fn edit_number_9_name() {
+    edits_refused_with(9);
 }
 
 #[test]
-fn delete_number_10_extension() {
-    delete_refused_with(10);
+fn edit_number_10_extension() {
+    edits_refused_with(10);
 }
 
 #[test]
-fn delete_number_11_twice() {
-    delete_refused_with(11);
+fn edit_number_11_twice() {
+    edits_refused_with(11);
 }
 
 #[test]
-fn delete_number_12_too_deep() {
-    delete_refused_with(12);
+fn edit_number_12_too_deep() {
+    edits_refused_with(12);
 }
 
 #[test]
-fn delete_number_13_bitmap() {
-    delete_refused_with(13);
+fn edit_number_13_bitmap() {
+    edits_refused_with(13);
 }
 
 /// Any bytes as image and path: whatever fault they have, nothing but the owner numbers is written.
 #[test]
-fn delete_from_any_bytes() {
+fn edits_of_any_bytes() {
     for seed in 0x6700_0000..0x6700_0000 + 200 {
         let _seed = Seed(seed);
         let mut rng = Rng::new(seed);
@@ -427,13 +452,22 @@ fn delete_from_any_bytes() {
         let totals = Lent::new(&case.button, 0).check();
         if totals.number != 0 {
             let refusal = answer(totals.number, totals.page);
-            delete_refused_by_image(&case, refusal, &mut rng);
+            for edit in [Edit::Delete, PUT] {
+                edit_refused_by_image(edit, &case, refusal, &mut rng);
+            }
         }
     }
 }
 
+/// Demands 14 for a path from a put and a delete.
+fn malformed(built: &Built, path: &[u8]) {
+    for edit in [Edit::Delete, PUT, Edit::Put(&[7; 3_000])] {
+        edit_refused(edit, built, path, 14);
+    }
+}
+
 #[test]
-fn delete_number_14_path() {
+fn edit_number_14_path() {
     for seed in 0x6800_0000..0x6800_0000 + 20 {
         let _seed = Seed(seed);
         let mut rng = Rng::new(seed);
@@ -452,22 +486,22 @@ fn delete_number_14_path() {
             b"A.B \x01",
             b"\xC1   \x01",
         ] {
-            delete_refused(&built, path, 14);
+            malformed(&built, path);
         }
         for length in 0..=60 {
             if length % 4 != 1 || !(5..=37).contains(&length) {
-                delete_refused(&built, &rng.bytes(length), 14);
-                delete_refused(&built, &b"ROOT".repeat(16)[..length], 14);
+                malformed(&built, &rng.bytes(length));
+                malformed(&built, &b"ROOT".repeat(16)[..length]);
             }
         }
         for entry in &built.entries {
             // The names alone, and with an extension above 99, which a read-only file has as stored.
             let mut path = entry.path.clone();
             path.truncate(path.len() / 4 * 4);
-            delete_refused(&built, &path, 14);
+            malformed(&built, &path);
             for extension in [100, 127, 128, entry.listing.extension as u8 | 0x80] {
                 path.push(extension);
-                delete_refused(&built, &path, 14);
+                malformed(&built, &path);
                 path.pop();
             }
         }
@@ -480,7 +514,7 @@ fn delete_number_15_absent() {
         let _seed = Seed(seed);
         let built = deep_image(&mut Rng::new(seed));
         for path in [&b"NONE\x07"[..], b"NONEFILE\x07", b"NONENONENONE\x07"] {
-            delete_refused(&built, path, 15);
+            edit_refused(Edit::Delete, &built, path, 15);
         }
         for entry in &built.entries {
             // A file's or directory's name in the place of a directory; none has NONE.7.
@@ -488,34 +522,91 @@ fn delete_number_15_absent() {
             let mut path = entry.path[..names].to_vec();
             path.extend(*b"NONE\x07");
             if path.len() <= 37 {
-                delete_refused(&built, &path, 15);
+                edit_refused(Edit::Delete, &built, &path, 15);
             }
             // A directory's name in the place of a file.
             let mut path = entry.path.clone();
             if entry.listing.extension == 127 {
                 path.push(99);
                 if !built.entries.iter().any(|other| other.path == path) {
-                    delete_refused(&built, &path, 15);
+                    edit_refused(Edit::Delete, &built, &path, 15);
                 }
             }
         }
     }
 }
 
+/// Only a missing directory is 15 for a put, also if there is no room for the file.
 #[test]
-fn delete_number_16_read_only() {
+fn put_number_15_absent() {
+    for seed in 0x6980_0000..0x6980_0000 + 20 {
+        let _seed = Seed(seed);
+        let built = deep_image(&mut Rng::new(seed));
+        let is_directory = |names: &[u8]| built.entries.iter().any(|entry| entry.path == names);
+        let tops = [&b"NONE"[..], b"NONENONE", b"ROOT"].map(<[u8]>::to_vec);
+        // A name that is missing in a directory, and a file's name in the place of a directory.
+        let below = built.entries.iter().flat_map(|entry| {
+            let names = &entry.path[..entry.path.len() / 4 * 4];
+            [[names, b"NONE"].concat(), names.to_vec()]
+        });
+        for names in tops.into_iter().chain(below) {
+            if is_directory(&names) || names.len() > 32 {
+                continue;
+            }
+            let path = [names.as_slice(), b"FILE\x07"].concat();
+            for edit in [PUT, Edit::Put(b""), Edit::Put(&[7; 3_000])] {
+                edit_refused(edit, &built, &path, 15);
+            }
+        }
+    }
+}
+
+/// A read-only file is 16, also if there is no room for a put.
+#[test]
+fn edit_number_16_read_only() {
     let mut met = 0;
     for seed in 0x6A00_0000..0x6A00_0000 + 40 {
         let _seed = Seed(seed);
         let built = deep_image(&mut Rng::new(seed));
+        let too_long = vec![7; built.image.len()];
         for file in files(&built) {
             if file.listing.attribute == 1 {
-                delete_refused(&built, &file.path, 16);
+                for edit in [Edit::Delete, PUT, Edit::Put(b""), Edit::Put(&too_long)] {
+                    edit_refused(edit, &built, &file.path, 16);
+                }
                 met += 1;
             }
         }
     }
     assert!(met >= 100, "met {met} times");
+}
+
+/// One byte more than all free pages hold, with those of a replaced file: 17, and the image and its owners are as before.
+#[test]
+fn put_number_17_no_room() {
+    let mut met = [0; 2];
+    for seed in 0x6A80_0000..0x6A80_0000 + 40 {
+        let _seed = Seed(seed);
+        let built = deep_image(&mut Rng::new(seed));
+        let geometry = geometry(built.page_length, built.page_count);
+        let free = (built.page_count - built.totals.used) as usize;
+        for entry in &built.entries {
+            let pages = entry.listing.pages as usize;
+            let bytes = vec![7; (free + pages) * geometry.max_data() + 1];
+            if entry.listing.extension == 127 {
+                // A new file in the directory.
+                let path = [&entry.path[..], b"NEW'\x07"].concat();
+                edit_refused(Edit::Put(&bytes), &built, &path, 17);
+                met[0] += 1;
+            } else if entry.listing.attribute == 0 {
+                edit_refused(Edit::Put(&bytes), &built, &entry.path, 17);
+                met[1] += 1;
+            }
+        }
+        let bytes = vec![7; free * geometry.max_data() + 1];
+        edit_refused(Edit::Put(&bytes), &built, b"NEW'\x07", 17);
+    }
+    assert!(met.iter().all(|&times| times >= 100), "met {met:?} times");
 }
 
 /// Page length, page count or image length; also where a local bitmap is not allowed.

@@ -1,6 +1,5 @@
 // Names of one to four bytes.
 ghost use mathlib.Core.Path.{_≡_};
-ghost use Prim.Native.Nat.{_≤_};
 ghost use Rattle.geometry.specs.Number.{numberBytes};
 ghost use Rattle.rules.specs.PageSets.{mem};
 ghost use Rattle.rules.specs.Names.{signs, nameByte, blanks, nameTail, validName};

@@ -5,7 +5,6 @@ use geometry::Geometry;
 use rules::Entry;
 ghost use mathlib.Core.Path.{_≡_};
 ghost use Prim.Native.Nat.{_+_, _*_, _≤_, _<_, min};
-ghost use mathlib.Core.List.{List};
 ghost use lib.Dec.{eqb};
 ghost use lib.ListN.{length, getD, take, drop};
 ghost use Rattle.geometry.specs.Geometry.{entrySize, controlSize, Fit, Valid};

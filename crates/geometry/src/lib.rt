@@ -1,6 +1,6 @@
 // The sizes of an image, numbers of n bytes, and an image's pages.
 ghost use mathlib.Core.Path.{_≡_};
-ghost use Prim.Native.Nat.{ℕ, _+_, _*_, _/_, _^_, _≤_, _<_};
+ghost use Prim.Native.Nat.{_+_, _*_, _/_, _^_, _≤_, _<_};
 ghost use lib.ListN.{length, take, drop};
 ghost use Rattle.geometry.specs.Geometry.{geometryOf, dataCapacity, entrySize, controlSize, firstEntries, laterEntries, bitmapSize, Valid, Fit};
 ghost use Rattle.geometry.specs.Number.{number, numberBytes};

@@ -3,7 +3,6 @@ use entries::Seat;
 use geometry::Geometry;
 use path::Parsed;
 use rules::Entry;
-ghost use mathlib.Core.List.{List};
 ghost use Prim.Native.Nat.{_+_, _*_, _≤_};
 ghost use lib.ListN.{length};
 ghost use Rattle.geometry.specs.Geometry.{Fit};

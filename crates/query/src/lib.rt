@@ -6,7 +6,6 @@ use lookup::Target;
 use rules::Line;
 use walk::Walk;
 ghost use mathlib.Core.Path.{_≡_};
-ghost use mathlib.Core.List.{List};
 ghost use Rattle.geometry.specs.Geometry.{Fit};
 ghost use Rattle.packet.specs.Packet.{viewOf};
 ghost use Rattle.chain.specs.KnownChain.{KnownChain};

@@ -9,7 +9,6 @@ use packet::Judged;
 use rules::Totals;
 use walk::Walk;
 ghost use mathlib.Core.Path.{_≡_};
-ghost use mathlib.Core.List.{List};
 ghost use Prim.Native.Nat.{_+_, _≤_, _<_};
 ghost use lib.ListN.{length, replicate};
 ghost use Rattle.geometry.specs.Geometry.{Fit};

@@ -1,7 +1,7 @@
 //! One call of the library and one of the second program with equal arguments.
 //!
-//! Every field of the answers is compared, and every byte of the lent memory afterwards: of the owner table, of the output and
-//! of an image that is edited with some bytes before and after them, of the path and of any other image.
+//! Every field of the answers is compared, and every byte of the lent memory afterwards: of the owner table, of the output, of
+//! an image that is edited, of the path and of a file's bytes with some bytes before and after them, and of any other image.
 
 use std::fmt::Debug;
 
@@ -37,6 +37,14 @@ impl Lent {
         lent
     }
 
+    /// A slice of these bytes that no call may write; equal bytes are lent alike.
+    fn given(bytes: &[u8]) -> Lent {
+        let margin = [0x96; MARGIN];
+        Lent {
+            bytes: [&margin, bytes, &margin].concat(),
+        }
+    }
+
     /// The lent slice.
     fn slice(&mut self) -> &mut [u8] {
         let end = self.bytes.len() - MARGIN;
@@ -61,6 +69,25 @@ fn equal<T: PartialEq + Debug>(
     assert!(owners == expected_owners, "owner bytes");
     assert!(button.image == before, "the image is not written");
     expected
+}
+
+/// The CRC-16 register after `bytes` with both.
+pub fn crc16(start: u16, bytes: &[u8]) -> u16 {
+    let register = referee::crc16(start, bytes);
+    assert_eq!(
+        library::crc16(start, bytes),
+        register,
+        "library and second program, start {start}, {} bytes",
+        bytes.len()
+    );
+    register
+}
+
+/// The check bytes of a packet with both.
+pub fn check_bytes(page: u16, packet: &[u8]) -> [u8; 2] {
+    let bytes = (!crc16(page, packet)).to_le_bytes();
+    assert_eq!(referee::check_bytes(page, packet), bytes);
+    bytes
 }
 
 /// Checks an image with both.
@@ -109,16 +136,16 @@ pub fn read_bytes(
     let (p, n, image) = (button.page_length, button.page_count, &button.image);
     let mut expected_out = Lent::random(out_bytes, rng);
     let mut out = expected_out.clone();
-    let path_before = path.to_vec();
+    let mut lent_path = Lent::given(path);
     let length = equal(
         button,
         owner_bytes,
         rng,
         |owners| referee::read(p, n, image, path, expected_out.slice(), owners),
-        |owners| library::read(p, n, image, path, out.slice(), owners),
+        |owners| library::read(p, n, image, lent_path.slice(), out.slice(), owners),
     );
     assert!(out == expected_out, "output bytes");
-    assert!(path == path_before, "the path is not written");
+    assert!(lent_path == Lent::given(path), "the path is not written");
     (length, out.slice()[..length.length as usize].to_vec())
 }
 
@@ -134,18 +161,47 @@ pub fn format(button: &mut Button, owner_bytes: usize, local: u32, rng: &mut Rng
     )
 }
 
+/// Makes or replaces a file with both.
+pub fn put(
+    button: &mut Button,
+    owner_bytes: usize,
+    path: &[u8],
+    bytes: &[u8],
+    rng: &mut Rng,
+) -> Answer {
+    let (p, n) = (button.page_length, button.page_count);
+    let mut lent_path = Lent::given(path);
+    let mut lent_bytes = Lent::given(bytes);
+    let told = edit(
+        button,
+        owner_bytes,
+        rng,
+        |image, owners| referee::put(p, n, image, path, bytes, owners),
+        |image, owners| {
+            let (path, bytes) = (lent_path.slice(), lent_bytes.slice());
+            library::put(p, n, image, path, bytes, owners)
+        },
+    );
+    assert!(lent_path == Lent::given(path), "the path is not written");
+    assert!(
+        lent_bytes == Lent::given(bytes),
+        "the file's bytes are not written"
+    );
+    told
+}
+
 /// Deletes a file with both.
 pub fn delete(button: &mut Button, owner_bytes: usize, path: &[u8], rng: &mut Rng) -> Answer {
     let (p, n) = (button.page_length, button.page_count);
-    let path_before = path.to_vec();
+    let mut lent_path = Lent::given(path);
     let told = edit(
         button,
         owner_bytes,
         rng,
         |image, owners| referee::delete(p, n, image, path, owners),
-        |image, owners| library::delete(p, n, image, path, owners),
+        |image, owners| library::delete(p, n, image, lent_path.slice(), owners),
     );
-    assert!(path == path_before, "the path is not written");
+    assert!(lent_path == Lent::given(path), "the path is not written");
     told
 }
 

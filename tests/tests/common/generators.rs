@@ -1,13 +1,11 @@
 //! Seeded images, paths, positions and lengths, for the tests of the library's calls.
 
-use super::Button;
+use super::{answer, Button, Tally};
 use referee::builder::fault::{
     with_fault, with_random_changes, with_sealed_flips, with_two_faults,
 };
 use referee::builder::pages::Pages;
-use referee::builder::plan::{
-    BitmapPlan, Built, BuiltChain, BuiltEntry, Chain, ChainOf, DirectoryPlan, Fill, ImagePlan, Item,
-};
+use referee::builder::plan::{Built, BuiltChain, BuiltEntry, ChainOf, Fill, ImagePlan};
 use referee::builder::random::{random_image, random_name, random_packets, random_plan, Shape};
 use referee::geometry::Geometry;
 use referee::rng::Rng;
@@ -37,6 +35,19 @@ pub struct Case {
     pub made: Made,
     pub button: Button,
     pub built: Built,
+}
+
+impl Case {
+    /// The answer that every call which checks the image must give with an owner table of so many bytes, if it is known to be refused.
+    pub fn known_refusal(&self, owner_bytes: usize) -> Option<Answer> {
+        let refused = answer(1, 0);
+        match self.made {
+            _ if !is_enough(self.button.page_count, owner_bytes) => Some(refused),
+            Made::OneFault(fault) => Some(fault),
+            Made::Misfit => Some(refused),
+            _ => None,
+        }
+    }
 }
 
 /// A random page length and page count; small ones are frequent, and those around the limits too.
@@ -110,7 +121,7 @@ pub fn largest_image(
     random_plan(page_length, 65_535, shape, &mut Rng::new(seed)).build()
 }
 
-/// A plan with something to delete: chains mostly scattered, packets often partly filled or empty, those of a bitmap file too;
+/// A plan with something to delete or replace: chains mostly scattered, packets often partly filled or empty, those of a bitmap file too;
 /// one in five is nested down to level eight.
 pub fn worn_plan(rng: &mut Rng) -> ImagePlan {
     let limit = random_limit(rng).min(1_000);
@@ -129,75 +140,6 @@ pub fn worn_plan(rng: &mut Rng) -> ImagePlan {
         ..shape
     };
     random_plan(page_length, page_count, shape, rng)
-}
-
-/// The plan of a formatted image: an empty root, and from page 1 upward a bitmap file with full packets unless the bitmap is local.
-pub fn formatted_plan(page_length: u32, page_count: u32, local: bool) -> ImagePlan {
-    let geometry = Geometry::new(page_length, page_count).expect("P and N within their limits");
-    let total = geometry.bitmap_file_length();
-    let pages: Vec<usize> = (1..=total.div_ceil(geometry.max_data())).collect();
-    let bitmap = if local {
-        BitmapPlan::Local
-    } else {
-        BitmapPlan::File(Chain::full(&pages, total, geometry.max_data()))
-    };
-    ImagePlan {
-        page_length,
-        page_count,
-        bitmap,
-        root: DirectoryPlan {
-            pages: vec![0],
-            counts: vec![0],
-            items: Vec::new(),
-        },
-        fill: Fill::Byte(0),
-    }
-}
-
-/// The plan without the file of this path; none if there is no such file.
-pub fn plan_without(plan: &ImagePlan, path: &[u8]) -> Option<ImagePlan> {
-    let mut plan = plan.clone();
-    remove_file(&mut plan.root, path)?;
-    Some(plan)
-}
-
-/// Removes the file of this path from a directory or one below it; the page that held its entry has one less.
-fn remove_file(directory: &mut DirectoryPlan, path: &[u8]) -> Option<()> {
-    if path.len() > 5 {
-        let below = directory.items.iter_mut().find_map(|item| match item {
-            Item::Directory {
-                name, directory, ..
-            } if *name == path[..4] => Some(directory),
-            _ => None,
-        })?;
-        return remove_file(below, &path[4..]);
-    }
-    let is_file = |item: &Item| match item {
-        Item::File(file) => file.name == path[..4] && file.extension == path[4],
-        Item::Directory { .. } => false,
-    };
-    let mut place = directory.items.iter().position(is_file)?;
-    directory.items.remove(place);
-    for count in &mut directory.counts {
-        if place < *count {
-            *count -= 1;
-            return Some(());
-        }
-        place -= *count;
-    }
-    None
-}
-
-/// An image with the packets of another laid over it: each page in use there has its packet, every other byte stays.
-pub fn overlaid(image: &Button, built: &Built) -> Vec<u8> {
-    let mut after = image.pages();
-    let packets = Button::from(built);
-    for &page in built.chains.iter().flat_map(|chain| &chain.pages) {
-        let packet = packets.page(page);
-        let length = 3 + usize::from(packet[0]);
-        after.page_mut(page)[..length].copy_from_slice(&packet[..length]);
-    }
-    after.image
 }
 
 /// A number that asks format for a bitmap file (0) or a local bitmap, with a label.
@@ -285,6 +227,21 @@ pub fn damaged_case(made: Made, rng: &mut Rng) -> Case {
         misfit(&mut case.button, rng);
     }
     case
+}
+
+/// An image that is not accepted, or numbers that do not fit it; `kind` chooses one fault of each number, pairs of them or another damage.
+pub fn faulty_case(kind: u64, rng: &mut Rng) -> Case {
+    match kind % 20 {
+        0..=9 => fault_case(2 + (kind / 20 % 12) as u32, rng),
+        10..=12 => {
+            let pair = (kind / 20 % 144) as u32;
+            two_faults_case([2 + pair / 12, 2 + pair % 12], rng)
+        }
+        13..=15 => damaged_case(Made::Sealed, rng),
+        16 | 17 => damaged_case(Made::Flipped, rng),
+        18 => damaged_case(Made::Packets, rng),
+        _ => damaged_case(Made::Misfit, rng),
+    }
 }
 
 /// A case of a built image whose bytes were changed.
@@ -387,6 +344,46 @@ pub fn labelled_owner_bytes(page_count: u32, rng: &mut Rng) -> (&'static str, us
     }
 }
 
+/// The labels of owner tables.
+pub const OWNER_TABLES: [&str; 6] = [
+    "owner table just long enough",
+    "owner table one byte longer",
+    "owner table longer",
+    "owner table one byte too short",
+    "owner table too short",
+    "no owner table",
+];
+
+/// Bytes of an owner table, counted by their label.
+pub fn counted_owner_bytes(page_count: u32, rng: &mut Rng, tally: &mut Tally) -> usize {
+    let (label, bytes) = labelled_owner_bytes(page_count, rng);
+    tally.add(label);
+    bytes
+}
+
+/// Whether an owner table of so many bytes is long enough.
+pub fn is_enough(page_count: u32, owner_bytes: usize) -> bool {
+    owner_bytes >= 2 * page_count as usize
+}
+
+/// A number for P or N that is often just inside or outside its limits.
+pub fn any_number(limits: &[u32], rng: &mut Rng) -> u32 {
+    match rng.below(5) {
+        0 => rng.next_u64() as u32 >> rng.below(32),
+        _ => limits[rng.below(limits.len())],
+    }
+}
+
+/// A length that fits, or nearly, or not at all.
+pub fn any_length(fitting: u64, rng: &mut Rng) -> usize {
+    let fitting = fitting.min(100_000) as usize;
+    match rng.below(6) {
+        0 => rng.below(2_000),
+        1 => (fitting + rng.below(3)).saturating_sub(1),
+        _ => fitting,
+    }
+}
+
 /// A position in walk order of an image with so many entries, with a label.
 pub fn labelled_position(entries: usize, rng: &mut Rng) -> (&'static str, u32) {
     let entries = entries as u32;
@@ -465,13 +462,16 @@ fn any_path(rng: &mut Rng) -> Wanted {
     }
 }
 
-/// Whether a directory on the path of an entry is hidden.
-pub fn is_below_hidden(built: &Built, entry: &BuiltEntry) -> bool {
-    let names = entry.listing.level as usize;
-    built.entries.iter().any(|other| {
-        let hidden = other.listing.extension == 127 && other.listing.attribute == 1;
-        let above = (other.listing.level as usize) < names && entry.path.starts_with(&other.path);
-        hidden && above
+/// The names of the directories on an entry's path.
+pub fn directories_of(entry: &BuiltEntry) -> &[u8] {
+    &entry.path[..4 * entry.listing.level as usize]
+}
+
+/// Whether one of the directories that these names lead to is hidden.
+pub fn is_below_hidden(built: &Built, names: &[u8]) -> bool {
+    built.entries.iter().any(|entry| {
+        let hidden = entry.listing.extension == 127 && entry.listing.attribute == 1;
+        hidden && names.starts_with(&entry.path)
     })
 }
 
@@ -515,7 +515,7 @@ fn path_near_file(built: &Built, file: &BuiltEntry, rng: &mut Rng) -> Wanted {
             path.splice(place..place, random_name(rng));
             "path with a name more"
         }
-        _ if is_below_hidden(built, file) => "path below a hidden directory",
+        _ if is_below_hidden(built, directories_of(file)) => "path below a hidden directory",
         _ if file.listing.attribute == 1 => "path of a read-only file",
         _ => "path of a file",
     };

@@ -89,6 +89,19 @@ extern "C" {
         local: u32,
     ) -> OwfsAnswer;
 
+    fn owfs_put(
+        page_length: u32,
+        page_count: u32,
+        image: *mut u8,
+        image_length: usize,
+        path: *const u8,
+        path_length: usize,
+        bytes: *const u8,
+        bytes_length: usize,
+        owners: *mut u8,
+        owners_length: usize,
+    ) -> OwfsAnswer;
+
     fn owfs_delete(
         page_length: u32,
         page_count: u32,
@@ -206,6 +219,35 @@ pub fn format(
             owners.as_mut_ptr(),
             owners.len(),
             local,
+        )
+    };
+    Answer {
+        number: told.number,
+        page: told.page,
+    }
+}
+
+/// Makes or replaces a file.
+pub fn put(
+    page_length: u32,
+    page_count: u32,
+    image: &mut [u8],
+    path: &[u8],
+    bytes: &[u8],
+    owners: &mut [u8],
+) -> Answer {
+    let told = unsafe {
+        owfs_put(
+            page_length,
+            page_count,
+            image.as_mut_ptr(),
+            image.len(),
+            path.as_ptr(),
+            path.len(),
+            bytes.as_ptr(),
+            bytes.len(),
+            owners.as_mut_ptr(),
+            owners.len(),
         )
     };
     Answer {

@@ -1,18 +1,24 @@
 //! Calls of the second program with the promises that hold for every call, and help for the tests.
 //!
 //! `library` has the exported functions, `both` calls them and the second program side by side, `generators` has what they are called with,
-//! `dumps` makes dumps and runs the program `list`.
+//! `plans` works out what edits leave, `puts` has what puts are called with and what they meet, `trees` has small trees, `dumps` makes dumps and
+//! runs the program `list`.
 #![allow(dead_code)]
 
 pub mod both;
 pub mod dumps;
 pub mod generators;
 pub mod library;
+pub mod plans;
+pub mod puts;
+pub mod trees;
 
 use std::collections::BTreeMap;
+use std::ops::Range;
 
 use referee::builder::pages::Pages;
 use referee::builder::plan::Built;
+use referee::rng::Rng;
 use referee::{Answer, Length, Listing, Totals};
 
 /// What an owner table holds before a call, so that untouched bytes are seen.
@@ -283,6 +289,15 @@ impl Drop for Seed {
     }
 }
 
+/// Runs so many cases, each from a seed of its own.
+pub fn run_seeds(seeds: Range<u64>, mut case: impl FnMut(u64, &mut Rng)) {
+    println!("seeds {seeds:?}");
+    for seed in seeds {
+        let _seed = Seed(seed);
+        case(seed, &mut Rng::new(seed));
+    }
+}
+
 /// Counts by label, so that a test can demand that every kind of case was met.
 #[derive(Debug, Default)]
 pub struct Tally {
@@ -292,7 +307,12 @@ pub struct Tally {
 impl Tally {
     /// Counts a label once more.
     pub fn add(&mut self, label: impl Into<String>) {
-        *self.counts.entry(label.into()).or_default() += 1;
+        self.add_times(label, 1);
+    }
+
+    /// Counts a label so many times more.
+    pub fn add_times(&mut self, label: impl Into<String>, times: u32) {
+        *self.counts.entry(label.into()).or_default() += times;
     }
 
     /// Demands that each label was counted at least so many times.
