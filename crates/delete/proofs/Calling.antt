@@ -6,6 +6,7 @@ use lib.ListN.{length, getD, drop}
 use Rattle.geometry.specs.declared.Geometry.{Geometry}
 use Rattle.geometry.specs.declared.Shape.the-variants.{Fits}
 use Rattle.geometry.specs.Geometry.{geometryOf}
+use Rattle.geometry.specs.NumberLaws.{bytes-from}
 use Rattle.packet.specs.Packet.{viewOf}
 use Rattle.rules.specs.Result.{Res, err}
 use Rattle.rules.specs.ResultLaws.{then-err}
@@ -13,7 +14,6 @@ use Rattle.rules.specs.Check.{check}
 use Rattle.rules.specs.Delete.{delete}
 use Rattle.rules.specs.Calls.{deleteCall}
 use Rattle.rules.specs.CallLaws.{delete-refused}
-use Rattle.reading.specs.CheckCall.{bytes-known}
 use Rattle.editing.specs.CallEdits.{delete-call}
 use Rattle.volume.specs.declared.Edited.{Edited}
 use Rattle.volume.specs.Edits.{editTold, EditLeaves}
@@ -35,6 +35,6 @@ module _ (P N : ℕ) (image table path : List ℕ) where
       let q : editTold r ≡ deleteCall P N image table path .0 = ap (λ (x : Res (Unit {0}) × List ℕ × List ℕ). x .0) e in
       let a : after ≡ deleteCall P N image table path .1 = ap (λ (x : Res (Unit {0}) × List ℕ × List ℕ). x .1) e in
       record {
-        done = λ g f k. rw a (delete-call P N image table g f (bytes-known image h) path (sym q ∙ k));
+        done = λ g f k. rw a (delete-call P N image table g f (bytes-from image h) path (sym q ∙ k));
         refused = λ n p k. a ∙ delete-refused P N image table path n p (sym q ∙ k);
       }

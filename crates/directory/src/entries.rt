@@ -3,16 +3,46 @@ use crate::names;
 use geometry::Geometry;
 use rules::Entry;
 ghost use mathlib.Core.Path.{_≡_};
-ghost use Prim.Native.Nat.{_+_, _*_, _≤_, _<_};
-ghost use lib.ListN.{length, drop};
+ghost use Prim.Native.Nat.{_+_, _*_, _≤_};
+ghost use lib.ListN.{length};
 ghost use Rattle.geometry.specs.Geometry.{Valid};
-ghost use Rattle.rules.specs.Names.{entryOf, entryBytes};
+ghost use Rattle.rules.specs.Names.{entryBytes};
+ghost use Rattle.directory.specs.EntryPlaces.{HasEntry, IsEntry};
 ghost use Rattle.directory.specs.Faults.{LabelFault, WholeFault};
 
-// The entry that stands at a place of a directory page's bytes.
-pub fn entry_at(bytes: &[u8], at: usize, n: usize) -> Entry
-    requires { ⌜ (1 ≤ n) × (n ≤ 2) × (at + (5 + 2 * n) ≤ length (now bytes)) ⌝ }
-    ensures { λ r. ⌜ (r ≡ entryOf n (drop at (now (bytes .entry)))) × (r .start < 65536) × (r .pages < 65536) ⌝ }
+// A place in a directory's page.
+pub struct EntryReader<'a> {
+    pub page: &'a [u8],
+    pub at: usize,
+}
+
+// A reader of a page's entries at a place.
+pub fn reader_at<'a>(page: &'a [u8], at: usize) -> EntryReader<'a>
+    ensures { λ r. ⌜ (r .page ≡ page .entry) × (r .at ≡ at) ⌝ }
+{
+    EntryReader { page, at }
+}
+
+// The entry at the reader's place.
+pub fn read<'a>(r: EntryReader<'a>, n: usize) -> Entry
+    requires { ⌜ HasEntry n (now (r .page)) (r .at) ⌝ }
+    ensures { λ e. ⌜ IsEntry n (now (r .entry .page)) (r .entry .at) e ⌝ }
+{
+    entry_at(r.page, r.at, n)
+}
+
+// The entry at a place of a directory's page.
+pub fn read_entry(page: &[u8], at: usize, n: usize) -> Entry
+    requires { ⌜ HasEntry n (now page) at ⌝ }
+    ensures { λ e. ⌜ IsEntry n (now (page .entry)) at e ⌝ }
+{
+    read(reader_at(page, at), n)
+}
+
+// The entry that stands at a place of bytes.
+fn entry_at(bytes: &[u8], at: usize, n: usize) -> Entry
+    requires { ⌜ HasEntry n (now bytes) at ⌝ }
+    ensures { λ e. ⌜ IsEntry n (now (bytes .entry)) at e ⌝ }
 {
     let extension = at + 4;
     let start = at + 5;

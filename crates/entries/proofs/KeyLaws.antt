@@ -2,13 +2,13 @@
 use mathlib.Core.Path.{_≡_, refl, ap, ap₂, sym, _∙_}
 use mathlib.Core.Bool.{Bool, true, false}
 use mathlib.Core.List.{List, [], _∷_, _++_}
-use Prim.Native.Nat.{ℕ, zero, suc, _+_, _-_, _*_, _/_, _≤_, _<_, min}
+use Prim.Native.Nat.{ℕ, zero, suc, _+_, _-_, _*_, _≤_, _<_, min}
 use native.Mathlib.Nat.{mul-le-mul-left}
 use native.Mathlib.Omega.{arith}
 use lib.Dec.{ltb, eqb}
 use lib.ListN.{length, getD, take, drop}
-use lib.Seq.{drop-drop, getD-drop, take-take, getD-take, take-all, take-append-le, take-append-add}
-use borrow.Author.Tests.{lt-ltb, le-ltb, ltb-true, ltb-false, eqb-true, eqb-false, ne-eqb}
+use lib.Seq.{drop-drop, take-take, getD-take, take-all, take-append-le, take-append-add}
+use borrow.Author.Tests.{lt-ltb, le-ltb, ltb-true, ltb-false, eqb-true, eqb-false}
 use Rattle.geometry.specs.declared.Geometry.{Geometry}
 use Rattle.geometry.specs.Geometry.{entrySize, Valid}
 use Rattle.geometry.specs.ListLaws.{drop-of-take}
@@ -16,7 +16,7 @@ use Rattle.geometry.specs.Number.{number}
 use Rattle.rules.specs.PageSets.{hit, count, mem}
 use Rattle.rules.specs.PageSetLaws.{hits, same, other, hit-same, count-append}
 use Rattle.rules.specs.Names.{key}
-use Rattle.entries.specs.Seats.{keysFrom}
+use Rattle.entries.specs.Seats.{entryKey, keysFrom}
 
 pub length-keys : (g : Geometry) (m : ℕ) (b : List ℕ) → length (keysFrom g m b) ≡ m
 length-keys g zero b = refl
@@ -37,25 +37,16 @@ keys-take g zero k b h = refl
 keys-take g (suc m) zero b h = absurd (omega arith)
 keys-take g (suc m) (suc k) b h = ap (λ (xs : List ℕ). key (number (take 4 b)) (getD b 4 0) ∷ xs) (keys-take g m k (drop (entrySize g) b) (omega arith))
 
--- an entry is compared by its name, then by its key
-module _ (at k x : ℕ) (page : List ℕ) (e : x ≡ number (take 4 (drop at page))) where
-  pub other-name : (x ≡ k / 128 → ⊥) → false ≡ eqb (key (number (take 4 (drop at page))) (getD page (at + 4) 0)) k
-  other-name h = sym (ne-eqb (key (number (take 4 (drop at page))) (getD page (at + 4) 0)) k (λ q. h (omega arith)))
-
-  pub same-name : (y : ℕ) → y ≡ key x (getD page (at + 4) 0) → eqb y k ≡ eqb (key (number (take 4 (drop at page))) (getD page (at + 4) 0)) k
-  same-name y f = ap (λ (z : ℕ). eqb z k) (f ∙ ap (λ (n : ℕ). key n (getD page (at + 4) 0)) e)
-
 -- ---- a search from entry i on
-module _ (g : Geometry) (page : List ℕ) (k m i at : ℕ) (h : i < m) (r : Bool) (f : r ≡ eqb (key (number (take 4 (drop at page))) (getD page (at + 4) 0)) k) where
+module _ (g : Geometry) (page : List ℕ) (k m i at : ℕ) (h : i < m) (r : Bool) (f : r ≡ eqb (entryKey (drop at page)) k) where
   abbrev y : ℕ
-  y = key (number (take 4 (drop at page))) (getD page (at + 4) 0)
+  y = entryKey (drop at page)
 
   one : keysFrom g (m - i) (drop at page) ≡ y ∷ keysFrom g (m - (i + 1)) (drop (at + entrySize g) page)
   one =
       let s : m - i ≡ suc (m - (i + 1)) = omega arith in
-      let q : key (number (take 4 (drop at page))) (getD (drop at page) 4 0) ≡ y = ap (key (number (take 4 (drop at page)))) (getD-drop at page 4 0) in
       ap (λ (j : ℕ). keysFrom g j (drop at page)) s
-      ∙ ap₂ (λ (a : ℕ) (l : List ℕ). a ∷ keysFrom g (m - (i + 1)) l) q (drop-drop (entrySize g) at page)
+      ∙ ap (λ (l : List ℕ). y ∷ keysFrom g (m - (i + 1)) l) (drop-drop (entrySize g) at page)
 
   pub key-found : r ≡ true → mem k (keysFrom g (m - i) (drop at page)) ≡ true
   key-found t =
@@ -109,7 +100,6 @@ unfolding entrySize
 entry-least g v = omega (arith, v .one)
 
 -- an entry among the first m lies in the page
-pub at-entry : (g : Geometry) (from m i at size : ℕ) → Valid g → from + entrySize g * m ≤ size → i < m → at ≡ from + entrySize g * i → (at + entrySize g ≤ size) × (7 ≤ entrySize g)
-at-entry g from m i at size v h l e =
-    let j : entrySize g * suc i ≤ entrySize g * m = mul-le-mul-left (entrySize g) l in
-    (omega arith, entry-least g v)
+pub at-entry : (g : Geometry) (from m i at size : ℕ) → Valid g → from + entrySize g * m ≤ size → i < m → at ≡ from + entrySize g * i → (at + entrySize g ≤ size) × (at + (5 + 2 * g .width) ≤ size)
+unfolding entrySize
+at-entry g from m i at size v h l e = let j : entrySize g * suc i ≤ entrySize g * m = mul-le-mul-left (entrySize g) l in let k : at + entrySize g ≤ size = omega arith in (k, k)

@@ -16,10 +16,14 @@ use Rattle.chain.specs.KnownChain.{ChainStands}
 use Rattle.chain.specs.Steps.{after}
 use Rattle.entries.specs.declared.Seat.{Seat}
 
+-- the key of the entry in front of bytes
+abbrev pub entryKey : List ℕ → ℕ
+entryKey b = key (number (take 4 b)) (getD b 4 0)
+
 -- the keys of the first m entries in bytes
 abbrev pub keysFrom : Geometry → ℕ → List ℕ → List ℕ
 keysFrom g zero b = []
-keysFrom g (suc m) b = key (number (take 4 b)) (getD b 4 0) ∷ keysFrom g m (drop (entrySize g) b)
+keysFrom g (suc m) b = entryKey b ∷ keysFrom g m (drop (entrySize g) b)
 
 -- the keys of a directory's entries in chain order, the control field skipped
 abbrev pub chainKeys : Geometry → ℕ → List Link → List ℕ

@@ -6,17 +6,17 @@ use rules::Entry;
 ghost use mathlib.Core.Path.{_≡_};
 ghost use Prim.Native.Nat.{_+_, _*_, _≤_, _<_, min};
 ghost use lib.Dec.{eqb};
-ghost use lib.ListN.{length, getD, take, drop};
+ghost use lib.ListN.{length, drop};
 ghost use Rattle.geometry.specs.Geometry.{entrySize, controlSize, Fit, Valid};
-ghost use Rattle.geometry.specs.Number.{number};
 ghost use Rattle.geometry.specs.Page.{pageOf};
 ghost use Rattle.packet.specs.Packet.{viewOf};
 ghost use Rattle.rules.specs.PageSets.{mem};
 ghost use Rattle.rules.specs.Names.{key, entryOf};
+ghost use Rattle.directory.specs.EntryPlaces.{HasEntry};
 ghost use Rattle.chain.specs.Claims.{Counted, IsGood};
 ghost use Rattle.chain.specs.KnownChain.{KnownChain};
 ghost use Rattle.chain.specs.Steps.{firstStep};
-ghost use Rattle.entries.specs.Seats.{keysFrom, Fits, openOf, advanced, HasEntries, CountsEntries, Repeats};
+ghost use Rattle.entries.specs.Seats.{entryKey, keysFrom, Fits, openOf, advanced, HasEntries, CountsEntries, Repeats};
 
 // A place in a directory: a page, the bytes before its entries, how many it has and the next of them; the position of the page after it.
 pub struct Seat {
@@ -97,20 +97,17 @@ impl Seat {
         ensures { λ r. ⌜ (r ≡ entryOf (g .width) (drop (1 + self .skip + entrySize g * self .at) (pageOf g (self .page) (now (image .entry))))) × (r .start < 65536) × (r .pages < 65536) ⌝ }
     {
         let at = 1 + self.skip + g.entry_size() * self.at;
-        directory::entries::entry_at(geometry::page_of(image, g, self.page), at, g.width)
+        directory::entries::read_entry(geometry::page_of(image, g, self.page), at, g.width)
     }
 }
 
-// Whether the entry at a place of a page has this key; its extension is read only where its name is the right one.
-fn has_key(page: &[u8], at: usize, wanted: u64) -> bool
-    requires { ⌜ (at + 5 ≤ length (now page)) × (length (now page) ≤ 256) ⌝ }
-    ensures { λ r. ⌜ r ≡ eqb (key (number (take 4 (drop at (now (page .entry))))) (getD (now (page .entry)) (at + 4) 0)) wanted ⌝ }
+// Whether the entry at a place of a page has this key.
+fn has_key(page: &[u8], at: usize, n: usize, wanted: u64) -> bool
+    requires { ⌜ HasEntry n (now page) at ⌝ }
+    ensures { λ r. ⌜ r ≡ eqb (entryKey (drop at (now (page .entry)))) wanted ⌝ }
 {
-    let name = geometry::number_at(page, at, 4) as u32;
-    if (name as u64) != wanted / 128 {
-        return false;
-    }
-    key_of(name, page[at + 4]) == wanted
+    let e = directory::entries::read_entry(page, at, n);
+    key_of(e.name, e.extension) == wanted
 }
 
 // Whether one of the first m entries that stand from a place of a page on has this key.
@@ -122,7 +119,7 @@ fn page_has(page: &[u8], from: usize, m: usize, key: u64, g: Geometry) -> bool
     let mut at = from;
     let mut i = 0;
     while i < m {
-        if has_key(page, at, key) {
+        if has_key(page, at, g.width, key) {
             return true;
         }
         at += g.entry_size();

@@ -165,7 +165,15 @@ fn read_number(bytes: &[u8]) -> usize
     value
 }
 
-// The number of n bytes from a place of a slice on; one and two bytes, as a page number has, without a loop.
+// The number of two bytes from a place of a slice on.
+fn pair_at(bytes: &[u8], at: usize) -> usize
+    requires { ⌜ at + 2 ≤ length (now bytes) ⌝ }
+    ensures { λ r. ⌜ (r ≡ number (take 2 (drop at (now (bytes .entry))))) × (r < 65536) ⌝ }
+{
+    wide(bytes[at]) + 256 * wide(bytes[at + 1])
+}
+
+// The number of n bytes from a place of a slice on; one, two and four bytes, as page numbers and names have, without a loop.
 pub fn number_at(bytes: &[u8], at: usize, n: usize) -> usize
     requires { ⌜ (n ≤ 4) × (at + n ≤ length (now bytes)) ⌝ }
     ensures { λ r. ⌜ (r ≡ number (take n (drop at (now (bytes .entry))))) × (r < 256 ^ n) ⌝ }
@@ -174,7 +182,10 @@ pub fn number_at(bytes: &[u8], at: usize, n: usize) -> usize
         return wide(bytes[at]);
     }
     if n == 2 {
-        return wide(bytes[at]) + 256 * wide(bytes[at + 1]);
+        return pair_at(bytes, at);
+    }
+    if n == 4 {
+        return pair_at(bytes, at) + 65536 * pair_at(bytes, at + 2);
     }
     let end = at + n;
     read_number(&bytes[at..end])

@@ -6,6 +6,7 @@ use lib.ListN.{length, getD, drop}
 use Rattle.geometry.specs.declared.Geometry.{Geometry}
 use Rattle.geometry.specs.declared.Shape.the-variants.{Fits}
 use Rattle.geometry.specs.Geometry.{geometryOf}
+use Rattle.geometry.specs.NumberLaws.{bytes-from}
 use Rattle.packet.specs.Packet.{viewOf}
 use Rattle.rules.specs.Result.{Res, err}
 use Rattle.rules.specs.ResultLaws.{then-err}
@@ -13,7 +14,6 @@ use Rattle.rules.specs.Check.{check}
 use Rattle.rules.specs.Put.{put}
 use Rattle.rules.specs.Calls.{putCall}
 use Rattle.rules.specs.CallLaws.{put-refused}
-use Rattle.reading.specs.CheckCall.{bytes-known}
 use Rattle.editing.specs.CallEdits.{put-call}
 use Rattle.editing.specs.Demand3.{demand-3}
 use Rattle.volume.specs.declared.Edited.{Edited}
@@ -36,9 +36,9 @@ module _ (P N : ℕ) (image table path bytes : List ℕ) where
   put-is h hp hb r after t e =
       let q : editTold r ≡ putCall P N image table path bytes .0 = ap (λ (x : Res (Unit {0}) × List ℕ × List ℕ). x .0) e in
       let a : after ≡ putCall P N image table path bytes .1 = ap (λ (x : Res (Unit {0}) × List ℕ × List ℕ). x .1) e in
-      let i = bytes-known image h in
-      let p = bytes-known path hp in
-      let b = bytes-known bytes hb in
+      let i = bytes-from image h in
+      let p = bytes-from path hp in
+      let b = bytes-from bytes hb in
       record {
         done = λ g f k. rw a (put-call P N image table g f i path bytes p b (sym q ∙ k));
         refused = λ n p k. a ∙ put-refused P N image table path bytes n p (sym q ∙ k);

@@ -7,6 +7,7 @@ use lib.ListN.{getD}
 use borrow.Author.Tests.{ne-eqb}
 use Rattle.geometry.specs.declared.Geometry.{Geometry}
 use Rattle.geometry.specs.Geometry.{Fit}
+use Rattle.geometry.specs.NumberLaws.{bytes-from}
 use Rattle.packet.specs.Packet.{View, viewOf}
 use Rattle.rules.specs.declared.Entry.{Entry}
 use Rattle.rules.specs.Result.{ok, err}
@@ -18,7 +19,6 @@ use Rattle.rules.specs.Control.{theRoot}
 use Rattle.rules.specs.Paths.{Path, pathOf, fileKey, aFile, find, atRoot, Place, directoryAt}
 use Rattle.rules.specs.Put.{writable, put}
 use Rattle.reading.specs.Accepted.{accepted-iff}
-use Rattle.reading.specs.CheckCall.{bytes-known}
 use Rattle.editing.specs.PutLaws.{Asked}
 use Rattle.entries.specs.declared.Seat.{Seat}
 use Rattle.lookup.specs.declared.Target.{Target}
@@ -45,8 +45,8 @@ module _ (g : Geometry) (image table path bytes : List ℕ) (fit : Fit g image) 
     tree = tree;
     well = accepted-iff g image fit (T .bytes) tree .0 accepted;
     imageBytes = T .bytes;
-    pathBytes = bytes-known path pathFits;
-    areBytes = bytes-known bytes bytesFit;
+    pathBytes = bytes-from path pathFits;
+    areBytes = bytes-from bytes bytesFit;
     to = q;
     formed = f;
     place = d;

@@ -6,6 +6,7 @@ use lib.ListN.{length, getD, drop}
 use Rattle.geometry.specs.declared.Geometry.{Geometry}
 use Rattle.geometry.specs.declared.Shape.the-variants.{Fits}
 use Rattle.geometry.specs.Geometry.{geometryOf}
+use Rattle.geometry.specs.NumberLaws.{bytes-from}
 use Rattle.packet.specs.Packet.{viewOf}
 use Rattle.rules.specs.declared.Totals.{Totals}
 use Rattle.rules.specs.declared.Line.{Line}
@@ -14,7 +15,7 @@ use Rattle.rules.specs.ResultLaws.{clash}
 use Rattle.rules.specs.Tree.{Image}
 use Rattle.rules.specs.Listing.{linesOf, lineAt}
 use Rattle.rules.specs.Calls.{readBytes, lengthOf, filled, asked, listCall, readCall}
-use Rattle.reading.specs.CheckCall.{asked-formed, asked-answered, bytes-known}
+use Rattle.reading.specs.CheckCall.{asked-formed, asked-answered}
 use Rattle.listing.specs.Standing.{Accepted}
 use Rattle.walk.specs.declared.Walk.{Walk}
 use Rattle.walk.specs.declared.Walk.the-variants as w
@@ -68,12 +69,12 @@ module _ (P N : ℕ) (image table : List ℕ) (h : (i : ℕ) → getD image i 0 
   lists-tree k r u e =
       let q = ap (λ (x : Res Line × List ℕ). x .0) e in
       let f : Image → Res Line = λ i. lineAt k (linesOf 0 (i .tree)) in
-      record { lists = λ x. q ∙ asked-formed P N image table (bytes-known image h) f x; formed = λ x y. asked-answered P N image table (bytes-known image h) f x (sym q ∙ y) }
+      record { lists = λ x. q ∙ asked-formed P N image table (bytes-from image h) f x; formed = λ x y. asked-answered P N image table (bytes-from image h) f x (sym q ∙ y) }
 
   pub reads-tree : (path out : List ℕ) (r : Length) (after u : List ℕ) → (lengthTold r, after, u) ≡ readCall P N image table path out → ReadsTree P N image table path out r after
   unfolding readCall
   reads-tree path out r after u e =
-      let b = bytes-known image h in
+      let b = bytes-from image h in
       let q : Gives out (asked P N image table (readBytes path out) .0) r after = ap (λ (x : Res ℕ × List ℕ × List ℕ). (x .0, x .1)) e in
       record {
         reads = λ x. q ∙ ap (λ (y : Res (List ℕ)). (lengthOf y, filled out y)) (asked-formed P N image table b (readBytes path out) x);

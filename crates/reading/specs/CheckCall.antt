@@ -1,9 +1,9 @@
 -- The calls: check answers 0 exactly when the image is well formed in its geometry; list and read are answered from its tree.
 use mathlib.Core.Path.{_≡_, refl, ap, sym, _∙_}
 use mathlib.Core.Logic.{_↔_}
-use mathlib.Core.List.{List, [], _∷_}
-use Prim.Native.Nat.{ℕ, suc, _<_}
-use lib.ListN.{length, getD}
+use mathlib.Core.List.{List}
+use Prim.Native.Nat.{ℕ}
+use lib.ListN.{length}
 use Rattle.geometry.specs.declared.Shape.{Shape}
 use Rattle.geometry.specs.declared.Shape.the-variants.{Fits, Wrong}
 use Rattle.geometry.specs.Geometry.{geometryOf}
@@ -40,8 +40,3 @@ module _ (P N : ℕ) (image table : List ℕ) (bytes : Bytes image) where
   pub check-accepts : ((t : Totals) × (checkCall P N image table .0 ≡ ok t)) ↔ WellFormedAt P N image table
   unfolding checkCall
   check-accepts = (λ x. asked-answered (λ i. ok (totals i)) (x .0) (x .1), λ w. (totals (w .reading), asked-formed (λ i. ok (totals i)) w))
-
--- bytes, from what is known of a lent slice
-pub bytes-known : (xs : List ℕ) → ((i : ℕ) → getD xs i 0 < 256) → Bytes xs
-bytes-known [] h = tt
-bytes-known (x ∷ xs) h = (h 0, bytes-known xs (λ i. h (suc i)))

@@ -9,6 +9,7 @@ use Rattle.geometry.specs.declared.Shape.the-variants.{Fits}
 use Rattle.geometry.specs.Geometry.{geometryOf, Fit}
 use Rattle.geometry.specs.Page.{pageOf}
 use Rattle.geometry.specs.PageLaws.{page-length}
+use Rattle.geometry.specs.NumberLaws.{bytes-from}
 use Rattle.packet.specs.Packet.{View, viewOf}
 use Rattle.rules.specs.declared.Totals.{Totals}
 use Rattle.rules.specs.Result.{Res, ok, err, andThen}
@@ -18,7 +19,7 @@ use Rattle.rules.specs.Owners.{owners, totals, tableAfter}
 use Rattle.rules.specs.Check.{Scan, judgeBits, scan, check}
 use Rattle.rules.specs.Calls.{asked, checkCall}
 use Rattle.rules.specs.CallLaws.{asked-fits}
-use Rattle.reading.specs.CheckCall.{check-accepts, bytes-known}
+use Rattle.reading.specs.CheckCall.{check-accepts}
 use Rattle.directory.specs.declared.control.Root.{Root}
 use Rattle.directory.specs.declared.control.Root.the-variants as root
 use Rattle.bitmap.specs.declared.Bits.{Bits}
@@ -100,6 +101,6 @@ checked P N image table g e (w.Refused n p) u k = sym (asked-refused P N image t
 -- what a call that answers so accepts
 pub accepts : (P N : ℕ) (image table : List ℕ) → ((i : ℕ) → getD image i 0 < 256) → (r : Walk) (u : List ℕ) → (told r, u) ≡ checkCall P N image table → Accepts P N image table r
 accepts P N image table h r u e =
-    let k = check-accepts P N image table (bytes-known image h) in
+    let k = check-accepts P N image table (bytes-from image h) in
     let q : told r ≡ checkCall P N image table .0 = ap (λ (x : Res Totals × List ℕ). x .0) e in
     (λ x. k .0 (x .0, sym q ∙ x .1), λ w. let y = k .1 w in (y .0, q ∙ y .1))

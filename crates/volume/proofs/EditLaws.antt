@@ -7,6 +7,7 @@ use Rattle.geometry.specs.declared.Geometry.{Geometry}
 use Rattle.geometry.specs.declared.Shape.{Shape}
 use Rattle.geometry.specs.declared.Shape.the-variants.{Fits}
 use Rattle.geometry.specs.Geometry.{geometryOf, Fit}
+use Rattle.geometry.specs.NumberLaws.{bytes-from}
 use Rattle.packet.specs.Packet.{View, viewOf}
 use Rattle.rules.specs.declared.Totals.{Totals}
 use Rattle.rules.specs.Result.{Res, ok, err}
@@ -14,7 +15,6 @@ use Rattle.rules.specs.Tree.{Image}
 use Rattle.rules.specs.Check.{check}
 use Rattle.rules.specs.Owners.{tableAfter}
 use Rattle.rules.specs.Calls.{inGeometry, done, changed}
-use Rattle.reading.specs.CheckCall.{bytes-known}
 use Rattle.walk.specs.declared.Walk.{Walk}
 use Rattle.walk.specs.declared.Walk.the-variants as w
 use Rattle.volume.specs.declared.Edited.{Edited}
@@ -37,7 +37,7 @@ module _ (g : Geometry) (image : List ℕ) (r : Walk) (u : List ℕ) (K : TableC
   fault-leaves rule h n p e = record { answers = sym (ap (leaves image) (h n p (subst (λ (x : Walk). TableChecked g (viewOf g image) x u) e K .0))); check = r; checked = K }
 
   pub table-of : (h : (i : ℕ) → getD image i 0 < 256) (t : Totals) → r ≡ w.Done t → TableOf g image u
-  table-of h t e = let k = subst (λ (x : Walk). TableChecked g (viewOf g image) x u) e K in record { bytes = bytes-known image h; tree = k .0; accepted = k .1; table-is = k .3 }
+  table-of h t e = let k = subst (λ (x : Walk). TableChecked g (viewOf g image) x u) e K in record { bytes = bytes-from image h; tree = k .0; accepted = k .1; table-is = k .3 }
 
 module _ (P N : ℕ) (image table : List ℕ) where
   done-leaves : (g : Geometry) (x : Res (List ℕ)) → (leaves image x .0, leaves image x .1, tableAfter (g .pages) (check g (viewOf g (leaves image x .1))) table) ≡ done P N image table g x

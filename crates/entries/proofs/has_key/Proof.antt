@@ -1,15 +1,16 @@
-use Rattle.entries.proofs.KeyLaws.{other-name, same-name}
+use mathlib.Core.Path.{ap, _∙_}
+use Prim.Native.Nat.{ℕ}
+use lib.Dec.{eqb}
+use Rattle.rules.specs.declared.Entry.{Entry}
+use Rattle.rules.specs.Names.{key}
 use borrow.Author.Needs.{needs}
 use Rattle.entries.proofs.has_key.Statement.{statement}
 use Rattle.entries.proofs.has_key.Tie as tie
 
 returns : tie.Need-returns
-returns c = let a = c .before .before .before .args in other-name (a .at) _ _ (a .page .now) (c .before .number-at .ensures .0) (c .if1 .taken)
-
-returns-2 : tie.Need-returns-2
-returns-2 c = let a = c .before .before .before .before .before .args in same-name (a .at) _ _ (a .page .now) (c .before .before .before .number-at .ensures .0) _ (c .key-of .ensures)
+returns c =
+    let k = c .key-of .ensures ∙ ap (λ (e : Entry). key (e .name) (e .extension)) (c .before .read-entry .ensures .0) in
+    ap (λ (y : ℕ). eqb y (c .before .before .before .args .wanted)) k
 
 pub has-key-spec : {M : Type 1} → statement M
-has-key-spec =
-    tie.close
-    (tie.spec (λ c κs. search needs) (λ c. search needs) (λ c. search needs) returns (λ c. search needs) (λ c. search needs) (λ c κs. search needs) returns-2)
+has-key-spec = tie.close (tie.spec (λ c κs. search needs) (λ c κs. search needs) returns)

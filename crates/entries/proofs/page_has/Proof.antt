@@ -23,7 +23,7 @@ has-key-requires : tie.Need-has-key-requires Inv-loop μ-loop
 has-key-requires c κs =
     let s = c .before .before .before .pre in
     let k = at-entry _ _ _ _ _ _ (s .0) (s .1 .0) (c .loop-test .taken) (c .before .loop .inv .1) in
-    (omega arith, omega arith)
+    (s .0 .one, s .0 .two, k .1)
 
 returns : tie.Need-returns Inv-loop μ-loop
 returns c =

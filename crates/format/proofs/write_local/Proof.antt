@@ -1,4 +1,4 @@
-use Rattle.reading.specs.CheckCall.{bytes-known}
+use Rattle.geometry.specs.NumberLaws.{bytes-from}
 use Rattle.format.proofs.Emptying.{local-emptied}
 use borrow.Author.Needs.{needs}
 use Rattle.format.proofs.write_local.Statement.{statement}
@@ -7,7 +7,7 @@ use Rattle.format.proofs.write_local.Tie as tie
 returns : tie.Need-returns
 returns c =
     let s = c .before .before .before .before .before .before in
-    local-emptied (s .args .g) (s .args .image .now) _ (s .pre) (bytes-known (s .args .image .now) (λ i. c .before .before .before .before .before .slice-known .given i .fits)) (c .before .before .write-root .ensures)
+    local-emptied (s .args .g) (s .args .image .now) _ (s .pre) (bytes-from (s .args .image .now) (λ i. c .before .before .before .before .before .slice-known .given i .fits)) (c .before .before .write-root .ensures)
 
 pub write-local-spec : {M : Type 1} → statement M
 write-local-spec =

@@ -1,6 +1,6 @@
+use Rattle.geometry.specs.NumberLaws.{bytes-from}
 use mathlib.Core.Path.{sym, _∙_}
 use native.Mathlib.Omega.{arith}
-use Rattle.reading.specs.CheckCall.{bytes-known}
 use Rattle.answers.proofs.Telling.{front}
 use Rattle.answers.proofs.TreeLaws.{accepts-tree}
 use borrow.Author.Needs.{needs}
@@ -16,7 +16,7 @@ check-over-requires c κs = front (c .before .before .count .result) 65535 0 (om
 returns : tie.Need-returns
 returns c =
     let a = c .before .before .before .before .before .before .before .before .before .args in
-    (c .before .before .before .check-over .ensures, accepts-tree (a .size) (a .pages) (a .image .now) (a .owners .now) (bytes-known (a .image .now) (λ i. c .before .before .before .before .before .before .before .before .shared-slice-known .given i .fits)) (c .before .before .before .check-over .result) _ (c .before .before .before .check-over .ensures))
+    (c .before .before .before .check-over .ensures, accepts-tree (a .size) (a .pages) (a .image .now) (a .owners .now) (bytes-from (a .image .now) (λ i. c .before .before .before .before .before .before .before .before .shared-slice-known .given i .fits)) (c .before .before .before .check-over .result) _ (c .before .before .before .check-over .ensures))
 
 pub owfs-check-spec : {M : Type 1} → statement M
 owfs-check-spec =

@@ -1,6 +1,6 @@
+use Rattle.geometry.specs.NumberLaws.{bytes-from}
 use mathlib.Core.Path.{sym, _∙_}
 use native.Mathlib.Omega.{arith}
-use Rattle.reading.specs.CheckCall.{bytes-known}
 use Rattle.answers.proofs.Telling.{front}
 use Rattle.answers.proofs.TreeLaws.{deletes}
 use borrow.Author.Needs.{needs}
@@ -16,7 +16,7 @@ delete-over-requires c κs = front (c .before .before .before .count .result) 65
 returns : tie.Need-returns
 returns c =
     let a = c .before .before .before .before .before .before .before .before .before .before .before .before .before .args in
-    (c .before .before .before .before .before .delete-over .ensures, deletes (a .size) (a .pages) (a .image .now) (a .owners .now) (bytes-known (a .image .now) (λ i. c .before .before .before .before .before .before .before .before .before .before .before .before .slice-known .given i .fits)) (a .path .now) (c .before .before .before .before .before .delete-over .result) (c .before .before .before .before .before .delete-over .last .1 .1 .0) _ (c .before .before .before .before .before .delete-over .ensures))
+    (c .before .before .before .before .before .delete-over .ensures, deletes (a .size) (a .pages) (a .image .now) (a .owners .now) (bytes-from (a .image .now) (λ i. c .before .before .before .before .before .before .before .before .before .before .before .before .slice-known .given i .fits)) (a .path .now) (c .before .before .before .before .before .delete-over .result) (c .before .before .before .before .before .delete-over .last .1 .1 .0) _ (c .before .before .before .before .before .delete-over .ensures))
 
 pub owfs-delete-spec : {M : Type 1} → statement M
 owfs-delete-spec =

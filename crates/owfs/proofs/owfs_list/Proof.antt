@@ -1,6 +1,6 @@
+use Rattle.geometry.specs.NumberLaws.{bytes-from}
 use mathlib.Core.Path.{sym, _∙_}
 use native.Mathlib.Omega.{arith}
-use Rattle.reading.specs.CheckCall.{bytes-known}
 use Rattle.answers.proofs.Telling.{front}
 use Rattle.answers.proofs.TreeLaws.{lists-tree}
 use borrow.Author.Needs.{needs}
@@ -16,7 +16,7 @@ list-over-requires c κs = front (c .before .before .count .result) 65535 0 (ome
 returns : tie.Need-returns
 returns c =
     let a = c .before .before .before .before .before .before .before .before .before .args in
-    (c .before .before .before .list-over .ensures, lists-tree (a .size) (a .pages) (a .image .now) (a .owners .now) (bytes-known (a .image .now) (λ i. c .before .before .before .before .before .before .before .before .shared-slice-known .given i .fits)) (a .position) (c .before .before .before .list-over .result) _ (c .before .before .before .list-over .ensures))
+    (c .before .before .before .list-over .ensures, lists-tree (a .size) (a .pages) (a .image .now) (a .owners .now) (bytes-from (a .image .now) (λ i. c .before .before .before .before .before .before .before .before .shared-slice-known .given i .fits)) (a .position) (c .before .before .before .list-over .result) _ (c .before .before .before .list-over .ensures))
 
 pub owfs-list-spec : {M : Type 1} → statement M
 owfs-list-spec =

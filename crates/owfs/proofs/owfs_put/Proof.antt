@@ -1,6 +1,6 @@
+use Rattle.geometry.specs.NumberLaws.{bytes-from}
 use mathlib.Core.Path.{sym, _∙_}
 use native.Mathlib.Omega.{arith}
-use Rattle.reading.specs.CheckCall.{bytes-known}
 use Rattle.answers.proofs.Telling.{front}
 use Rattle.answers.proofs.TreeLaws.{puts}
 use borrow.Author.Needs.{needs}
@@ -16,7 +16,7 @@ put-over-requires c κs = front (c .before .before .before .count .result) 65535
 returns : tie.Need-returns
 returns c =
     let a = c .before .before .before .before .before .before .before .before .before .before .before .before .before .before .args in
-    (c .before .before .before .before .before .put-over .ensures, puts (a .size) (a .pages) (a .image .now) (a .owners .now) (bytes-known (a .image .now) (λ i. c .before .before .before .before .before .before .before .before .before .before .before .before .before .slice-known .given i .fits)) (a .path .now) (a .bytes .now) (bytes-known (a .path .now) (λ i. c .before .before .before .before .before .before .before .before .before .before .before .before .shared-slice-known .given i .fits)) (bytes-known (a .bytes .now) (λ i. c .before .before .before .before .before .before .before .before .before .before .before .shared-slice-known2 .given i .fits)) (c .before .before .before .before .before .put-over .result) (c .before .before .before .before .before .put-over .last .1 .1 .0) _ (c .before .before .before .before .before .put-over .ensures))
+    (c .before .before .before .before .before .put-over .ensures, puts (a .size) (a .pages) (a .image .now) (a .owners .now) (bytes-from (a .image .now) (λ i. c .before .before .before .before .before .before .before .before .before .before .before .before .before .slice-known .given i .fits)) (a .path .now) (a .bytes .now) (bytes-from (a .path .now) (λ i. c .before .before .before .before .before .before .before .before .before .before .before .before .shared-slice-known .given i .fits)) (bytes-from (a .bytes .now) (λ i. c .before .before .before .before .before .before .before .before .before .before .before .shared-slice-known2 .given i .fits)) (c .before .before .before .before .before .put-over .result) (c .before .before .before .before .before .put-over .last .1 .1 .0) _ (c .before .before .before .before .before .put-over .ensures))
 
 pub owfs-put-spec : {M : Type 1} → statement M
 owfs-put-spec =

@@ -1,6 +1,6 @@
+use Rattle.geometry.specs.NumberLaws.{bytes-from}
 use mathlib.Core.Path.{sym, _∙_}
 use native.Mathlib.Omega.{arith}
-use Rattle.reading.specs.CheckCall.{bytes-known}
 use Rattle.answers.proofs.Telling.{front}
 use Rattle.answers.proofs.TreeLaws.{reads-tree}
 use borrow.Author.Needs.{needs}
@@ -16,7 +16,7 @@ read-over-requires c κs = front (c .before .before .before .count .result) 6553
 returns : tie.Need-returns
 returns c =
     let a = c .before .before .before .before .before .before .before .before .before .before .before .before .before .before .args in
-    (c .before .before .before .before .before .read-over .ensures, reads-tree (a .size) (a .pages) (a .image .now) (a .owners .now) (bytes-known (a .image .now) (λ i. c .before .before .before .before .before .before .before .before .before .before .before .before .before .shared-slice-known .given i .fits)) (a .path .now) (a .out .now) (c .before .before .before .before .before .read-over .result) _ _ (c .before .before .before .before .before .read-over .ensures))
+    (c .before .before .before .before .before .read-over .ensures, reads-tree (a .size) (a .pages) (a .image .now) (a .owners .now) (bytes-from (a .image .now) (λ i. c .before .before .before .before .before .before .before .before .before .before .before .before .before .shared-slice-known .given i .fits)) (a .path .now) (a .out .now) (c .before .before .before .before .before .read-over .result) _ _ (c .before .before .before .before .before .read-over .ensures))
 
 pub owfs-read-spec : {M : Type 1} → statement M
 owfs-read-spec =

@@ -18,16 +18,16 @@ add-at-2 c =
     let k = s .0 .valid .most in
     search needs
 
-entry-at-requires : tie.Need-entry-at-requires
-entry-at-requires c κs =
+read-entry-requires : tie.Need-read-entry-requires
+read-entry-requires c κs =
     let s = c .before .before .before .before .before .pre in
     (s .0 .valid .one, s .0 .valid .two, entry-reads _ _ _ _ _ (c .before .before .entry-size .ensures .0) (c .page-of .ensures) (s .0) (s .1 .0) (s .1 .1))
 
 returns : tie.Need-returns
 returns c =
-    (c .entry-at .ensures .0 ∙ entry-from _ (c .before .before .before .before .before .before .args .self) _ _ _ (c .before .before .before .entry-size .ensures .0) (c .before .page-of .ensures), c .entry-at .ensures .1, c .entry-at .ensures .2)
+    (c .read-entry .ensures .0 ∙ entry-from _ (c .before .before .before .before .before .before .args .self) _ _ _ (c .before .before .before .entry-size .ensures .0) (c .before .page-of .ensures), c .read-entry .ensures .1, c .read-entry .ensures .2)
 
 pub entry-spec : {M : Type 1} → statement M
 entry-spec =
     tie.close
-    (tie.spec (λ c. search needs) (λ c κs. search needs) mul-at add-at-2 (λ c κs. search needs) entry-at-requires returns)
+    (tie.spec (λ c. search needs) (λ c κs. search needs) mul-at add-at-2 (λ c κs. search needs) read-entry-requires returns)
