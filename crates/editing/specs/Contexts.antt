@@ -187,17 +187,3 @@ locate (x ∷ xs) site here t place e = go (find (directoryKey x) t) refl (λ d.
           site-is = r .site-is ∙ ap₂ (λ (a : ℕ) (b : Items). siteAt (below here) (record { name = a; start = startOf b }) (r .contexts) (place .items)) n (sym (r .whole));
           change = λ f. c .change (changeAt xs f) ∙ ap (filled (c .context)) (r .change f);
         }
-
--- the pages after a change of the directory that the names lead to
-pub change-pages : (names : List ℕ) (site : Site) (here : Above) (t : Items) (place : Place) → directoryAt names site here t ≡ ok place → (f : Items → Items) (x : ℕ)
-    → count x (allPages (changeAt names f t)) + count x (allPages (place .items)) ≡ count x (allPages t) + count x (allPages (f (place .items)))
-change-pages names site here t place e f x =
-    let l = locate names site here t place e in
-    let d = place .items in
-    omega (
-      arith,
-      ap (λ (u : Items). count x (allPages u)) (l .change f),
-      all-filled-all x (l .contexts) (f d),
-      ap (λ (u : Items). count x (allPages u)) (l .whole),
-      all-filled-all x (l .contexts) d,
-    )

@@ -4,20 +4,18 @@ use mathlib.Core.List.{List, [], _∷_, _++_}
 use Prim.Native.Nat.{ℕ, _+_, _≤_}
 use native.Mathlib.Omega.{arith}
 use Rattle.geometry.specs.declared.Geometry.{Geometry}
-use Rattle.geometry.specs.Geometry.{Fit, Valid}
-use Rattle.packet.specs.Packet.{View, viewOf, Write, write, play}
+use Rattle.geometry.specs.Geometry.{Fit}
+use Rattle.packet.specs.Packet.{View, viewOf, Write, write}
 use Rattle.rules.specs.PageSets.{count, Once, Within}
-use Rattle.rules.specs.PageSetLaws.{hit-same, count-append, range-of}
+use Rattle.rules.specs.PageSetLaws.{hit-same, count-append}
 use Rattle.rules.specs.Chain.{Link, link, pages, linked}
 use Rattle.rules.specs.Tree.{Items, end, page, file, dir, startOf, directoryLinks, ownPages, innerPages, keys, Map, inRoot, inFile, mapPages, Image, used}
-use Rattle.rules.specs.Control.{rootControl, subControl, Above, theRoot}
+use Rattle.rules.specs.Control.{subControl, Above}
 use Rattle.rules.specs.Bitmap.{mapSize, bitmapOf}
 use Rattle.rules.specs.BitmapLaws.{length-bitmap, bytes-bitmap}
 use Rattle.rules.specs.WellFormed.{Stand, packetsBelow, mapPackets, packets, IsDirectory, Entries, MapHolds, WellFormed}
-use Rattle.reading.specs.PacketLaws.{ByteView}
 use Rattle.reading.specs.Directory.{own-links}
-use Rattle.editing.specs.Capacity.{capacity-is}
-use Rattle.editing.specs.Plays.{writePages, WritesFit, play-fit}
+use Rattle.editing.specs.Plays.{writePages, WritesFit}
 
 -- ---- the pages of packets
 pub pages-linked : (ls : List Link) → writePages (linked ls) ≡ pages ls
@@ -55,37 +53,10 @@ pub count-map : (x : ℕ) (m : Map) → count x (writePages (mapPackets m)) ≡ 
 count-map x inRoot = refl
 count-map x (inFile ls) = ap (count x) (pages-linked ls)
 
--- the packets of an image take the pages in use
-pub count-packets : (g : Geometry) (x : ℕ) (bits : List ℕ) (i : Image) → count x (writePages (packets g bits i)) ≡ count x (used i)
-count-packets g x bits i =
-    let own = linked (directoryLinks g (rootControl (g .width) bits (i .map)) (i .tree)) in
-    let below = packetsBelow g theRoot (i .tree) in
-    simp count-append (omega (
-      arith,
-      count-joined x own (below ++ mapPackets (i .map)),
-      count-joined x below (mapPackets (i .map)),
-      count-directory g x (rootControl (g .width) bits (i .map)) (i .tree),
-      count-below g x theRoot (i .tree),
-      count-map x (i .map),
-    ))
-
 -- ---- packets stay where their pages do
 pub stand-same : (v w : View) (ws : List Write) → ((x : ℕ) → 1 ≤ count x (writePages ws) → w x ≡ v x) → Stand v ws → Stand w ws
 stand-same v w [] h s = tt
 stand-same v w (write p b n ∷ ws) h s = (h p (omega (arith, hit-same p)) ∙ s .0, stand-same v w ws (λ x k. h x (omega arith)) (s .1))
-
--- packets of a view whose pages are below N can be written
-pub stand-fits : (g : Geometry) → Valid g → (v : View) → ByteView g v → (ws : List Write) → Within (g .pages) (writePages ws) → Stand v ws → WritesFit g ws
-stand-fits g valid v bv [] h s = tt
-stand-fits g valid v bv (write p b n ∷ ws) h s = (
-  record {
-    below = range-of p (g .pages) (omega (arith, h p, hit-same p));
-    room = omega (arith, bv .room p b n (s .0), capacity-is g, valid .least, valid .two);
-    pointer = bv .pointer p b n (s .0);
-    bytes = bv .bytes p b n (s .0);
-  },
-  stand-fits g valid v bv ws (λ x. omega (arith, h x)) (s .1),
-)
 
 pub fits-join : (g : Geometry) (ws us : List Write) → WritesFit g ws → WritesFit g us → WritesFit g (ws ++ us)
 fits-join g [] us f h = h
@@ -108,9 +79,3 @@ image-stands g image i fit d z o w m f s = record {
     apart = f;
   };
 }
-
--- so is an image after writes that make every packet stand
-pub played-stands : (g : Geometry) (image : List ℕ) (ws : List Write) (i : Image) → Fit g image → WritesFit g ws → IsDirectory (i .tree) → startOf (i .tree) ≡ 0 → Once (keys (i .tree))
-    → Entries 8 (i .tree) → MapHolds g (bitmapOf g (used i) (i .map)) (i .map) → Within (g .pages) (used i)
-    → Stand (viewOf g (play g ws image)) (packets g (bitmapOf g (used i) (i .map)) i) → WellFormed g (play g ws image) i
-played-stands g image ws i fit f d z o w m k s = image-stands g (play g ws image) i (play-fit g ws f image fit) d z o w m k s

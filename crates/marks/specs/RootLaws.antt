@@ -5,14 +5,14 @@ use Prim.Native.Nat.{ℕ, _≤_}
 use native.Mathlib.Omega.{arith}
 use lib.ListN.{length}
 use Rattle.geometry.specs.declared.Geometry.{Geometry}
-use Rattle.packet.specs.Packet.{View, viewOf}
+use Rattle.packet.specs.Packet.{View}
 use Rattle.rules.specs.PageSets.{hit, count, Within}
 use Rattle.rules.specs.PageSetLaws.{hit-same, range-le, range-of, within-length}
 use Rattle.rules.specs.Chain.{pages}
 use Rattle.rules.specs.ChainLaws.{length-pages}
-use Rattle.rules.specs.Tree.{Items, end, page, file, dir, startOf, allPages, Map, inRoot, inFile, mapPages, Image, used}
-use Rattle.rules.specs.Bitmap.{mapSize, bitmapOf}
-use Rattle.rules.specs.WellFormed.{Stand, mapPackets, IsDirectory, MapHolds, WellFormedWith, WellFormed}
+use Rattle.rules.specs.Tree.{Items, end, page, file, dir, startOf, allPages, Map, inRoot, inFile, mapPages, Image}
+use Rattle.rules.specs.Bitmap.{mapSize}
+use Rattle.rules.specs.WellFormed.{Stand, mapPackets, IsDirectory, MapHolds, WellFormedWith}
 use Rattle.reading.specs.Directory.{rest-zero, map-stands, root-holds}
 use Rattle.marks.specs.MapPages.{MapStands, RootHeld}
 
@@ -53,6 +53,3 @@ module _ (g : Geometry) (v : View) (bits : List ℕ) where
         chain = w .chain;
         map = map-holds (i .map) (h .map) (h .room) (map-stands g v bits (i .map) (i .tree) h) (omega (arith, w .clear 0, range-le 0 (g .pages), z)) (λ x. omega (arith, w .clear x));
       }
-
-pub root-held : (g : Geometry) (image : List ℕ) (i : Image) → WellFormed g image i → RootHeld g (viewOf g image) (bitmapOf g (used i) (i .map)) (i .tree) (i .map)
-root-held g image i h = root-stands g (viewOf g image) (bitmapOf g (used i) (i .map)) i (h .holds)

@@ -143,8 +143,3 @@ pub free-length : (used : List ℕ) (N : ℕ) → Within N used → length (free
 free-length used N f =
     let h : (x : ℕ) → count x (freePages used N ++ used) ≡ count x (range N) = λ x. simp count-append (free-law x used N f) in
     omega (arith, pigeon (freePages used N ++ used) (range N) (λ x. omega (arith, h x)), pigeon (range N) (freePages used N ++ used) (λ x. omega (arith, h x)), length-range N, length-append (freePages used N) used)
-
--- what is free is below N and stands once, whatever list is said to be in use
-pub free-within : (used : List ℕ) (N : ℕ) → Within N (freePages used N)
-free-within used N x = elim (eq-zero-or-pos (count x used))
-    [ inl e ↦ omega (arith, free-all x used N e) | inr e ↦ omega (arith, free-none x used N e) ]

@@ -19,7 +19,7 @@ use Rattle.rules.specs.Names.{key}
 use Rattle.rules.specs.Tree.{Items, end, page, Token, newPage, entry, linkTokens, ownPages, innerPages, allPages}
 use Rattle.rules.specs.Control.{Above}
 use Rattle.rules.specs.Owners.{fileCount, directoryCount, own, ownEntries}
-use Rattle.rules.specs.OwnerLaws.{Represents, represents-own, represents-entries, represents-length, length-own, length-entries}
+use Rattle.rules.specs.OwnerLaws.{Represents, represents-own, represents-entries, represents-length, length-own}
 use Rattle.rules.specs.Check.{Part, chain, directory, partPages, add, Judge, judgeEntry, judgeEntries, judgeDirectory, judgeSub}
 use Rattle.rules.specs.Soundness.{PartClear, entriesOf, entries-sound, sub-sound, pages-tokens}
 use Rattle.walk.specs.declared.Walk.{Walk}
@@ -40,10 +40,6 @@ pub represents-part : (k : ℕ) (x : Part) (t claimed : List ℕ) → Represents
     → Represents (ownPart k t x) (partPages x ++ claimed)
 represents-part k (chain ls) t claimed h c = represents-own (3 + k) (pages ls) t claimed (omega arith) h c
 represents-part k (directory d) t claimed h c = represents-directory (3 + k) (suc k) d t claimed (omega arith) h c
-
-pub length-part : (k : ℕ) (x : Part) (t : List ℕ) → length (ownPart k t x) ≡ length t
-length-part k (chain ls) t = length-own (3 + k) (pages ls) t
-length-part k (directory d) t = length-entries (suc k) d (own (3 + k) (ownPages d) t) ∙ length-own (3 + k) (ownPages d) t
 
 used-part : (c : Totals) (x : Part) → plusPart c x .used ≡ length (partPages x) + c .used
 used-part c (chain ls) = omega (arith, length-pages ls)
