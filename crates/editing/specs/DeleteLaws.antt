@@ -156,12 +156,7 @@ module _ (g : Geometry) (path image : List ℕ) (bytes : Bytes image) (i : Image
       let t : targetPath q ≡ contextPath (located .contexts) = target-is q ∙ sym (located .path) in
       let n = find-removed k l ls d (shape-here .1 .names k) f in
       record {
-        before = i;
-        accepted = well;
-        to = q;
-        formed = p;
-        place = place;
-        there = there;
+        at = record { before = i; accepted = well; to = q; formed = p; place = place; there = there };
         tree = edited g (q .directories) (deleteEdit q place) i;
         tree-is = refl;
         done = unfold deleteEdit in edit-done g image i well bytes (q .directories) place located (remove k d) [] (innerPages (remove k d)) the-edit tt

@@ -48,7 +48,7 @@ module _ (P N : ℕ) (image table path bytes : List ℕ) (o : OnlyRoom P N image
   pub put-done : (after : List ℕ) → put g path bytes image ≡ ok after → Candidate g image (o .to) bytes after
   put-done after e =
       let p = put-gives g path bytes image after (fit-of P N image table g (o .right)) imageBytes pathBytes areBytes e in
-      subst (λ (q : Path). Candidate g image q bytes after) (ok-inj (sym (p .formed) ∙ o .formed)) (put-candidate g path bytes image after p)
+      subst (λ (q : Path). Candidate g image q bytes after) (ok-inj (sym (p .at .formed) ∙ o .formed)) (put-candidate g path bytes image after p)
 
   -- no candidate has fewer pages in use
   pub put-least : (after : List ℕ) → put g path bytes image ≡ ok after → (i : Image) → Accepted g after i
@@ -74,8 +74,8 @@ module _ (P N : ℕ) (image table path bytes : List ℕ) (o : OnlyRoom P N image
   put-keeps after e i h ks n x =
       let p = put-gives g path bytes image after (fit-of P N image table g (o .right)) imageBytes pathBytes areBytes e in
       let t : p .tree ≡ i = ok-inj (sym (accepted g after (p .tree) (p .done .wellFormed)) ∙ h) in
-      let b : p .before ≡ o .tree = ok-inj (sym (accepted g image (p .before) (p .accepted)) ∙ o .accepted) in
-      let q : p .to ≡ o .to = ok-inj (sym (p .formed) ∙ o .formed) in
+      let b : p .at .before ≡ o .tree = ok-inj (sym (accepted g image (p .at .before) (p .at .accepted)) ∙ o .accepted) in
+      let q : p .at .to ≡ o .to = ok-inj (sym (p .at .formed) ∙ o .formed) in
       subst (λ (j : Image). Exists (atPath ks j)) b
       (no-entry-more g path bytes image after p ks (λ f. n (f ∙ ap filePath q)) (subst (λ (j : Image). Exists (atPath ks j)) (sym t) x))
 

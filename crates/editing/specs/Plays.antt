@@ -1,7 +1,7 @@
 -- Page writes played over an image: its length, its view, its bytes, and every byte outside the packets written.
 use mathlib.Core.Path.{_≡_, refl, ap, sym, _∙_, fun-ext}
 use mathlib.Core.List.{List, [], _∷_, _++_}
-use Prim.Native.Nat.{ℕ, _+_, _-_, _^_, _≤_, _<_}
+use Prim.Native.Nat.{ℕ, _+_, _-_, _^_, _≤_, _<_, max}
 use native.Mathlib.Omega.{arith}
 use lib.Dec.{eqb}
 use lib.ListN.{length, drop}
@@ -19,7 +19,7 @@ use Rattle.packet.specs.RoundTrip.{packet-written, rest-stays}
 use Rattle.rules.specs.PageSets.{count, Once}
 use Rattle.rules.specs.PageSetLaws.{hit-same, same, other, hits}
 use Rattle.rules.specs.WellFormed.{Stand}
-use Rattle.rules.specs.Demand2.{larger, reach}
+use Rattle.rules.specs.Demand2.{reach}
 use Rattle.editing.specs.PageWrites.{page-bytes, same-page, length-with, page-with, page-other, bytes-with, length-written, bytes-written, same-written}
 
 -- the pages that are written
@@ -93,10 +93,11 @@ write-same g p b next image h e =
 drop-more : (j k : ℕ) (a b : List ℕ) → drop j a ≡ drop j b → drop (j + k) a ≡ drop (j + k) b
 drop-more j k a b e = sym (drop-drop k j a) ∙ ap (drop k) e ∙ drop-drop k j b
 
-drop-larger : (k r : ℕ) (a c d : List ℕ) → drop r a ≡ drop r c → drop k c ≡ drop k d → drop (larger k r) a ≡ drop (larger k r) d
+drop-larger : (k r : ℕ) (a c d : List ℕ) → drop r a ≡ drop r c → drop k c ≡ drop k d → drop (max k r) a ≡ drop (max k r) d
 drop-larger k r a c d u w =
-    let e : k + (r - k) ≡ r + (k - r) = omega arith in
-    ap (λ (m : ℕ). drop m a) e ∙ drop-more r (k - r) a c u ∙ ap (λ (m : ℕ). drop m c) (sym e) ∙ drop-more k (r - k) c d w
+    let e : max k r ≡ r + (k - r) = omega arith in
+    let f : max k r ≡ k + (r - k) = omega arith in
+    ap (λ (m : ℕ). drop m a) e ∙ drop-more r (k - r) a c u ∙ ap (λ (m : ℕ). drop m c) (sym e ∙ f) ∙ drop-more k (r - k) c d w ∙ ap (λ (m : ℕ). drop m d) (sym f)
 
 -- a view with packets written over it, the first one first
 unfoldable pub overlay : View → List Write → View

@@ -30,30 +30,30 @@ edited-map g names e i = same-remap _ (i .map)
 directory-reads : (f h : Found) (l m : Label) (d e : Rattle.rules.specs.Tree.Items) → f ≡ aDirectory l d → h ≡ aDirectory m e → reads f ≡ reads h
 directory-reads f h l m d e p q = ap reads p ∙ sym (ap reads q)
 
-pub put-candidate : (g : Geometry) (path bytes image now : List ℕ) (p : PutDone g path bytes image now) → Candidate g image (p .to) bytes now
+pub put-candidate : (g : Geometry) (path bytes image now : List ℕ) (p : PutDone g path bytes image now) → Candidate g image (p .at .to) bytes now
 put-candidate g path bytes image now p = record {
   areBytes = p .done .areBytes;
   sized = p .done .sized;
-  before = p .before;
-  was = accepted g image (p .before) (p .accepted);
+  before = p .at .before;
+  was = accepted g image (p .at .before) (p .at .accepted);
   after = p .tree;
   accepted = accepted g now (p .tree) (p .done .wellFormed);
-  label = fileLabel (p .to);
+  label = fileLabel (p .at .to);
   links = p .links;
   file = p .file;
   asked = p .reads;
-  kept = λ k ks n h. same-path (k ∷ ks) (targetPath (p .to)) (λ e. rw e (p .target-entry)) (λ m. ap (λ (s : Shown). s .entry) (p .others (k ∷ ks) n m));
+  kept = λ k ks n h. same-path (k ∷ ks) (targetPath (p .at .to)) (λ e. rw e (p .target-entry)) (λ m. ap (λ (s : Shown). s .entry) (p .others (k ∷ ks) n m));
   pages = λ ks n m h x. ap (λ (s : Shown). count x (s .pages)) (p .others ks n m);
   target = λ x h. omega (arith, p .target-pages x);
-  same = λ ks n h. same-path ks (targetPath (p .to))
-      (λ e. rw e (directory-reads (atPath (targetPath (p .to)) (p .tree)) (atPath (targetPath (p .to)) (p .before)) (p .target-label) (p .target-label) (p .edit .after) (p .place .items) (p .target-after) (p .target-before)))
+  same = λ ks n h. same-path ks (targetPath (p .at .to))
+      (λ e. rw e (directory-reads (atPath (targetPath (p .at .to)) (p .tree)) (atPath (targetPath (p .at .to)) (p .at .before)) (p .target-label) (p .target-label) (p .edit .after) (p .at .place .items) (p .target-after) (p .target-before)))
       (λ m. ap (λ (s : Shown). s .bytes) (p .others ks n m));
-  map = subst (λ (j : Image). SameMap (p .before .map) (j .map)) (sym (p .tree-is)) (edited-map g (p .to .directories) (p .edit) (p .before));
+  map = subst (λ (j : Image). SameMap (p .at .before .map) (j .map)) (sym (p .tree-is)) (edited-map g (p .at .to .directories) (p .edit) (p .at .before));
 }
 
 -- ---- no entry more: what stands at another path stood there
-pub no-entry-more : (g : Geometry) (path bytes image now : List ℕ) (p : PutDone g path bytes image now) (ks : List ℕ) → (ks ≡ filePath (p .to) → ⊥)
-    → Exists (atPath ks (p .tree)) → Exists (atPath ks (p .before))
-no-entry-more g path bytes image now p ks n h = same-path ks (targetPath (p .to))
-    (λ e. subst Exists (sym (ap (λ (k : List ℕ). atPath k (p .before)) e ∙ p .target-before)) tt)
-    (λ m. exists-entry g (atPath ks (p .before)) (omega (arith, entry-some g (atPath ks (p .tree)) h, ap (λ (s : Shown). length (s .entry)) (p .others ks n m))))
+pub no-entry-more : (g : Geometry) (path bytes image now : List ℕ) (p : PutDone g path bytes image now) (ks : List ℕ) → (ks ≡ filePath (p .at .to) → ⊥)
+    → Exists (atPath ks (p .tree)) → Exists (atPath ks (p .at .before))
+no-entry-more g path bytes image now p ks n h = same-path ks (targetPath (p .at .to))
+    (λ e. subst Exists (sym (ap (λ (k : List ℕ). atPath k (p .at .before)) e ∙ p .target-before)) tt)
+    (λ m. exists-entry g (atPath ks (p .at .before)) (omega (arith, entry-some g (atPath ks (p .tree)) h, ap (λ (s : Shown). length (s .entry)) (p .others ks n m))))

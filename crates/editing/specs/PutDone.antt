@@ -99,12 +99,7 @@ module _ (g : Geometry) (image path bytes : List ℕ) (a : Asked g image path by
         let d = a .place .items in
         let z : length (take more spare) ≡ more = length-take-le more spare (omega arith) in
         record {
-          before = a .tree;
-          accepted = a .well;
-          to = a .to;
-          formed = a .formed;
-          place = a .place;
-          there = a .there;
+          at = record { before = a .tree; accepted = a .well; to = a .to; formed = a .formed; place = a .place; there = a .there };
           edit = theEdit g image path bytes a spare;
           made = edit-is g image path bytes a spare ∙ simp (le-leb _ _ room, refuse-true, then-ok);
           tree = result g image path bytes a spare clear room;

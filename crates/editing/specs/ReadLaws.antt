@@ -61,20 +61,20 @@ module _ (g : Geometry) (path bytes image now : List ℕ) (p : PutDone g path by
   -- the path reads the bytes
   pub read-put : fileAt path (p .tree) ≡ ok bytes
   unfolding bytesOf
-  read-put = read-found path (p .to) (p .tree) (aFile (fileLabel (p .to)) (p .links)) (p .formed) (p .file) ∙ ap ok (p .reads)
+  read-put = read-found path (p .at .to) (p .tree) (aFile (fileLabel (p .at .to)) (p .links)) (p .at .formed) (p .file) ∙ ap ok (p .reads)
 
   -- every other path reads what it read, or answers the refusal that it answered
-  pub read-beside-put : (other : List ℕ) → ((q : Path) → pathOf other ≡ ok q → filePath q ≡ filePath (p .to) → ⊥) → fileAt other (p .tree) ≡ fileAt other (p .before)
+  pub read-beside-put : (other : List ℕ) → ((q : Path) → pathOf other ≡ ok q → filePath q ≡ filePath (p .at .to) → ⊥) → fileAt other (p .tree) ≡ fileAt other (p .at .before)
   unfolding bytesOf
-  read-beside-put other n = read-at other (p .tree) ∙ then-cong (pathOf other) _ _ (λ q e. same-path (filePath q) (targetPath (p .to))
-      (λ f. ap (λ (ks : List ℕ). bytesOf (atPath ks (p .tree))) f ∙ ap bytesOf (p .target-after) ∙ sym (ap bytesOf (p .target-before)) ∙ ap (λ (ks : List ℕ). bytesOf (atPath ks (p .before))) (sym f))
-      (λ m. ap (λ (s : Shown). s .answer) (p .others (filePath q) (n q e) m))) ∙ sym (read-at other (p .before))
+  read-beside-put other n = read-at other (p .tree) ∙ then-cong (pathOf other) _ _ (λ q e. same-path (filePath q) (targetPath (p .at .to))
+      (λ f. ap (λ (ks : List ℕ). bytesOf (atPath ks (p .tree))) f ∙ ap bytesOf (p .target-after) ∙ sym (ap bytesOf (p .target-before)) ∙ ap (λ (ks : List ℕ). bytesOf (atPath ks (p .at .before))) (sym f))
+      (λ m. ap (λ (s : Shown). s .answer) (p .others (filePath q) (n q e) m))) ∙ sym (read-at other (p .at .before))
 
 -- ---- after a delete
 module _ (g : Geometry) (path image now : List ℕ) (p : Deleted g path image now) where
   pub read-deleted : fileAt path (p .tree) ≡ err 15 0
-  read-deleted = read-found path (p .to) (p .tree) nothing (p .formed) (p .gone) ∙ no-bytes refl
+  read-deleted = read-found path (p .at .to) (p .tree) nothing (p .at .formed) (p .gone) ∙ no-bytes refl
 
-  pub read-beside-deleted : (other : List ℕ) → ((q : Path) → pathOf other ≡ ok q → filePath q ≡ filePath (p .to) → ⊥)
-      → fileAt other (p .tree) ≡ fileAt other (p .before)
-  read-beside-deleted other n = read-same g other (p .tree) (p .before) (λ q e. p .others (filePath q) (n q e))
+  pub read-beside-deleted : (other : List ℕ) → ((q : Path) → pathOf other ≡ ok q → filePath q ≡ filePath (p .at .to) → ⊥)
+      → fileAt other (p .tree) ≡ fileAt other (p .at .before)
+  read-beside-deleted other n = read-same g other (p .tree) (p .at .before) (λ q e. p .others (filePath q) (n q e))

@@ -2,7 +2,7 @@
 use mathlib.Core.Path.{_≡_}
 use mathlib.Core.Bool.{Bool}
 use mathlib.Core.List.{List, [], _∷_}
-use Prim.Native.Nat.{ℕ, _+_, _-_}
+use Prim.Native.Nat.{ℕ, _+_, max}
 use lib.Dec.{eqb}
 use lib.ListN.{length, drop}
 use Rattle.geometry.specs.declared.Geometry.{Geometry}
@@ -44,14 +44,10 @@ pub record Shown : Type 0 where
 abbrev pub shown : Geometry → Found → Shown
 shown g f = record { entry = foundEntry g f; pages = chainPages f; bytes = reads f; answer = bytesOf f }
 
--- the larger of two numbers
-abbrev pub larger : ℕ → ℕ → ℕ
-larger a b = a + (b - a)
-
 -- where the longest packet ends that is written into page p; 0 if none is
 abbrev pub reach : Geometry → ℕ → List Write → ℕ
 reach g p [] = 0
-reach g p (write q b n ∷ ws) = choose (eqb p q) (larger (length b + g .width + 3) (reach g p ws)) (reach g p ws)
+reach g p (write q b n ∷ ws) = choose (eqb p q) (max (length b + g .width + 3) (reach g p ws)) (reach g p ws)
 
 -- an edit from the tree i to the tree j by these page writes
 pub record EditDone (g : Geometry) (image : List ℕ) (i j : Image) (ws : List Write) (after : List ℕ) : Type 0 where
@@ -72,55 +68,54 @@ pub record Formatted (g : Geometry) (local : Bool) (image after : List ℕ) : Ty
   -- in every page the bytes after the packets written there are as before
   pub rest : (p : ℕ) → drop (reach g p (formatWrites g (emptyImage g local))) (pageOf g p after) ≡ drop (reach g p (formatWrites g (emptyImage g local))) (pageOf g p image)
 
--- a delete: an accepted image without the path's file, all else as before
-pub record Deleted (g : Geometry) (path image after : List ℕ) : Type 0 where
+-- the image was well formed, and the path's directory was there
+pub record PathIn (g : Geometry) (path image : List ℕ) : Type 0 where
   pub before : Image
   pub accepted : WellFormed g image before
   pub to : Path
   pub formed : pathOf path ≡ ok to
   pub place : Place
   pub there : directoryAt (to .directories) atRoot theRoot (before .tree) ≡ ok place
+
+-- a delete: an accepted image without the path's file, all else as before
+pub record Deleted (g : Geometry) (path image after : List ℕ) : Type 0 where
+  pub at : PathIn g path image
   -- accepted, with the old tree but for that entry; bytes outside the packets written stay
   pub tree : Image
-  pub tree-is : tree ≡ edited g (to .directories) (deleteEdit to place) before
-  pub done : EditDone g image before tree (editWrites g (bitmapOf g (used before) (before .map)) (deleteEdit to place) before tree) after
+  pub tree-is : tree ≡ edited g (at .to .directories) (deleteEdit (at .to) (at .place)) (at .before)
+  pub done : EditDone g image (at .before) tree (editWrites g (bitmapOf g (used (at .before)) (at .before .map)) (deleteEdit (at .to) (at .place)) (at .before) tree) after
   -- the path's file was there and is gone
   pub label : Label
   pub links : List Link
-  pub was : atPath (filePath to) before ≡ aFile label links
-  pub gone : atPath (filePath to) tree ≡ nothing
+  pub was : atPath (filePath (at .to)) (at .before) ≡ aFile label links
+  pub gone : atPath (filePath (at .to)) tree ≡ nothing
   -- every other path shows what it showed: entry, pages, bytes
-  pub others : (ks : List ℕ) → (ks ≡ filePath to → ⊥) → shown g (atPath ks tree) ≡ shown g (atPath ks before)
+  pub others : (ks : List ℕ) → (ks ≡ filePath (at .to) → ⊥) → shown g (atPath ks tree) ≡ shown g (atPath ks (at .before))
   -- the pages of its chain are free
-  pub total : (x : ℕ) → count x (used tree) + count x (pages links) ≡ count x (used before)
+  pub total : (x : ℕ) → count x (used tree) + count x (pages links) ≡ count x (used (at .before))
 
 -- a put: an accepted image that reads the bytes at the path, all else as before
 pub record PutDone (g : Geometry) (path bytes image after : List ℕ) : Type 0 where
-  pub before : Image
-  pub accepted : WellFormed g image before
-  pub to : Path
-  pub formed : pathOf path ≡ ok to
-  pub place : Place
-  pub there : directoryAt (to .directories) atRoot theRoot (before .tree) ≡ ok place
+  pub at : PathIn g path image
   pub edit : Edit
-  pub made : putEdit g (freePages (keptPages to before) (g .pages)) to bytes place ≡ ok edit
+  pub made : putEdit g (freePages (keptPages (at .to) (at .before)) (g .pages)) (at .to) bytes (at .place) ≡ ok edit
   -- accepted, with the edited tree; bytes outside the packets written stay
   pub tree : Image
-  pub tree-is : tree ≡ edited g (to .directories) edit before
-  pub done : EditDone g image before tree (editWrites g (bitmapOf g (used before) (before .map)) edit before tree) after
+  pub tree-is : tree ≡ edited g (at .to .directories) edit (at .before)
+  pub done : EditDone g image (at .before) tree (editWrites g (bitmapOf g (used (at .before)) (at .before .map)) edit (at .before) tree) after
   -- the path's file has the path's name and extension byte, top bit clear, and reads the bytes
   pub links : List Link
-  pub file : atPath (filePath to) tree ≡ aFile (fileLabel to) links
+  pub file : atPath (filePath (at .to)) tree ≡ aFile (fileLabel (at .to)) links
   pub reads : content links ≡ bytes
   -- every other path shows what it showed: entry, pages, bytes; of the target, its entry, and its pages with those that join it
-  pub others : (ks : List ℕ) → (ks ≡ filePath to → ⊥) → (ks ≡ targetPath to → ⊥) → shown g (atPath ks tree) ≡ shown g (atPath ks before)
+  pub others : (ks : List ℕ) → (ks ≡ filePath (at .to) → ⊥) → (ks ≡ targetPath (at .to) → ⊥) → shown g (atPath ks tree) ≡ shown g (atPath ks (at .before))
   pub target-label : Label
-  pub target-before : atPath (targetPath to) before ≡ aDirectory target-label (place .items)
-  pub target-after : atPath (targetPath to) tree ≡ aDirectory target-label (edit .after)
-  pub target-entry : foundEntry g (atPath (targetPath to) tree) ≡ foundEntry g (atPath (targetPath to) before)
+  pub target-before : atPath (targetPath (at .to)) (at .before) ≡ aDirectory target-label (at .place .items)
+  pub target-after : atPath (targetPath (at .to)) tree ≡ aDirectory target-label (edit .after)
+  pub target-entry : foundEntry g (atPath (targetPath (at .to)) tree) ≡ foundEntry g (atPath (targetPath (at .to)) (at .before))
   pub joined : List ℕ
-  pub target-pages : (x : ℕ) → count x (chainPages (atPath (targetPath to) tree)) ≡ count x (chainPages (atPath (targetPath to) before)) + count x joined
+  pub target-pages : (x : ℕ) → count x (chainPages (atPath (targetPath (at .to)) tree)) ≡ count x (chainPages (atPath (targetPath (at .to)) (at .before))) + count x joined
   -- a page joins it exactly if the file is new and no page has space
-  pub joins : length joined ≡ extraPages g (fileLabel to) (place .items)
+  pub joins : length joined ≡ extraPages g (fileLabel (at .to)) (at .place .items)
   -- the pages in use
-  pub total : length (used tree) + length (chainPages (atPath (filePath to) before)) ≡ length (used before) + length joined + pagesFor (dataCapacity g) (length bytes)
+  pub total : length (used tree) + length (chainPages (atPath (filePath (at .to)) (at .before))) ≡ length (used (at .before)) + length joined + pagesFor (dataCapacity g) (length bytes)
