@@ -1,7 +1,7 @@
 /* The 1-Wire File Structure (Application Note 114) on a lent image of one memory button.
  *
  * Link with libowfs.a (rt staticlib owfs). The archive holds x86-64 code; another processor needs a toolchain for it first.
- * A slice is a pointer and a length; with length 0 the pointer is not used. Slices of one call must not overlap.
+ * A slice is a pointer and a length; with length 0 the pointer is not used. A slice that a call writes must not overlap another slice of that call.
  */
 #ifndef OWFS_H
 #define OWFS_H
@@ -96,8 +96,8 @@ struct owfs_length {
  * After 0 the first `length` bytes of `out` are the file's and the rest of it is as before; a refusal changes no byte of it. An output of just the
  * file's length is enough.
  * `owners` are left as owfs_check leaves them, after 14, 15 and 18 too: at least 2 * page_count bytes are needed (1); all numbers are 0 after the
- * faults 2 to 13; after 1 no byte is changed; bytes past the first 2 * page_count never change. Any arguments are taken. Image, path, output and
- * owners must not overlap.
+ * faults 2 to 13; after 1 no byte is changed; bytes past the first 2 * page_count never change. Any arguments are taken. Output and owners must
+ * not overlap each other, the image or the path.
  * Stack: 131,070 bytes for a table of 65,535 numbers, and less than 9 KiB more, however many entries a directory has. */
 struct owfs_length owfs_read(uint32_t page_length, uint32_t page_count, const uint8_t *image, size_t image_length, const uint8_t *path, size_t path_length,
                              uint8_t *out, size_t out_length, uint8_t *owners, size_t owners_length);
@@ -145,7 +145,7 @@ struct owfs_answer owfs_format(uint32_t page_length, uint32_t page_count, uint8_
  * file has no longer. A refusal changes no byte of the image.
  * `owners` are left as owfs_check leaves them: after 0 they tell of the new image, after 14 to 17 of the image as it stands; at least
  * 2 * page_count bytes are needed (1); all numbers are 0 after the faults 2 to 13; after 1 no byte is changed; bytes past the first 2 * page_count
- * never change. Any arguments are taken. Image, path, bytes and owners must not overlap.
+ * never change. Any arguments are taken. Image and owners must not overlap each other, the path or the bytes.
  * Stack: 131,070 bytes for a table of 65,535 numbers, and less than 9 KiB more, however many entries a directory has. */
 struct owfs_answer owfs_put(uint32_t page_length, uint32_t page_count, uint8_t *image, size_t image_length, const uint8_t *path, size_t path_length,
                             const uint8_t *bytes, size_t bytes_length, uint8_t *owners, size_t owners_length);
@@ -165,7 +165,7 @@ struct owfs_answer owfs_put(uint32_t page_length, uint32_t page_count, uint8_t *
  * file's pages too. A refusal changes no byte of the image.
  * `owners` are left as owfs_check leaves them: after 0 they tell of the new image, after 14, 15 and 16 of the image as it stands; at least
  * 2 * page_count bytes are needed (1); all numbers are 0 after the faults 2 to 13; after 1 no byte is changed; bytes past the first 2 * page_count
- * never change. Any arguments are taken. Image, path and owners must not overlap.
+ * never change. Any arguments are taken. Image and owners must not overlap each other or the path.
  * Stack: 131,070 bytes for a table of 65,535 numbers, and less than 9 KiB more, however many entries a directory has. */
 struct owfs_answer owfs_delete(uint32_t page_length, uint32_t page_count, uint8_t *image, size_t image_length, const uint8_t *path, size_t path_length,
                                uint8_t *owners, size_t owners_length);

@@ -4,13 +4,11 @@
 //!
 //! The archive is made by `rt staticlib owfs`.
 
-#[path = "../tests/common/library.rs"]
-mod library;
-
 use std::fmt::Debug;
 use std::hint::black_box;
 use std::time::{Duration, Instant};
 
+use common::library;
 use referee::builder::plan::{
     BitmapPlan, Built, Chain, DirectoryPlan, FilePlan, Fill, ImagePlan, Item,
 };

@@ -1,195 +1,353 @@
-//! A second implementation of the file structure of document 01: check, list, read, format, put, delete.
+//! What the tests share: calls of the second program with the promises that hold for every call, and calls of the library beside them.
 //!
-//! It is written from the specification alone and serves as a referee for another implementation.
-//! Numbers are `u32` as a C caller gives them; the owner table is bytes, low byte first.
+//! The second program is a crate of its own, `referee`, which knows nothing of the library. `library` calls the library, `both` calls it and the
+//! second program side by side, `generators` has what they are called with, `trials` makes the calls with generated images, `edit_runs` makes
+//! long runs of calls on one image, `plans` works out what edits leave, `puts` has what puts are called with and what they meet, `trees` has small
+//! trees, `dumps` makes dumps and runs the program `list`.
 
-mod answer;
-mod check;
-mod control;
-mod crc;
-mod edit;
-mod entry;
-pub mod geometry;
-mod list_text;
-mod names;
-mod packet;
-mod path;
-mod tree;
+pub mod both;
+pub mod dumps;
+pub mod edit_runs;
+pub mod generators;
+pub mod library;
+pub mod plans;
+pub mod puts;
+pub mod trees;
+pub mod trials;
 
-pub mod builder;
-pub mod rng;
+use std::collections::BTreeMap;
+use std::ops::Range;
 
-pub use answer::{Answer, Length, Listing, Totals};
-pub use crc::{check_bytes, crc16};
+use referee::builder::pages::Pages;
+use referee::builder::plan::Built;
+use referee::rng::Rng;
+use referee::{Answer, Length, Listing, Totals};
 
-use answer::Fault;
-use geometry::Geometry;
-use tree::{Entry, Tree};
+/// What an owner table holds before a call, so that untouched bytes are seen.
+const BEFORE: u8 = 0xC7;
 
-/// Checks an image and tells pages in use, files and directories.
-pub fn check(page_length: u32, page_count: u32, image: &[u8], owners: &mut [u8]) -> Totals {
-    let judged = judge_arguments(page_length, page_count, image, owners)
-        .and_then(|geometry| judge_image(&geometry, image, owners));
-    match judged {
-        Ok(tree) => tree.totals(),
-        Err(answer) => answer.into(),
+/// Bytes of the owner table past the first N numbers.
+const EXTRA: usize = 5;
+
+/// An image with its page length and page count.
+#[derive(Clone, Debug, PartialEq, Eq)]
+pub struct Button {
+    pub page_length: u32,
+    pub page_count: u32,
+    pub image: Vec<u8>,
+}
+
+impl From<&Pages> for Button {
+    fn from(pages: &Pages) -> Button {
+        Button {
+            page_length: pages.geometry.page_length() as u32,
+            page_count: pages.geometry.page_count() as u32,
+            image: pages.image.clone(),
+        }
     }
 }
 
-/// Lists the entry at a position in walk order, from 0; 15 at or past the end.
-pub fn list(
-    page_length: u32,
-    page_count: u32,
-    image: &[u8],
-    owners: &mut [u8],
-    position: u32,
-) -> Listing {
-    let judged = judge_arguments(page_length, page_count, image, owners)
-        .and_then(|geometry| judge_image(&geometry, image, owners));
-    let tree = match judged {
-        Ok(tree) => tree,
-        Err(answer) => return answer.into(),
-    };
-    match tree.walk().get(position as usize) {
-        Some((level, entry)) => listing(*level, entry),
-        None => Fault::Absent.at(0).into(),
+impl From<&Built> for Button {
+    fn from(built: &Built) -> Button {
+        Button {
+            page_length: built.page_length,
+            page_count: built.page_count,
+            image: built.image.clone(),
+        }
     }
 }
 
-/// Reads a file into the front of `out` and tells its length.
-pub fn read(
-    page_length: u32,
-    page_count: u32,
-    image: &[u8],
-    path: &[u8],
-    out: &mut [u8],
-    owners: &mut [u8],
-) -> Length {
-    let outcome = judge_arguments(page_length, page_count, image, owners).and_then(|geometry| {
-        let tree = judge_image(&geometry, image, owners)?;
-        edit::read(&geometry, image, &tree, path, out)
-    });
-    match outcome {
-        Ok(length) => Length {
-            number: 0,
-            page: 0,
-            length: length as u32,
-        },
-        Err(answer) => answer.into(),
+impl From<&mut Pages> for Button {
+    fn from(pages: &mut Pages) -> Button {
+        Button::from(&*pages)
     }
 }
 
-/// Formats an image: `local` 0 asks for a bitmap file, any other number for a local bitmap.
-pub fn format(
-    page_length: u32,
+/// Runs a call with an owner table that is longer than needed, and tells its first N numbers afterwards.
+/// They are zeros after a fault of the image; the rest never changes.
+fn with_table<T>(
     page_count: u32,
-    image: &mut [u8],
-    owners: &mut [u8],
-    local: u32,
-) -> Answer {
-    let outcome = judge_arguments(page_length, page_count, image, owners).and_then(|geometry| {
-        let formatted = edit::format(&geometry, image, local != 0);
-        tell_owners(&geometry, image, owners);
-        formatted
-    });
-    done_or_refusal(outcome)
-}
-
-/// Makes or replaces a file.
-pub fn put(
-    page_length: u32,
-    page_count: u32,
-    image: &mut [u8],
-    path: &[u8],
-    bytes: &[u8],
-    owners: &mut [u8],
-) -> Answer {
-    let outcome = judge_arguments(page_length, page_count, image, owners).and_then(|geometry| {
-        let tree = judge_image(&geometry, image, owners)?;
-        edit::put(&geometry, image, &tree, path, bytes)?;
-        tell_owners(&geometry, image, owners);
-        Ok(())
-    });
-    done_or_refusal(outcome)
-}
-
-/// Deletes a file.
-pub fn delete(
-    page_length: u32,
-    page_count: u32,
-    image: &mut [u8],
-    path: &[u8],
-    owners: &mut [u8],
-) -> Answer {
-    let outcome = judge_arguments(page_length, page_count, image, owners).and_then(|geometry| {
-        let tree = judge_image(&geometry, image, owners)?;
-        edit::delete(&geometry, image, &tree, path)?;
-        tell_owners(&geometry, image, owners);
-        Ok(())
-    });
-    done_or_refusal(outcome)
-}
-
-/// What the program `list` prints for a dump.
-pub fn list_text(dump: &[u8]) -> Vec<u8> {
-    list_text::list_text(dump)
-}
-
-/// Refusal 1: P, N, the image's length, or an owner table of less than N numbers of 16 bits.
-fn judge_arguments(
-    page_length: u32,
-    page_count: u32,
-    image: &[u8],
-    owners: &[u8],
-) -> Result<Geometry, Answer> {
-    let wrong = Fault::Arguments.at(0);
-    let geometry = Geometry::new(page_length, page_count).ok_or(wrong)?;
-    if image.len() != geometry.image_length() || owners.len() < 2 * geometry.page_count() {
-        return Err(wrong);
+    number: impl Fn(&T) -> u32,
+    call: impl FnOnce(&mut [u8]) -> T,
+) -> (T, Vec<u16>) {
+    let used = 2 * page_count as usize;
+    let mut table = vec![BEFORE; used + EXTRA];
+    let answer = call(&mut table);
+    assert!(table[used..].iter().all(|&byte| byte == BEFORE));
+    if number(&answer) == 1 {
+        assert!(table.iter().all(|&byte| byte == BEFORE), "table after 1");
     }
-    Ok(geometry)
-}
-
-/// Checks the image and writes its owners to the table; all 0 if it is not accepted.
-fn judge_image(geometry: &Geometry, image: &[u8], owners: &mut [u8]) -> Result<Tree, Answer> {
-    let judged = check::check_image(geometry, image);
-    let none = vec![0; geometry.page_count()];
-    let numbers = match &judged {
-        Ok(tree) => &tree.owners,
-        Err(_) => &none,
-    };
-    for (bytes, &owner) in owners.chunks_exact_mut(2).zip(numbers) {
-        bytes.copy_from_slice(&(owner as u16).to_le_bytes());
+    let owners: Vec<u16> = numbers(&table[..used]);
+    if (2..=13).contains(&number(&answer)) && number(&answer) != 4 {
+        assert!(owners.iter().all(|&owner| owner == 0), "table after fault");
     }
-    judged
+    (answer, owners)
 }
 
-/// Writes the owners of the image as it now stands.
-fn tell_owners(geometry: &Geometry, image: &[u8], owners: &mut [u8]) {
-    // The table is all that is wanted here; the call's answer is made already.
-    let _ = judge_image(geometry, image, owners);
+/// Numbers of 16 bits, low byte first.
+pub fn numbers(bytes: &[u8]) -> Vec<u16> {
+    bytes
+        .chunks_exact(2)
+        .map(|two| u16::from_le_bytes([two[0], two[1]]))
+        .collect()
 }
 
-/// What listing tells of an entry.
-fn listing(level: u32, entry: &Entry) -> Listing {
-    let fields = &entry.fields;
-    Listing {
-        number: 0,
-        page: 0,
-        level,
-        name: u32::from_le_bytes(fields.name),
-        extension: u32::from(fields.extension_number()),
-        attribute: u32::from(fields.attribute()),
-        start: fields.start as u32,
-        pages: fields.pages as u32,
-        length: entry.length() as u32,
+/// An answer of number and page.
+pub fn answer(number: u32, page: u32) -> Answer {
+    Answer { number, page }
+}
+
+impl Button {
+    /// An image of zeros.
+    pub fn zeros(page_length: u32, page_count: u32) -> Button {
+        let length = page_length as usize * page_count as usize;
+        Button {
+            page_length,
+            page_count,
+            image: vec![0; length],
+        }
+    }
+
+    /// A formatted image, all other bytes zero.
+    pub fn formatted(page_length: u32, page_count: u32, local: bool) -> Button {
+        let mut button = Button::zeros(page_length, page_count);
+        let (done, _) = button.format(local);
+        assert_eq!(done, answer(0, 0));
+        button
+    }
+
+    /// The bytes of a page.
+    pub fn page(&self, page: usize) -> &[u8] {
+        let length = self.page_length as usize;
+        &self.image[page * length..(page + 1) * length]
+    }
+
+    /// A copy of the image whose pages can be changed.
+    pub fn pages(&self) -> Pages {
+        Pages::of(self.page_length, self.page_count, &self.image)
+    }
+
+    /// Check, with the owner table.
+    pub fn check(&self) -> (Totals, Vec<u16>) {
+        with_table(
+            self.page_count,
+            |totals: &Totals| totals.number,
+            |table| referee::check(self.page_length, self.page_count, &self.image, table),
+        )
+    }
+
+    /// The number and page of a check, and nothing else in a refusal.
+    pub fn verdict(&self) -> Answer {
+        let (totals, owners) = self.check();
+        if totals.number != 0 {
+            let refusal = Totals {
+                number: totals.number,
+                page: totals.page,
+                ..Totals::default()
+            };
+            assert_eq!(totals, refusal);
+            assert!(owners.iter().all(|&owner| owner == 0));
+        }
+        answer(totals.number, totals.page)
+    }
+
+    /// List by number, with the owner table.
+    pub fn list(&self, position: u32) -> (Listing, Vec<u16>) {
+        with_table(
+            self.page_count,
+            |listing: &Listing| listing.number,
+            |table| {
+                referee::list(
+                    self.page_length,
+                    self.page_count,
+                    &self.image,
+                    table,
+                    position,
+                )
+            },
+        )
+    }
+
+    /// All entries in walk order, by position until 15.
+    pub fn list_all(&self) -> Vec<Listing> {
+        let mut all = Vec::new();
+        loop {
+            let (listing, _) = self.list(all.len() as u32);
+            if listing.number == 15 {
+                return all;
+            }
+            assert_eq!(listing.number, 0);
+            all.push(listing);
+        }
+    }
+
+    /// Read into `out`; a refusal leaves it alone, a success its rest.
+    pub fn read_into(&self, path: &[u8], out: &mut [u8]) -> (Length, Vec<u16>) {
+        let before = out.to_vec();
+        let (length, owners) = with_table(
+            self.page_count,
+            |length: &Length| length.number,
+            |table| {
+                referee::read(
+                    self.page_length,
+                    self.page_count,
+                    &self.image,
+                    path,
+                    out,
+                    table,
+                )
+            },
+        );
+        if length.number != 0 {
+            assert_eq!(length.length, 0);
+        }
+        let filled = length.length as usize;
+        assert_eq!(out[filled..], before[filled..]);
+        (length, owners)
+    }
+
+    /// The number of a read into an output as long as the image, and the bytes read.
+    pub fn read(&self, path: &[u8]) -> (u32, Vec<u8>) {
+        let mut out = vec![0xEE; self.image.len()];
+        let (length, _) = self.read_into(path, &mut out);
+        out.truncate(length.length as usize);
+        (length.number, out)
+    }
+
+    /// Format, with the owner table; a refusal changes nothing.
+    pub fn format(&mut self, local: bool) -> (Answer, Vec<u16>) {
+        self.change(|page_length, page_count, image, table| {
+            referee::format(page_length, page_count, image, table, u32::from(local))
+        })
+    }
+
+    /// Put, with the owner table; a refusal changes nothing.
+    pub fn put(&mut self, path: &[u8], bytes: &[u8]) -> (Answer, Vec<u16>) {
+        self.change(|page_length, page_count, image, table| {
+            referee::put(page_length, page_count, image, path, bytes, table)
+        })
+    }
+
+    /// Delete, with the owner table; a refusal changes nothing.
+    pub fn delete(&mut self, path: &[u8]) -> (Answer, Vec<u16>) {
+        self.change(|page_length, page_count, image, table| {
+            referee::delete(page_length, page_count, image, path, table)
+        })
+    }
+
+    /// Runs an edit: a refusal changes no byte, and the table tells of the image as it then stands.
+    fn change(
+        &mut self,
+        call: impl FnOnce(u32, u32, &mut [u8], &mut [u8]) -> Answer,
+    ) -> (Answer, Vec<u16>) {
+        let (page_length, page_count) = (self.page_length, self.page_count);
+        let before = self.image.clone();
+        let image = &mut self.image;
+        let (done, owners) = with_table(
+            page_count,
+            |done: &Answer| done.number,
+            |table| call(page_length, page_count, image, table),
+        );
+        if done.number != 0 {
+            assert_eq!(self.image, before, "a refusal changes no byte");
+        }
+        if done.number != 1 {
+            assert_eq!(owners, self.check().1, "owners of the image as it stands");
+        }
+        (done, owners)
+    }
+
+    /// Demands one refusal of the image from every call that checks it.
+    pub fn refused_by_all(&self, number: u32, page: u32) {
+        let refusal = answer(number, page);
+        assert_eq!(self.verdict(), refusal);
+        let listing = Listing {
+            number,
+            page,
+            ..Listing::default()
+        };
+        assert_eq!(self.list(0).0, listing);
+        let length = Length {
+            number,
+            page,
+            length: 0,
+        };
+        assert_eq!(self.read_into(b"A   \x01", &mut [9; 40]).0, length);
+        assert_eq!(self.clone().put(b"A   \x01", b"x").0, refusal);
+        assert_eq!(self.clone().delete(b"A   \x01").0, refusal);
+        // A malformed path is met after the image's fault.
+        assert_eq!(self.clone().put(b"bad", b"x").0, refusal);
     }
 }
 
-/// The answer of a call that tells number and page only.
-fn done_or_refusal(outcome: Result<(), Answer>) -> Answer {
-    match outcome {
-        Ok(()) => Answer::default(),
-        Err(answer) => answer,
+/// Prints the seed if the test fails while it is alive.
+pub struct Seed(pub u64);
+
+impl Drop for Seed {
+    fn drop(&mut self) {
+        if std::thread::panicking() {
+            eprintln!("failed with seed {}", self.0);
+        }
+    }
+}
+
+/// Runs so many cases, each from a seed of its own.
+pub fn run_seeds(seeds: Range<u64>, mut case: impl FnMut(u64, &mut Rng)) {
+    println!("seeds {seeds:?}");
+    for seed in seeds {
+        let _seed = Seed(seed);
+        case(seed, &mut Rng::new(seed));
+    }
+}
+
+/// Counts by label, so that a test can demand that every kind of case was met.
+#[derive(Debug, Default)]
+pub struct Tally {
+    counts: BTreeMap<String, u64>,
+}
+
+impl Tally {
+    /// Counts a label once more.
+    pub fn add(&mut self, label: impl Into<String>) {
+        self.add_times(label, 1);
+    }
+
+    /// Counts a label so many times more.
+    pub fn add_times(&mut self, label: impl Into<String>, times: u32) {
+        *self.counts.entry(label.into()).or_default() += u64::from(times);
+    }
+
+    /// How many times a label was counted.
+    pub fn count(&self, label: &str) -> u64 {
+        self.counts.get(label).copied().unwrap_or(0)
+    }
+
+    /// Demands that each label was counted at least so many times.
+    pub fn demand(&self, least: u32, labels: &[&str]) {
+        for &label in labels {
+            let count = self.count(label);
+            let enough = count >= u64::from(least);
+            assert!(enough, "{label}: {count} times, {self:#?}");
+        }
+    }
+
+    /// Demands that a call answered each of these numbers at least so many times.
+    pub fn demand_numbers(&self, call: &str, least: u32, numbers: impl IntoIterator<Item = u32>) {
+        for number in numbers {
+            self.demand(least, &[&format!("{call} {number}")]);
+        }
+    }
+
+    /// Prints all counts.
+    pub fn print(&self) {
+        for (label, count) in &self.counts {
+            println!("{count:8} {label}");
+        }
+    }
+
+    /// The numbers that a call answered, each with its count.
+    pub fn numbers(&self, call: &str) -> Vec<(u32, u64)> {
+        let counted = (0..=19).map(|number| (number, self.count(&format!("{call} {number}"))));
+        counted.filter(|(_, count)| *count > 0).collect()
     }
 }

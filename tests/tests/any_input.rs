@@ -1,7 +1,5 @@
 //! Any bytes and numbers: every call answers, a refusal changes nothing, and the calls agree with each other.
 
-mod common;
-
 use common::{answer, Button, Seed};
 use referee::builder::pages::Pages;
 use referee::builder::random::random_packets;

@@ -2,8 +2,6 @@
 //! the largest directory with a limited stack; and an example of firmware (`tests/c/firmware.c`), with what it prints.
 //! The archive is made by `rt staticlib owfs`.
 
-mod common;
-
 use std::fs;
 use std::path::{Path, PathBuf};
 use std::process::{Command, Output, Stdio};

@@ -1,6 +1,4 @@
-//! Arguments, paths, places, room and output of the calls; names like `b30` are the entries of the list of open points.
-
-mod common;
+//! Arguments, paths, places, room and output of the calls.
 
 use common::{answer, numbers, Button};
 use referee::builder::pages::{path, Pages};
@@ -44,7 +42,7 @@ fn refused_with_1(page_length: u32, page_count: u32, image_length: usize, table_
 }
 
 #[test]
-fn b50_page_length_and_page_count() {
+fn page_length_and_page_count() {
     for page_length in [0, 1, 31, 257, 65_535, 65_536, 65_568, u32::MAX] {
         let fitting = page_length as usize % 1_000 * 16;
         for image_length in [0, 512, fitting] {
@@ -78,7 +76,7 @@ fn image_length() {
 }
 
 #[test]
-fn b48_owner_table_length() {
+fn owner_table_length() {
     for table_length in [0, 1, 2, 16, 30, 31] {
         refused_with_1(32, 16, 512, table_length);
     }
@@ -148,7 +146,7 @@ fn path_lengths() {
 }
 
 #[test]
-fn b27_last_byte_of_a_path() {
+fn last_byte_of_a_path() {
     for last in 0..=255_u8 {
         let number = sample().read(&path(&["D"], "X", last)).0;
         let expected = match last {
@@ -168,7 +166,7 @@ fn b27_last_byte_of_a_path() {
 }
 
 #[test]
-fn b53_names_in_paths() {
+fn names_in_paths() {
     for name in ["A B ", "    ", " A  ", "a   ", "A.B ", "A\0  ", "A\\  "] {
         path_refused(&path(&[], name, 1), 14);
         path_refused(&path(&["D"], name, 1), 14);
@@ -182,7 +180,7 @@ fn b53_names_in_paths() {
 }
 
 #[test]
-fn b28_directories_that_are_missing() {
+fn directories_that_are_missing() {
     path_refused(&path(&["NONE"], "X", 1), 15);
     path_refused(&path(&["DEMO"], "X", 1), 15);
     path_refused(&path(&["D", "X"], "X", 1), 15);
@@ -209,7 +207,7 @@ fn files_that_are_missing() {
 
 /// Refusals 14 to 18 leave the accepted image's owners in the table.
 #[test]
-fn b35_owners_after_refusals() {
+fn owners_after_refusals() {
     path_refused(b"bad", 14);
     path_refused(&path(&["NONE"], "X", 1), 15);
     let mut button = sample();
@@ -224,7 +222,7 @@ fn b35_owners_after_refusals() {
 }
 
 #[test]
-fn b33_read_only() {
+fn read_only_files() {
     let mut button = sample();
     assert_eq!(button.put(b"FULL\x00", b"").0, answer(16, 0));
     assert_eq!(button.put(b"FULL\x00", &[0; 10_000]).0, answer(16, 0));
@@ -233,7 +231,7 @@ fn b33_read_only() {
 }
 
 #[test]
-fn b29_output_length() {
+fn output_length() {
     let button = sample();
     for length in 0..4 {
         let (answer, _) = button.read_into(b"DEMO\x0C", &mut vec![1; length]);
@@ -253,7 +251,7 @@ fn b29_output_length() {
 }
 
 #[test]
-fn b37_positions_past_the_end() {
+fn positions_past_the_end() {
     let button = sample();
     for position in [5, 6, 255, 256, 65_535, 65_536, 65_537, u32::MAX] {
         let expected = Listing {
@@ -265,7 +263,7 @@ fn b37_positions_past_the_end() {
 }
 
 #[test]
-fn b47_listing() {
+fn listings() {
     let listings = sample().list_all();
     let expected = [
         (0, *b"DEMO", 12, 0, 1, 1, 4),
@@ -294,7 +292,7 @@ fn b47_listing() {
 }
 
 #[test]
-fn b46_totals() {
+fn totals() {
     let (totals, owners) = sample().check();
     let expected = Totals {
         number: 0,
@@ -309,7 +307,7 @@ fn b46_totals() {
 
 /// Walk order: right after a subdirectory's entry all entries below it; each page has its own entry's number.
 #[test]
-fn b51_owner_numbers() {
+fn owner_numbers() {
     let mut pages = Pages::new(32, 16);
     let mut root = pages.file_control(9, 1);
     root.extend(pages.entry("D", 0x7F, 3, 0));
@@ -332,7 +330,7 @@ fn b51_owner_numbers() {
 }
 
 #[test]
-fn b22_format_refused_and_the_table() {
+fn format_refused_and_the_table() {
     let mut button = Button::formatted(32, 40, false);
     let (done, owners) = button.format(true);
     assert_eq!(done, answer(4, 0));
@@ -349,7 +347,7 @@ fn b22_format_refused_and_the_table() {
 }
 
 #[test]
-fn b23_pages_of_a_formatted_bitmap_file() {
+fn pages_of_a_formatted_bitmap_file() {
     for (page_length, page_count, lengths) in [
         (32, 2, vec![1]),
         (32, 16, vec![2]),
@@ -412,7 +410,7 @@ fn format_takes_any_number_for_local() {
 }
 
 #[test]
-fn b30_the_directorys_page_is_chosen_first() {
+fn the_directorys_page_is_chosen_first() {
     let mut pages = Pages::new(32, 8);
     let mut root = pages.local_control(&[0, 1, 2, 4, 7]);
     root.extend(pages.entry("A", 1, 1, 1));
@@ -432,7 +430,7 @@ fn b30_the_directorys_page_is_chosen_first() {
 }
 
 #[test]
-fn b31_first_page_with_space_in_chain_order() {
+fn first_page_with_space_in_chain_order() {
     let mut pages = Pages::new(32, 16);
     let mut root = pages.local_control(&[0, 1, 2, 3, 4, 5]);
     for (name, start) in [("A", 3), ("B", 4), ("C", 5)] {
@@ -463,7 +461,7 @@ fn b31_first_page_with_space_in_chain_order() {
 
 /// Pages of a replaced chain that are not used again keep their bytes, and so does what a shorter packet leaves.
 #[test]
-fn b32_bytes_that_stay() {
+fn bytes_that_stay() {
     let mut button = Button::formatted(32, 16, true);
     let long: Vec<u8> = (1..=84).collect();
     assert_eq!(button.put(b"F   \x01", &long).0, answer(0, 0));
@@ -476,7 +474,7 @@ fn b32_bytes_that_stay() {
 }
 
 #[test]
-fn b34_b41_hidden_directories() {
+fn hidden_directories() {
     let mut button = sample();
     let mut pages = button.pages();
     pages.alter(0, 26, &[0xFF]);
@@ -493,7 +491,7 @@ fn b34_b41_hidden_directories() {
 }
 
 #[test]
-fn b38_largest_file_of_256_pages() {
+fn largest_file_of_256_pages() {
     let mut button = Button::formatted(32, 256, false);
     let bytes: Vec<u8> = (0..28 * 253 + 1_u32).map(|byte| (byte / 3) as u8).collect();
     assert_eq!(button.put(b"ALL \x01", &bytes).0, answer(17, 0));
@@ -506,7 +504,7 @@ fn b38_largest_file_of_256_pages() {
 }
 
 #[test]
-fn b39_an_emptied_directory_page_stays() {
+fn an_emptied_directory_page_stays() {
     let mut button = Button::formatted(32, 16, true);
     for name in ["A", "B", "C", "D"] {
         assert_eq!(button.put(&path(&[], name, 1), b"x").0, answer(0, 0));
@@ -527,7 +525,7 @@ fn b39_an_emptied_directory_page_stays() {
 }
 
 #[test]
-fn b52_a_replaced_entry_keeps_its_place() {
+fn a_replaced_entry_keeps_its_place() {
     let mut button = Button::formatted(32, 16, true);
     for name in ["A", "B", "C"] {
         assert_eq!(button.put(&path(&[], name, 1), b"x").0, answer(0, 0));

@@ -1,8 +1,6 @@
 //! The library's check, called as C calls it, against the second program: five numbers and every owner byte.
 //! The archive is made by `rt staticlib owfs`.
 
-mod common;
-
 use common::generators::{flip, misfit, owner_bytes, small_button};
 use common::{both, Button, Seed};
 use referee::builder::random::random_image;

@@ -1,7 +1,5 @@
 //! The check of both programs: known vectors, and the pages that document 001 prints. The archive is made by `rt staticlib owfs`.
 
-mod common;
-
 use common::both::{check_bytes, crc16};
 use referee::rng::Rng;
 

@@ -2,22 +2,18 @@
 //! owner table, and the bytes next to them. Where an image is known by construction, so are the answer and the image afterwards.
 //! The archive is made by `rt staticlib owfs`.
 
-mod common;
-
 use common::generators::{
-    any_length, any_number, chain_features, counted_owner_bytes, damaged_case, deep_image,
-    directories_of, fault_case, faulty_case, files, flip, is_below_hidden, is_enough,
-    labelled_local, largest_image, misfit, random_path, random_sizes, sound_case, worn_plan, Case,
-    Made, OWNER_TABLES,
+    any_button, chain_features, counted_owner_bytes, damaged_case, deep_image, directories_of,
+    fault_case, faulty_case, files, flip, is_below_hidden, is_enough, labelled_local,
+    largest_image, misfit, random_path, random_sizes, sound_case, worn_plan, Made, OWNER_TABLES,
 };
-use common::plans::{formatted_plan, overlaid, plan_without};
+use common::plans::{overlaid, plan_without};
+use common::trials::{format_known, Trial};
 use common::{answer, both, run_seeds, Button, Seed, Tally};
 use referee::builder::pages::{path, Pages};
 use referee::builder::plan::{Built, BuiltEntry, ChainOf, ImagePlan};
 use referee::builder::random::random_name;
-use referee::geometry::Geometry;
 use referee::rng::Rng;
-use referee::Answer;
 
 /// The labels of paths with the answers that a delete must have given to them.
 const PATHS: [&str; 24] = [
@@ -289,51 +285,22 @@ fn deletes_one_after_the_other() {
     assert!(deletes > 1_000, "{deletes} deletes");
 }
 
-/// A delete from an image that is not accepted, or with arguments that do not fit.
-fn delete_from(case: &Case, tally: &mut Tally, rng: &mut Rng) {
-    for _ in 0..2 {
-        let wanted = random_path(&case.built, rng);
-        let mut button = case.button.clone();
-        let owner_bytes = counted_owner_bytes(button.page_count, rng, tally);
-        let told = both::delete(&mut button, owner_bytes, &wanted.path, rng);
-        tally.add(format!("delete {}", told.number));
-        if let Some(refusal) = case.known_refusal(owner_bytes) {
-            assert_eq!(told, refusal, "known by construction");
-        }
-    }
-}
-
 /// Each number from 2 to 13, with the page known; pairs of them; damage of any kind; arguments that do not fit.
 #[test]
 fn deletes_from_faulty_images() {
     let mut tally = Tally::default();
     run_seeds(0xA200_0000..0xA200_0000 + 3_000, |seed, rng| {
         let case = faulty_case(seed, rng);
-        delete_from(&case, &mut tally, rng);
+        let mut trial = Trial {
+            case: &case,
+            rng,
+            tally: &mut tally,
+        };
+        trial.delete();
+        trial.delete();
     });
     tally.print();
     tally.demand_numbers("delete", 40, 1..=13);
-}
-
-/// Demands a format's answer and image by the plan of a formatted image, and gives the answer.
-fn format_known(button: &mut Button, owner_bytes: usize, local: u32, rng: &mut Rng) -> Answer {
-    let before = button.clone();
-    let told = both::format(button, owner_bytes, local, rng);
-    let (p, n) = (button.page_length, button.page_count);
-    let fits = Geometry::new(p, n).is_some_and(|known| known.image_length() == before.image.len());
-    if !fits || !is_enough(n, owner_bytes) {
-        assert_eq!(told, answer(1, 0), "arguments");
-    } else if local != 0 && n >= 32 {
-        assert_eq!(told, answer(4, 0), "local bitmap");
-    } else {
-        assert_eq!(told, answer(0, 0), "known by construction");
-        let formatted = formatted_plan(p, n, local != 0).build();
-        let expected = overlaid(&before, &formatted);
-        assert!(button.image == expected, "known by construction");
-        let totals = both::check(button, 2 * n as usize, rng);
-        assert_eq!(totals, formatted.totals);
-    }
-    told
 }
 
 /// An image to format and a label: accepted, with faults, any bytes, or one that does not fit.
@@ -518,17 +485,9 @@ fn deletes_from_65535_pages() {
 fn any_arguments() {
     let mut tally = Tally::default();
     run_seeds(0xA800_0000..0xA800_0000 + 4_000, |_, rng| {
-        let page_length = any_number(&[0, 31, 32, 33, 64, 256, 257, 65_568], rng);
-        let page_count = any_number(&[0, 1, 2, 16, 31, 32, 256, 257, 65_535, 65_536], rng);
-        let image_bytes = any_length(u64::from(page_length) * u64::from(page_count), rng);
-        let table = any_length(2 * u64::from(page_count), rng);
+        let (mut button, table) = any_button(rng);
         let path_bytes = rng.below(60);
         let path = rng.bytes(path_bytes);
-        let mut button = Button {
-            page_length,
-            page_count,
-            image: rng.bytes(image_bytes),
-        };
         let told = both::delete(&mut button, table, &path, rng);
         tally.add(format!("delete {}", told.number));
         let local = labelled_local(rng).1;

@@ -1,8 +1,6 @@
 //! The examples of document 01, byte for byte, by their numbers there. Each call is made by the library and by the second program, with equal
 //! answers and equal bytes. The archive is made by `rt staticlib owfs`.
 
-mod common;
-
 use common::both::check_bytes;
 use common::{answer, both, Button};
 use referee::builder::pages::{path, Pages};

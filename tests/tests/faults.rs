@@ -1,8 +1,6 @@
-//! Each fault of an image, on images made by hand; names like `b05` are the entries of the list of open points.
+//! Each fault of an image, on images made by hand.
 //!
 //! In the comments `k: body>pointer` is a packet on page k; P is 32 and N is 16 unless said.
-
-mod common;
 
 use common::{answer, Button};
 use referee::builder::pages::Pages;
@@ -216,7 +214,7 @@ fn markers_of_a_subdirectory() {
 }
 
 #[test]
-fn b01_pointer_is_not_part_of_the_control_field() {
+fn pointer_is_not_part_of_the_control_field() {
     let mut pages = Pages::new(32, 16);
     pages.packet(0, &[0xAA, 0, 0x80, 1, 0, 0], 0);
     assert_eq!(pages.page(0)[..8], [7, 0xAA, 0, 0x80, 1, 0, 0, 0]);
@@ -224,7 +222,7 @@ fn b01_pointer_is_not_part_of_the_control_field() {
 }
 
 #[test]
-fn b02_too_short_before_marker() {
+fn too_short_before_marker() {
     let mut pages = Pages::new(32, 16);
     for body in [&b""[..], &[0xBB], &[0xAA], &[0xBB, 0, 0x81, 0, 0, 0]] {
         pages.packet(0, body, 0);
@@ -235,7 +233,7 @@ fn b02_too_short_before_marker() {
 }
 
 #[test]
-fn b03_bitmap_start_is_a_start_page() {
+fn bitmap_start_is_a_start_page() {
     let mut pages = Pages::new(32, 16);
     for start in [0, 16, 17, 99, 255] {
         let root = pages.file_control(start, 1);
@@ -251,7 +249,7 @@ fn b03_bitmap_start_is_a_start_page() {
 }
 
 #[test]
-fn b04_in_progress_before_the_rest() {
+fn in_progress_before_the_rest() {
     let mut pages = Pages::new(32, 16);
     pages.packet(0, &[0xAA, 1, 0x83, 1, 0, 0, 0], 0);
     refused(&pages, 5, 0);
@@ -307,7 +305,7 @@ fn local_bitmap_with_32_pages_or_more() {
 }
 
 #[test]
-fn b43_bit_1_and_markers_of_several_devices() {
+fn bit_1_and_markers_of_several_devices() {
     let mut pages = Pages::new(32, 16);
     pages.packet(0, &[0xAA, 0, 0x82, 1, 0, 0, 0], 0);
     refused(&pages, 4, 0);
@@ -336,7 +334,7 @@ fn subdirectory_too_short() {
 }
 
 #[test]
-fn b07_too_short_before_the_next_number() {
+fn too_short_before_the_next_number() {
     refused(&with_directory(b"\xAAROOT\x00", 77), 4, 2);
     refused(&with_directory(b"\xABROOT\x00\x00", 77), 3, 2);
     refused(&with_directory(b"\xAAROOT\x01\x00", 77), 4, 2);
@@ -346,12 +344,12 @@ fn b07_too_short_before_the_next_number() {
 }
 
 #[test]
-fn b09_back_reference_past_the_last_page() {
+fn back_reference_past_the_last_page() {
     refused(&with_directory(b"\xAAROOT\x00\x63", 0), 4, 2);
 }
 
 #[test]
-fn b10_back_reference_is_the_parent() {
+fn back_reference_is_the_parent() {
     refused(&with_directory(b"\xAAD   \x00\x00", 0), 4, 2);
     refused(&with_directory(b"\xAAROOT\x00\x01", 0), 4, 2);
     refused(&with_directory(b"\xAAROOT\x00\x02", 0), 4, 2);
@@ -361,7 +359,7 @@ fn b10_back_reference_is_the_parent() {
 }
 
 #[test]
-fn b10_back_reference_below_a_hidden_directory() {
+fn back_reference_below_a_hidden_directory() {
     let mut pages = local(&[0, 2, 3], &[("D", 0xFF, 2, 0)]);
     let upper = sub(&pages, "ROOT", 0, &[("E", 0x7F, 3, 0)]);
     let lower = sub(&pages, "D", 2, &[]);
@@ -398,7 +396,7 @@ fn back_reference_with_two_bytes() {
 }
 
 #[test]
-fn b11_a_directory_called_root() {
+fn a_directory_called_root() {
     let mut pages = local(&[0, 2, 3], &[("ROOT", 0x7F, 2, 0)]);
     let upper = sub(&pages, "ROOT", 0, &[("E", 0xFF, 3, 0)]);
     let lower = sub(&pages, "ROOT", 2, &[]);
@@ -412,7 +410,7 @@ fn b11_a_directory_called_root() {
 // Numbers 6, 7 and 8: chains.
 
 #[test]
-fn b05_bitmap_file_before_the_root() {
+fn bitmap_file_before_the_root() {
     let mut pages = Pages::new(32, 16);
     let root = pages.file_control(6, 1);
     pages.packet(0, &root, 5).break_check(5).break_check(6);
@@ -430,7 +428,7 @@ fn b05_bitmap_file_before_the_root() {
 }
 
 #[test]
-fn b06_a_pointer_is_the_next_pages_number() {
+fn a_pointer_is_the_next_pages_number() {
     let mut pages = local(&[0, 3], &[]);
     pages.set_pointer(0, 3).packet(3, b"1234", 77);
     refused(&pages, 8, 3);
@@ -446,7 +444,7 @@ fn b06_a_pointer_is_the_next_pages_number() {
 }
 
 #[test]
-fn b08_bitmap_file_before_the_roots_entries() {
+fn bitmap_file_before_the_roots_entries() {
     let mut pages = Pages::new(32, 16);
     let mut root = pages.file_control(99, 1);
     root.push(b'x');
@@ -461,7 +459,7 @@ fn b08_bitmap_file_before_the_roots_entries() {
 }
 
 #[test]
-fn b12_a_chain_that_runs_into_a_later_one() {
+fn a_chain_that_runs_into_a_later_one() {
     let mut pages = local(&[0, 1, 2], &[("A", 1, 1, 1), ("B", 1, 2, 1)]);
     pages.packet(1, b"", 2).packet(2, b"", 0);
     refused(&pages, 8, 0);
@@ -471,7 +469,7 @@ fn b12_a_chain_that_runs_into_a_later_one() {
 }
 
 #[test]
-fn b13_a_chain_that_returns_to_itself() {
+fn a_chain_that_returns_to_itself() {
     let mut pages = local(&[0, 1, 2], &[("A", 1, 1, 9)]);
     pages.packet(1, b"", 2).packet(2, b"", 1);
     refused(&pages, 7, 1);
@@ -489,7 +487,7 @@ fn b13_a_chain_that_returns_to_itself() {
 }
 
 #[test]
-fn b14_start_page_0() {
+fn start_page_0() {
     for extension in [0, 99, 0x80, 0x7F, 0xFF] {
         for count in [0, 1] {
             let pages = local(&[0], &[("A", extension, 0, count)]);
@@ -535,7 +533,7 @@ fn page_that_holds_the_number() {
 
 /// With N 256 no byte is at least N: only a start page of 0 can be 6.
 #[test]
-fn b38_256_pages() {
+fn page_numbers_of_256_pages() {
     let mut pages = Pages::new(32, 256);
     let mut bits = [0_u8; 32];
     bits[0] = 0b111;
@@ -609,7 +607,7 @@ fn crossed_chains() {
 }
 
 #[test]
-fn b45_an_entry_that_starts_at_its_own_directory() {
+fn an_entry_that_starts_at_its_own_directory() {
     let mut pages = local(&[0, 2], &[("D", 0x7F, 2, 0)]);
     for extension in [1, 0x7F] {
         let count = usize::from(extension == 1);
@@ -667,7 +665,7 @@ fn page_count_of_the_bitmap_file() {
 }
 
 #[test]
-fn b16_byte_count_before_the_root_and_bits_last() {
+fn byte_count_before_the_root_and_bits_last() {
     let bad_name = b"a   \x01\x01\x01";
     refused(&with_bitmap_file(&[3], bad_name), 8, 0);
     refused(&with_bitmap_file(&[0xFF, 0xFF], bad_name), 9, 0);
@@ -680,7 +678,7 @@ fn b16_byte_count_before_the_root_and_bits_last() {
 }
 
 #[test]
-fn b17_byte_count_is_exact() {
+fn byte_count_is_exact() {
     refused(&with_bitmap_file(&[], b""), 8, 0);
     refused(&with_bitmap_file(&[3], b""), 8, 0);
     accepted(&with_bitmap_file(&[3, 0], b""));
@@ -689,7 +687,7 @@ fn b17_byte_count_is_exact() {
 }
 
 #[test]
-fn b18_empty_packets() {
+fn empty_packets() {
     let mut pages = Pages::new(32, 16);
     let root = pages.file_control(1, 3);
     pages.packet(0, &root, 4).packet(4, b"", 0);
@@ -750,7 +748,7 @@ fn chain_before_entries() {
 }
 
 #[test]
-fn b40_page_by_page() {
+fn page_by_page() {
     let mut pages = with_directory(b"\xABROOT\x00\x00", 3);
     pages.break_check(3);
     refused(&pages, 3, 2);
@@ -808,7 +806,7 @@ fn blanks_only_after() {
 }
 
 #[test]
-fn b42_backslash_is_no_name_byte() {
+fn backslash_is_no_name_byte() {
     refused(&local(&[0], &[("A\\$", 1, 1, 1)]), 9, 0);
     refused(&local(&[0], &[("\\", 1, 1, 1)]), 9, 0);
 }
@@ -828,7 +826,7 @@ fn every_extension() {
 }
 
 #[test]
-fn b21_high_bytes_and_extension_numbers() {
+fn high_bytes_and_extension_numbers() {
     for place in 1..4 {
         let mut pages = local(&[0], &[("ABCD", 200, 0, 0)]);
         pages.alter(0, 8 + place, &[0x80]);
@@ -876,7 +874,7 @@ fn page_of_the_entry() {
 }
 
 #[test]
-fn b19_a_file_and_a_directory_of_one_name() {
+fn a_file_and_a_directory_of_one_name() {
     let mut pages = local(&[0, 1, 2], &[("A", 1, 1, 1), ("A", 0x7F, 2, 0)]);
     let body = sub(&pages, "ROOT", 0, &[]);
     pages.packet(1, b"x", 0).packet(2, &body, 0);
@@ -916,7 +914,7 @@ fn same_name_in_two_directories() {
 }
 
 #[test]
-fn b20_twice_after_everything_below_the_earlier_entry() {
+fn twice_after_everything_below_the_earlier_entry() {
     let mut pages = local(&[0, 1], &[("A", 0x7F, 1, 0), ("A", 0xFF, 1, 0)]);
     let body = sub(&pages, "ROOT", 0, &[("a", 1, 9, 1)]);
     pages.packet(1, &body, 0);
@@ -940,7 +938,7 @@ fn nested(levels: usize, last: &[(&str, u8, usize, usize)]) -> Pages {
 }
 
 #[test]
-fn b44_level_nine() {
+fn a_directory_at_level_nine() {
     accepted(&nested(8, &[]));
     // Count and start page come after; twice comes before.
     for (start, count) in [(9, 0), (0, 0), (9, 9), (99, 9)] {
@@ -956,7 +954,7 @@ fn b44_level_nine() {
 }
 
 #[test]
-fn b44_a_file_at_level_eight() {
+fn a_file_at_level_eight() {
     let marked: Vec<usize> = (0..10).collect();
     let mut pages = nested(8, &[("F", 5, 9, 1)]);
     pages.packet(9, b"deep", 0);
@@ -1009,7 +1007,7 @@ fn every_bit_of_a_bitmap_file() {
 }
 
 #[test]
-fn b15_bits_from_n_up() {
+fn bits_from_n_up() {
     let mut pages = Pages::new(32, 16);
     pages.packet(0, &[0xAA, 0, 0x80, 1, 0, 0, 0x80], 0);
     refused(&pages, 13, 31);
@@ -1025,7 +1023,7 @@ fn b15_bits_from_n_up() {
 
 /// The highest page that an answer can tell: bit 65,535 of N 65,535.
 #[test]
-fn b15_bit_65535() {
+fn bit_65535() {
     let mut button = Button::zeros(32, 65_535);
     assert_eq!(button.format(false).0, answer(0, 0));
     let mut pages = button.pages();

@@ -1,7 +1,5 @@
 //! Random images whose answers are known by construction, sound and with one fault.
 
-mod common;
-
 use common::generators::{deep_image, random_sizes};
 use common::{answer, numbers, Button, Seed};
 use referee::builder::fault::{with_fault, with_random_changes};

@@ -1,7 +1,5 @@
 //! The largest images.
 
-mod common;
-
 use std::time::Instant;
 
 use common::generators::largest_image;

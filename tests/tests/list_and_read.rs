@@ -2,153 +2,15 @@
 //! every field of the answers and every byte of the lent memory. Where an image is known by construction, so is the answer.
 //! The archive is made by `rt staticlib owfs`.
 
-mod common;
-
 use common::generators::{
-    damaged_case, deep_image, fault_case, features, flip, labelled_out_bytes, labelled_owner_bytes,
-    labelled_position, largest_image, random_path, sound_case, two_faults_case, Case, Made, Wanted,
+    damaged_case, deep_image, fault_case, features, flip, largest_image, sound_case,
+    two_faults_case, Case, Made, OWNER_TABLES,
 };
+use common::trials::{absent, Trial};
 use common::{answer, both, Button, Seed, Tally};
 use referee::builder::pages::{name, Pages};
-use referee::builder::plan::{Built, BuiltEntry, ChainOf};
 use referee::builder::random::random_name;
 use referee::rng::Rng;
-use referee::{Answer, Length, Listing};
-
-/// The calls with one image, and the counts of what was met.
-struct Trial<'a> {
-    case: &'a Case,
-    rng: &'a mut Rng,
-    tally: &'a mut Tally,
-}
-
-impl Trial<'_> {
-    /// One check, and some listings and reads.
-    fn run(&mut self) {
-        self.check();
-        let few = self.case.built.entries.len() <= 25;
-        if self.case.made == Made::Sound && few && self.rng.chance(10) {
-            return self.all_entries();
-        }
-        for _ in 0..3 {
-            let (label, position) = labelled_position(self.case.built.entries.len(), self.rng);
-            self.tally.add(label);
-            self.list(position);
-        }
-        for _ in 0..3 {
-            let wanted = random_path(&self.case.built, self.rng);
-            self.read(&wanted);
-        }
-    }
-
-    /// Lists every position and reads every file.
-    fn all_entries(&mut self) {
-        let entries = &self.case.built.entries;
-        for position in 0..=entries.len() {
-            self.list(position as u32);
-        }
-        for entry in entries {
-            self.read(&Wanted {
-                label: "path of each entry",
-                path: entry.path.clone(),
-                file_bytes: entry.bytes.len(),
-            });
-        }
-    }
-
-    /// Bytes for an owner table.
-    fn owner_bytes(&mut self) -> usize {
-        let (label, bytes) = labelled_owner_bytes(self.case.button.page_count, self.rng);
-        self.tally.add(label);
-        bytes
-    }
-
-    /// Whether the image is known to be accepted with an owner table of so many bytes.
-    fn known_accepted(&self, owner_bytes: usize) -> bool {
-        self.case.made == Made::Sound && self.case.known_refusal(owner_bytes).is_none()
-    }
-
-    /// Demands a known refusal.
-    fn demand(&self, owner_bytes: usize, told: Answer) {
-        if let Some(refusal) = self.case.known_refusal(owner_bytes) {
-            assert_eq!(told, refusal, "known by construction");
-        }
-    }
-
-    /// A check.
-    fn check(&mut self) {
-        let owner_bytes = self.owner_bytes();
-        let told = both::check(&self.case.button, owner_bytes, self.rng);
-        self.tally.add(format!("check {}", told.number));
-        self.demand(owner_bytes, answer(told.number, told.page));
-        if self.known_accepted(owner_bytes) {
-            assert_eq!(told, self.case.built.totals, "known by construction");
-        }
-    }
-
-    /// A listing.
-    fn list(&mut self, position: u32) {
-        let owner_bytes = self.owner_bytes();
-        let told = both::list(&self.case.button, owner_bytes, position, self.rng);
-        self.tally.add(format!("list {}", told.number));
-        self.demand(owner_bytes, answer(told.number, told.page));
-        if self.known_accepted(owner_bytes) {
-            let entry = self.case.built.entries.get(position as usize);
-            let expected = entry.map_or(absent(), |entry| entry.listing);
-            assert_eq!(told, expected, "known by construction, position {position}");
-        }
-    }
-
-    /// A read.
-    fn read(&mut self, wanted: &Wanted) {
-        let owner_bytes = self.owner_bytes();
-        let (out_label, out_bytes) = labelled_out_bytes(wanted.file_bytes, self.rng);
-        let (told, bytes) = both::read_bytes(
-            &self.case.button,
-            owner_bytes,
-            &wanted.path,
-            out_bytes,
-            self.rng,
-        );
-        self.tally.add(format!("read {}", told.number));
-        self.demand(owner_bytes, answer(told.number, told.page));
-        if self.known_accepted(owner_bytes) {
-            self.tally.add(out_label);
-            self.tally.add(format!("{}: {}", wanted.label, told.number));
-            self.demand_file(&wanted.path, out_bytes, told, &bytes);
-        }
-    }
-
-    /// Demands the answer of a read that the plan gives: the file's bytes, 18, or 14 or 15 if there is no such file.
-    fn demand_file(&self, path: &[u8], out_bytes: usize, told: Length, bytes: &[u8]) {
-        let Some(file) = find_file(&self.case.built, path) else {
-            let missing = answer(told.number, told.page);
-            assert!(missing == answer(14, 0) || missing == answer(15, 0));
-            return;
-        };
-        let length = file.bytes.len();
-        if length > out_bytes {
-            assert_eq!(answer(told.number, told.page), answer(18, 0));
-        } else {
-            assert_eq!((told.number, told.length as usize), (0, length));
-            assert_eq!(bytes, file.bytes);
-        }
-    }
-}
-
-/// The file with this path.
-fn find_file<'a>(built: &'a Built, path: &[u8]) -> Option<&'a BuiltEntry> {
-    let mut entries = built.entries.iter();
-    entries.find(|entry| built.chains[entry.chain].of == ChainOf::File && entry.path == path)
-}
-
-/// The answer of a listing at or past the end.
-fn absent() -> Listing {
-    Listing {
-        number: 15,
-        ..Listing::default()
-    }
-}
 
 /// Runs so many cases, each from a seed of its own.
 fn run_cases(
@@ -171,19 +33,9 @@ fn run_cases(
             rng: &mut rng,
             tally,
         };
-        trial.run();
+        trial.reads();
     }
 }
-
-/// The labels of owner tables.
-const OWNER_TABLES: [&str; 6] = [
-    "owner table just long enough",
-    "owner table one byte longer",
-    "owner table longer",
-    "owner table one byte too short",
-    "owner table too short",
-    "no owner table",
-];
 
 /// The labels of outputs.
 const OUTPUTS: [&str; 7] = [
@@ -357,7 +209,7 @@ fn images_of_65535_pages() {
                 rng: &mut rng,
                 tally: &mut tally,
             };
-            trial.run();
+            trial.reads();
         }
     }
     tally.print();

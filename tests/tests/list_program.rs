@@ -1,25 +1,8 @@
 //! The program `list`, started for each dump, against the second program: each byte printed. `rt check` and `rt ci` make it.
 
-mod common;
-
-use common::dumps::{dump, faulty_dump, list_program, malformed_dump, sound_dump};
+use common::dumps::{compare, dump, faulty_dump, malformed_dump, sound_dump};
 use common::{Button, Seed, Tally};
-use referee::list_text;
 use referee::rng::Rng;
-
-/// Demands what the second program prints for a dump, and counts its first words.
-fn compare(dump: &[u8], tally: &mut Tally) -> String {
-    let expected = String::from_utf8(list_text(dump)).expect("ASCII");
-    let printed = String::from_utf8_lossy(&list_program(dump)).into_owned();
-    assert_eq!(printed, expected);
-    let words: Vec<&str> = expected.split_whitespace().take(2).collect();
-    let answer = match words[..] {
-        ["refused", number] => format!("refused {number}"),
-        _ => String::from("accepted 0"),
-    };
-    tally.add(&answer);
-    answer
-}
 
 #[test]
 fn sound_dumps() {

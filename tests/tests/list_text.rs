@@ -1,7 +1,5 @@
 //! What the program `list` prints.
 
-mod common;
-
 use common::dumps::dump;
 use common::{answer, Button};
 use referee::builder::pages::Pages;

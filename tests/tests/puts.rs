@@ -2,18 +2,16 @@
 //! bytes next to them. Where an image is known by construction, so are the answer and the image afterwards.
 //! The archive is made by `rt staticlib owfs`.
 
-mod common;
-
 use common::generators::{
-    any_length, any_number, counted_owner_bytes, deep_image, faulty_case, files, flip, is_enough,
-    labelled_local, largest_image, misfit, random_path, random_sizes, worn_plan, Case,
-    OWNER_TABLES,
+    any_button, counted_owner_bytes, deep_image, faulty_case, files, flip, is_enough,
+    labelled_local, largest_image, misfit, random_sizes, OWNER_TABLES,
 };
 use common::plans::{formatted_plan, is_path, overlaid, plan_with, Room};
 use common::puts::{
-    count_room, crowded_plan, done_features, labelled_path, random_bytes, thinned_plan, DONE,
-    ENTRIES, ROOM,
+    count_room, done_features, labelled_path, random_bytes, thinned_plan, used_plan, DONE, ENTRIES,
+    ROOM,
 };
+use common::trials::Trial;
 use common::{answer, both, run_seeds, Button, Seed, Tally};
 use referee::builder::pages::{path, Pages};
 use referee::builder::plan::{Built, ImagePlan};
@@ -48,13 +46,13 @@ const PATHS: [&str; 22] = [
 ];
 
 /// A plan, its image, and the counts of what was met.
-struct Trial<'a> {
+struct Planned<'a> {
     plan: &'a ImagePlan,
     built: &'a Built,
     tally: &'a mut Tally,
 }
 
-impl Trial<'_> {
+impl Planned<'_> {
     /// Puts bytes to a path in a copy of the image; the answer and the image afterwards are the plan's.
     fn put(&mut self, label: &str, path: &[u8], bytes: &[u8], rng: &mut Rng) {
         let mut button = Button::from(self.built);
@@ -103,13 +101,9 @@ impl Trial<'_> {
 fn puts_into_sound_images() {
     let mut tally = Tally::default();
     run_seeds(0xC000_0000..0xC000_0000 + 3_500, |seed, rng| {
-        let plan = match seed % 3 {
-            0 => worn_plan(rng),
-            1 => thinned_plan(rng),
-            _ => crowded_plan(rng),
-        };
+        let plan = used_plan(seed, rng);
         let built = plan.build();
-        let mut trial = Trial {
+        let mut planned = Planned {
             plan: &plan,
             built: &built,
             tally: &mut tally,
@@ -117,7 +111,7 @@ fn puts_into_sound_images() {
         for _ in 0..3 {
             let (label, path) = labelled_path(&plan, &built, rng);
             let bytes = random_bytes(&plan, &path, rng);
-            trial.put(label, &path, &bytes, rng);
+            planned.put(label, &path, &bytes, rng);
         }
     });
     tally.print();
@@ -184,29 +178,19 @@ fn demand_file(button: &Button, built: &Built, path: &[u8], rng: &mut Rng) {
     assert_eq!(bytes, file.bytes);
 }
 
-/// A put to an image that is not accepted, or with arguments that do not fit.
-fn put_to(case: &Case, tally: &mut Tally, rng: &mut Rng) {
-    for _ in 0..2 {
-        let path = random_path(&case.built, rng).path;
-        let length = [0, rng.below(60), rng.below(3_000)][rng.below(3)];
-        let bytes = rng.bytes(length);
-        let mut button = case.button.clone();
-        let owner_bytes = counted_owner_bytes(button.page_count, rng, tally);
-        let told = both::put(&mut button, owner_bytes, &path, &bytes, rng);
-        tally.add("puts");
-        tally.add(format!("put {}", told.number));
-        if let Some(refusal) = case.known_refusal(owner_bytes) {
-            assert_eq!(told, refusal, "known by construction");
-        }
-    }
-}
-
 /// Each number from 2 to 13, with the page known; pairs of them; damage of any kind; arguments that do not fit.
 #[test]
 fn puts_into_faulty_images() {
     let mut tally = Tally::default();
     run_seeds(0xC200_0000..0xC200_0000 + 2_500, |seed, rng| {
-        put_to(&faulty_case(seed, rng), &mut tally, rng);
+        let case = faulty_case(seed, rng);
+        let mut trial = Trial {
+            case: &case,
+            rng,
+            tally: &mut tally,
+        };
+        trial.put();
+        trial.put();
     });
     tally.print();
     tally.demand(5_000, &["puts"]);
@@ -297,21 +281,13 @@ fn puts_into_65535_pages() {
 fn any_arguments() {
     let mut tally = Tally::default();
     run_seeds(0xC800_0000..0xC800_0000 + 4_000, |_, rng| {
-        let page_length = any_number(&[0, 31, 32, 33, 64, 256, 257, 65_568], rng);
-        let page_count = any_number(&[0, 1, 2, 16, 31, 32, 256, 257, 65_535, 65_536], rng);
-        let image_bytes = any_length(u64::from(page_length) * u64::from(page_count), rng);
-        let table = any_length(2 * u64::from(page_count), rng);
+        let (mut button, table) = any_button(rng);
         let path_bytes = rng.below(60);
         let bad_path = rng.bytes(path_bytes);
         let mut good_path = random_name(rng).to_vec();
         good_path.push(rng.below(100) as u8);
         let length = [0, rng.below(100), rng.below(20_000)][rng.below(3)];
         let bytes = rng.bytes(length);
-        let mut button = Button {
-            page_length,
-            page_count,
-            image: rng.bytes(image_bytes),
-        };
         let told = both::put(&mut button, table, &bad_path, &bytes, rng);
         tally.add("puts");
         tally.add(format!("put {}", told.number));

@@ -1,8 +1,6 @@
 //! Each refusal that a call of the library can give: number and page, every other field 0, and what it leaves in the lent memory.
 //! The archive is made by `rt staticlib owfs`.
 
-mod common;
-
 use common::generators::{damaged_case, deep_image, fault_case, files, Case, Made};
 use common::plans::geometry;
 use common::{answer, library, Button, Seed};

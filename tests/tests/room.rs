@@ -13,8 +13,6 @@
 //! The library must answer 17 exactly if no pair fits, and else leave a candidate; none has fewer pages in use.
 //! The archive is made by `rt staticlib owfs`.
 
-mod common;
-
 use std::collections::{BTreeMap, BTreeSet};
 
 use common::plans::{directory_mut, file_place, geometry, split, Room};

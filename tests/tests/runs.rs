@@ -1,7 +1,5 @@
 //! Long seeded runs of format, put, delete and read, with what must hold after each call.
 
-mod common;
-
 use std::collections::{BTreeMap, BTreeSet};
 
 use common::{answer, Button, Seed};

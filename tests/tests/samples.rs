@@ -1,7 +1,5 @@
 //! Every dump in `samples/` with the text that stands beside it: the second program's and what the program `list` prints.
 
-mod common;
-
 use std::fs;
 use std::path::{Path, PathBuf};
 

@@ -1,6 +1,7 @@
 //! Seeded images, paths, positions and lengths, for the tests of the library's calls.
 
-use super::{answer, Button, Tally};
+use crate::plans::geometry;
+use crate::{answer, Button, Tally};
 use referee::builder::fault::{
     with_fault, with_random_changes, with_sealed_flips, with_two_faults,
 };
@@ -28,6 +29,36 @@ pub enum Made {
     Packets,
     /// Page length, page count or image length changed.
     Misfit,
+    /// Any numbers and bytes.
+    Any,
+}
+
+/// The kinds of cases.
+#[derive(Clone, Copy, Debug)]
+pub enum Kind {
+    Sound,
+    /// With a fault of this number, 2 to 13.
+    OneFault(u32),
+    /// With faults of these numbers, 2 to 13.
+    TwoFaults([u32; 2]),
+    /// Made like this, without regard to the structure: sealed, flipped, packets or misfit.
+    Damaged(Made),
+}
+
+impl Kind {
+    /// One of each kind, with faults of random numbers.
+    pub fn each(rng: &mut Rng) -> [Kind; 7] {
+        let [one, first, second] = [(); 3].map(|()| rng.between(2, 13) as u32);
+        [
+            Kind::Sound,
+            Kind::OneFault(one),
+            Kind::TwoFaults([first, second]),
+            Kind::Damaged(Made::Sealed),
+            Kind::Damaged(Made::Flipped),
+            Kind::Damaged(Made::Packets),
+            Kind::Damaged(Made::Misfit),
+        ]
+    }
 }
 
 /// An image to call the library with, and the plan's image that it comes from.
@@ -92,7 +123,7 @@ pub fn deep_shape(geometry: &Geometry, rng: &mut Rng) -> Shape {
 /// A sound image nested down to level eight, if its pages are enough for it.
 pub fn deep_image(rng: &mut Rng) -> Built {
     let (page_length, page_count) = (rng.between(32, 256) as u32, rng.between(20, 300) as u32);
-    let geometry = Geometry::new(page_length, page_count).expect("P and N within their limits");
+    let geometry = geometry(page_length, page_count);
     let shape = deep_shape(&geometry, rng);
     random_plan(page_length, page_count, shape, rng).build()
 }
@@ -121,12 +152,33 @@ pub fn largest_image(
     random_plan(page_length, 65_535, shape, &mut Rng::new(seed)).build()
 }
 
+/// A sound image of thousands of pages, often 65,535, with up to 2,000 entries in a directory.
+pub fn large_image(rng: &mut Rng) -> Built {
+    let counts = [
+        65_535,
+        65_535,
+        65_534,
+        65_528,
+        32_768,
+        rng.between(5_001, 65_535),
+    ];
+    let page_count = counts[rng.below(counts.len())] as u32;
+    let (page_length, _) = random_sizes(rng, 2);
+    let geometry = geometry(page_length, page_count);
+    let shape = Shape::random(&geometry, rng);
+    let shape = Shape {
+        most_entries: shape.most_entries.min(2_000),
+        ..shape
+    };
+    random_plan(page_length, page_count, shape, rng).build()
+}
+
 /// A plan with something to delete or replace: chains mostly scattered, packets often partly filled or empty, those of a bitmap file too;
 /// one in five is nested down to level eight.
 pub fn worn_plan(rng: &mut Rng) -> ImagePlan {
     let limit = random_limit(rng).min(1_000);
     let (page_length, page_count) = random_sizes(rng, limit);
-    let geometry = Geometry::new(page_length, page_count).expect("P and N within their limits");
+    let geometry = geometry(page_length, page_count);
     let shape = if rng.chance(20) {
         deep_shape(&geometry, rng)
     } else {
@@ -171,62 +223,78 @@ fn sound_image(rng: &mut Rng) -> Built {
     random_image(page_length, page_count, rng)
 }
 
+/// A random case of this kind.
+pub fn random_case(kind: Kind, rng: &mut Rng) -> Case {
+    loop {
+        let built = match kind {
+            Kind::OneFault(12) => deep_image(rng),
+            Kind::TwoFaults(numbers) if numbers.contains(&12) => deep_image(rng),
+            _ => sound_image(rng),
+        };
+        if let Some(case) = case_of(kind, built, rng) {
+            return case;
+        }
+    }
+}
+
 /// A sound image as a case.
 pub fn sound_case(rng: &mut Rng) -> Case {
-    let built = sound_image(rng);
-    Case {
-        made: Made::Sound,
-        button: Button::from(&built),
-        built,
-    }
+    random_case(Kind::Sound, rng)
 }
 
 /// An image with a fault of this number (2 to 13), known by construction.
 pub fn fault_case(number: u32, rng: &mut Rng) -> Case {
-    loop {
-        let built = match number {
-            12 => deep_image(rng),
-            _ => sound_image(rng),
-        };
-        if let Some((image, answer)) = with_fault(&built, number, rng) {
-            return changed(built, image, Made::OneFault(answer));
-        }
-    }
+    random_case(Kind::OneFault(number), rng)
 }
 
 /// An image with faults of these two numbers (2 to 13).
 pub fn two_faults_case(numbers: [u32; 2], rng: &mut Rng) -> Case {
-    loop {
-        let built = if numbers.contains(&12) {
-            deep_image(rng)
-        } else {
-            sound_image(rng)
-        };
-        if let Some(image) = with_two_faults(&built, numbers, rng) {
-            return changed(built, image, Made::TwoFaults);
-        }
-    }
+    random_case(Kind::TwoFaults(numbers), rng)
 }
 
 /// An image damaged without regard to its structure.
 pub fn damaged_case(made: Made, rng: &mut Rng) -> Case {
-    let built = sound_image(rng);
-    let (page_length, page_count) = (built.page_length, built.page_count);
-    let image = match made {
-        Made::Sealed if rng.chance(50) => with_random_changes(&built, rng),
-        Made::Sealed => with_sealed_flips(&built, rng),
-        Made::Packets => random_packets(page_length, page_count, rng),
+    random_case(Kind::Damaged(made), rng)
+}
+
+/// A case of a built image; none if it has no place for the faults.
+pub fn case_of(kind: Kind, built: Built, rng: &mut Rng) -> Option<Case> {
+    let (image, made) = match kind {
+        Kind::Sound => (built.image.clone(), Made::Sound),
+        Kind::OneFault(number) => {
+            let (image, answer) = with_fault(&built, number, rng)?;
+            (image, Made::OneFault(answer))
+        }
+        Kind::TwoFaults(numbers) => (with_two_faults(&built, numbers, rng)?, Made::TwoFaults),
+        Kind::Damaged(made) => (damaged_image(&built, made, rng), made),
+    };
+    let button = Button {
+        image,
+        ..Button::from(&built)
+    };
+    let mut case = Case {
+        made,
+        button,
+        built,
+    };
+    if made == Made::Misfit {
+        misfit(&mut case.button, rng);
+    }
+    Some(case)
+}
+
+/// The image damaged without regard to its structure.
+fn damaged_image(built: &Built, made: Made, rng: &mut Rng) -> Vec<u8> {
+    match made {
+        Made::Sealed if rng.chance(50) => with_random_changes(built, rng),
+        Made::Sealed => with_sealed_flips(built, rng),
+        Made::Packets => random_packets(built.page_length, built.page_count, rng),
         _ => {
             let mut image = built.image.clone();
             flip(&mut image, rng);
             image
         }
-    };
-    let mut case = changed(built, image, made);
-    if made == Made::Misfit {
-        misfit(&mut case.button, rng);
     }
-    case
 }
 
 /// An image that is not accepted, or numbers that do not fit it; `kind` chooses one fault of each number, pairs of them or another damage.
@@ -241,19 +309,6 @@ pub fn faulty_case(kind: u64, rng: &mut Rng) -> Case {
         16 | 17 => damaged_case(Made::Flipped, rng),
         18 => damaged_case(Made::Packets, rng),
         _ => damaged_case(Made::Misfit, rng),
-    }
-}
-
-/// A case of a built image whose bytes were changed.
-fn changed(built: Built, image: Vec<u8>, made: Made) -> Case {
-    let button = Button {
-        image,
-        ..Button::from(&built)
-    };
-    Case {
-        made,
-        button,
-        built,
     }
 }
 
@@ -381,6 +436,29 @@ pub fn any_length(fitting: u64, rng: &mut Rng) -> usize {
         0 => rng.below(2_000),
         1 => (fitting + rng.below(3)).saturating_sub(1),
         _ => fitting,
+    }
+}
+
+/// Any bytes with numbers that they often fit, and bytes of an owner table.
+pub fn any_button(rng: &mut Rng) -> (Button, usize) {
+    let page_length = any_number(&[0, 31, 32, 33, 64, 256, 257, 65_568], rng);
+    let page_count = any_number(&[0, 1, 2, 16, 31, 32, 256, 257, 65_535, 65_536], rng);
+    let image_bytes = any_length(u64::from(page_length) * u64::from(page_count), rng);
+    let table = any_length(2 * u64::from(page_count), rng);
+    let button = Button {
+        page_length,
+        page_count,
+        image: rng.bytes(image_bytes),
+    };
+    (button, table)
+}
+
+/// Any bytes as a case; paths and positions are those of a small image.
+pub fn any_case(rng: &mut Rng) -> Case {
+    Case {
+        made: Made::Any,
+        button: any_button(rng).0,
+        built: random_image(32, 31, rng),
     }
 }
 

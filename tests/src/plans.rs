@@ -1,6 +1,6 @@
 //! What format, put and delete make of an image, worked out on its plan: the answer and every byte afterwards are known by construction.
 
-use super::Button;
+use crate::Button;
 use referee::builder::plan::{
     BitmapPlan, Built, Chain, DirectoryPlan, FilePlan, Fill, ImagePlan, Item,
 };

@@ -1,6 +1,6 @@
 //! Every small tree of some number of pages, as a plan: files, and perhaps a subdirectory, whose pages of entries are full or not.
 
-use super::plans::{directories, geometry};
+use crate::plans::{directories, geometry};
 use referee::builder::pages::name;
 use referee::builder::plan::{BitmapPlan, Chain, DirectoryPlan, FilePlan, Fill, ImagePlan, Item};
 use referee::geometry::Geometry;

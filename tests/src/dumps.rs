@@ -4,10 +4,11 @@ use std::io::{ErrorKind, Write};
 use std::path::{Path, PathBuf};
 use std::process::{Command, Stdio};
 
-use super::generators::{
+use crate::generators::{
     damaged_case, fault_case, misfit, sound_case, two_faults_case, Case, Made,
 };
-use super::Button;
+use crate::{Button, Tally};
+use referee::list_text;
 use referee::rng::Rng;
 
 /// The greatest offset, and the most bytes after it.
@@ -38,6 +39,20 @@ pub fn list_program(dump: &[u8]) -> Vec<u8> {
     assert!(output.status.code().is_some(), "{}", output.status);
     assert!(output.stderr.is_empty(), "nothing on standard error");
     output.stdout
+}
+
+/// Demands what the second program prints for a dump, and counts its first words.
+pub fn compare(dump: &[u8], tally: &mut Tally) -> String {
+    let expected = String::from_utf8(list_text(dump)).expect("ASCII");
+    let printed = String::from_utf8_lossy(&list_program(dump)).into_owned();
+    assert_eq!(printed, expected);
+    let words: Vec<&str> = expected.split_whitespace().take(2).collect();
+    let answer = match words[..] {
+        ["refused", number] => format!("refused {number}"),
+        _ => String::from("accepted 0"),
+    };
+    tally.add(&answer);
+    answer
 }
 
 /// A dump: header, bytes up to the offset, image.

@@ -3,10 +3,10 @@
 //! Every field of the answers is compared, and every byte of the lent memory afterwards: of the owner table, of the output, of
 //! an image that is edited, of the path and of a file's bytes with some bytes before and after them, and of any other image.
 
-use std::fmt::Debug;
+use std::fmt::{Arguments, Debug};
 
-use super::library;
-use super::Button;
+use crate::library;
+use crate::Button;
 use referee::rng::Rng;
 use referee::{Answer, Length, Listing, Totals};
 
@@ -53,9 +53,11 @@ impl Lent {
 }
 
 /// Demands one answer from two calls, each with an owner table of the same random bytes, and equal bytes in the tables afterwards.
+/// What is called stands in the message if they differ.
 fn equal<T: PartialEq + Debug>(
     button: &Button,
     owner_bytes: usize,
+    call: Arguments,
     rng: &mut Rng,
     second: impl FnOnce(&mut [u8]) -> T,
     library: impl FnOnce(&mut [u8]) -> T,
@@ -65,9 +67,13 @@ fn equal<T: PartialEq + Debug>(
     let before = button.image.clone();
     let expected = second(expected_owners.slice());
     let told = library(owners.slice());
-    assert_eq!(told, expected, "library and second program");
-    assert!(owners == expected_owners, "owner bytes");
-    assert!(button.image == before, "the image is not written");
+    let (p, n) = (button.page_length, button.page_count);
+    assert_eq!(
+        told, expected,
+        "library and second program: {call}, {n} pages of {p} bytes, {owner_bytes} owner bytes"
+    );
+    assert!(owners == expected_owners, "owner bytes after {call}");
+    assert!(button.image == before, "the image is not written by {call}");
     expected
 }
 
@@ -96,6 +102,7 @@ pub fn check(button: &Button, owner_bytes: usize, rng: &mut Rng) -> Totals {
     equal(
         button,
         owner_bytes,
+        format_args!("check"),
         rng,
         |owners| referee::check(p, n, image, owners),
         |owners| library::check(p, n, image, owners),
@@ -108,6 +115,7 @@ pub fn list(button: &Button, owner_bytes: usize, position: u32, rng: &mut Rng) -
     equal(
         button,
         owner_bytes,
+        format_args!("list of position {position}"),
         rng,
         |owners| referee::list(p, n, image, owners, position),
         |owners| library::list(p, n, image, owners, position),
@@ -140,6 +148,7 @@ pub fn read_bytes(
     let length = equal(
         button,
         owner_bytes,
+        format_args!("read of {path:?} into {out_bytes} bytes"),
         rng,
         |owners| referee::read(p, n, image, path, expected_out.slice(), owners),
         |owners| library::read(p, n, image, lent_path.slice(), out.slice(), owners),
@@ -155,6 +164,7 @@ pub fn format(button: &mut Button, owner_bytes: usize, local: u32, rng: &mut Rng
     edit(
         button,
         owner_bytes,
+        format_args!("format with local {local}"),
         rng,
         |image, owners| referee::format(p, n, image, owners, local),
         |image, owners| library::format(p, n, image, owners, local),
@@ -175,6 +185,7 @@ pub fn put(
     let told = edit(
         button,
         owner_bytes,
+        format_args!("put of {} bytes to {path:?}", bytes.len()),
         rng,
         |image, owners| referee::put(p, n, image, path, bytes, owners),
         |image, owners| {
@@ -197,6 +208,7 @@ pub fn delete(button: &mut Button, owner_bytes: usize, path: &[u8], rng: &mut Rn
     let told = edit(
         button,
         owner_bytes,
+        format_args!("delete of {path:?}"),
         rng,
         |image, owners| referee::delete(p, n, image, path, owners),
         |image, owners| library::delete(p, n, image, lent_path.slice(), owners),
@@ -210,6 +222,7 @@ pub fn delete(button: &mut Button, owner_bytes: usize, path: &[u8], rng: &mut Rn
 fn edit(
     button: &mut Button,
     owner_bytes: usize,
+    call: Arguments,
     rng: &mut Rng,
     second: impl FnOnce(&mut [u8], &mut [u8]) -> Answer,
     library: impl FnOnce(&mut [u8], &mut [u8]) -> Answer,
@@ -219,27 +232,28 @@ fn edit(
     let told = equal(
         button,
         owner_bytes,
+        call,
         rng,
         |owners| second(expected_image.slice(), owners),
         |owners| library(image.slice(), owners),
     );
-    same_image(button.page_length, &image, &expected_image);
+    same_image(button.page_length, &image, &expected_image, call);
     if told.number != 0 {
         let same = image.slice() == button.image;
-        assert!(same, "a refusal changes no byte of the image");
+        assert!(same, "a refusal changes no byte of the image: {call}");
     }
     button.image.copy_from_slice(image.slice());
     told
 }
 
 /// Demands equal bytes of two images and next to them; the first that differs is told by its page and its place there.
-fn same_image(page_length: u32, image: &Lent, expected: &Lent) {
+fn same_image(page_length: u32, image: &Lent, expected: &Lent, call: Arguments) {
     let mut pairs = image.bytes.iter().zip(&expected.bytes);
     if let Some(place) = pairs.position(|(byte, other)| byte != other) {
         let place = place as i64 - MARGIN as i64;
         let length = i64::from(page_length.max(1));
         panic!(
-            "image byte {} of page {}",
+            "image byte {} of page {} after {call}",
             place.rem_euclid(length),
             place.div_euclid(length)
         );

@@ -1,49 +1,72 @@
-//! The library's exported functions as `include/owfs.h` declares them, called with slices.
-//! The archive is made by `rt staticlib owfs`.
-#![allow(dead_code)]
+//! The seven functions of `include/owfs.h` over slices, with the answers as C has them: number and page beside every other field.
+//!
+//! This is the only module with unsafe code. The functions of the crate's root are made of these and are what most callers want; these are for
+//! those who compare whole answers, the fields of a refusal too.
+//!
+//! A slice that a call writes overlaps no other, since it is borrowed for the call alone; slices that are only read may overlap.
 
-use referee::{Answer, Length, Listing, Totals};
-
-/// `struct owfs_totals`.
+/// `struct owfs_totals`: number 0, page 0 and the totals, or a refusal's number and page with every other field 0.
 #[repr(C)]
-struct OwfsTotals {
-    number: u32,
-    page: u32,
-    used: u32,
-    files: u32,
-    directories: u32,
+#[derive(Clone, Copy, Debug, PartialEq, Eq, Hash)]
+pub struct Totals {
+    /// 0, or the refusal's number.
+    pub number: u32,
+    /// The page that the refusal tells.
+    pub page: u32,
+    /// Pages in use.
+    pub used: u32,
+    /// Files; the bitmap file is not counted.
+    pub files: u32,
+    /// Directories; the root is not counted.
+    pub directories: u32,
 }
 
-/// `struct owfs_entry`.
+/// `struct owfs_entry`: number 0, page 0 and what a line of `list` shows, or a refusal's number and page with every other field 0.
 #[repr(C)]
-struct OwfsEntry {
-    number: u32,
-    page: u32,
-    level: u32,
-    name: u32,
-    extension: u32,
-    attribute: u32,
-    start: u32,
-    pages: u32,
-    length: u32,
+#[derive(Clone, Copy, Debug, PartialEq, Eq, Hash)]
+pub struct Entry {
+    /// 0, or the refusal's number.
+    pub number: u32,
+    /// The page that the refusal tells.
+    pub page: u32,
+    /// The level of the directory that holds the entry, 0 for the root.
+    pub level: u32,
+    /// The four bytes of the name as stored, blanks too, the first byte lowest.
+    pub name: u32,
+    /// The extension number: 0 to 99 a file, 127 a directory.
+    pub extension: u32,
+    /// 1 for a read-only file or a hidden directory, else 0.
+    pub attribute: u32,
+    /// The start page.
+    pub start: u32,
+    /// The pages as in the entry, 0 for a directory.
+    pub pages: u32,
+    /// The bytes of a file, 0 for a directory.
+    pub length: u32,
 }
 
-/// `struct owfs_length`.
+/// `struct owfs_length`: number 0, page 0 and the file's length, or a refusal's number and page with length 0.
 #[repr(C)]
-struct OwfsLength {
-    number: u32,
-    page: u32,
-    length: u32,
+#[derive(Clone, Copy, Debug, PartialEq, Eq, Hash)]
+pub struct Length {
+    /// 0, or the refusal's number.
+    pub number: u32,
+    /// The page that the refusal tells.
+    pub page: u32,
+    /// The bytes of the file.
+    pub length: u32,
 }
 
-/// `struct owfs_answer`.
+/// `struct owfs_answer`: number 0 and page 0, or a refusal's number and page.
 #[repr(C)]
-struct OwfsAnswer {
-    number: u32,
-    page: u32,
+#[derive(Clone, Copy, Debug, PartialEq, Eq, Hash)]
+pub struct Answer {
+    /// 0, or the refusal's number.
+    pub number: u32,
+    /// The page that the refusal tells.
+    pub page: u32,
 }
 
-#[link(name = "owfs", kind = "static")]
 extern "C" {
     fn owfs_crc16(start: u16, bytes: *const u8, length: usize) -> u16;
 
@@ -54,7 +77,7 @@ extern "C" {
         image_length: usize,
         owners: *mut u8,
         owners_length: usize,
-    ) -> OwfsTotals;
+    ) -> Totals;
 
     fn owfs_list(
         page_length: u32,
@@ -64,7 +87,7 @@ extern "C" {
         owners: *mut u8,
         owners_length: usize,
         position: u32,
-    ) -> OwfsEntry;
+    ) -> Entry;
 
     fn owfs_read(
         page_length: u32,
@@ -77,7 +100,7 @@ extern "C" {
         out_length: usize,
         owners: *mut u8,
         owners_length: usize,
-    ) -> OwfsLength;
+    ) -> Length;
 
     fn owfs_format(
         page_length: u32,
@@ -87,7 +110,7 @@ extern "C" {
         owners: *mut u8,
         owners_length: usize,
         local: u32,
-    ) -> OwfsAnswer;
+    ) -> Answer;
 
     fn owfs_put(
         page_length: u32,
@@ -100,7 +123,7 @@ extern "C" {
         bytes_length: usize,
         owners: *mut u8,
         owners_length: usize,
-    ) -> OwfsAnswer;
+    ) -> Answer;
 
     fn owfs_delete(
         page_length: u32,
@@ -111,17 +134,19 @@ extern "C" {
         path_length: usize,
         owners: *mut u8,
         owners_length: usize,
-    ) -> OwfsAnswer;
+    ) -> Answer;
 }
 
-/// The CRC-16 register after `bytes`, started with `start`, not inverted.
+/// [`crate::crc16`].
 pub fn crc16(start: u16, bytes: &[u8]) -> u16 {
+    // SAFETY: any start is taken; pointer and length are those of a slice that is only read.
     unsafe { owfs_crc16(start, bytes.as_ptr(), bytes.len()) }
 }
 
-/// Checks an image.
+/// [`crate::check`] with the whole answer.
 pub fn check(page_length: u32, page_count: u32, image: &[u8], owners: &mut [u8]) -> Totals {
-    let told = unsafe {
+    // SAFETY: any numbers are taken; pointers and lengths are those of slices, and the one that is written overlaps no other.
+    unsafe {
         owfs_check(
             page_length,
             page_count,
@@ -130,25 +155,19 @@ pub fn check(page_length: u32, page_count: u32, image: &[u8], owners: &mut [u8])
             owners.as_mut_ptr(),
             owners.len(),
         )
-    };
-    Totals {
-        number: told.number,
-        page: told.page,
-        used: told.used,
-        files: told.files,
-        directories: told.directories,
     }
 }
 
-/// Lists the entry at a position in walk order.
+/// [`crate::list`] with the whole answer.
 pub fn list(
     page_length: u32,
     page_count: u32,
     image: &[u8],
     owners: &mut [u8],
     position: u32,
-) -> Listing {
-    let told = unsafe {
+) -> Entry {
+    // SAFETY: any numbers are taken; pointers and lengths are those of slices, and the one that is written overlaps no other.
+    unsafe {
         owfs_list(
             page_length,
             page_count,
@@ -158,21 +177,10 @@ pub fn list(
             owners.len(),
             position,
         )
-    };
-    Listing {
-        number: told.number,
-        page: told.page,
-        level: told.level,
-        name: told.name,
-        extension: told.extension,
-        attribute: told.attribute,
-        start: told.start,
-        pages: told.pages,
-        length: told.length,
     }
 }
 
-/// Reads a file into the front of `out`.
+/// [`crate::read`] with the whole answer.
 pub fn read(
     page_length: u32,
     page_count: u32,
@@ -181,7 +189,8 @@ pub fn read(
     out: &mut [u8],
     owners: &mut [u8],
 ) -> Length {
-    let told = unsafe {
+    // SAFETY: any numbers are taken; pointers and lengths are those of slices, and those that are written overlap no other.
+    unsafe {
         owfs_read(
             page_length,
             page_count,
@@ -194,15 +203,10 @@ pub fn read(
             owners.as_mut_ptr(),
             owners.len(),
         )
-    };
-    Length {
-        number: told.number,
-        page: told.page,
-        length: told.length,
     }
 }
 
-/// Formats an image: `local` 0 asks for a bitmap file, any other number for a local bitmap.
+/// [`crate::format`] with the whole answer: `local` 0 asks for a bitmap file, any other number for a local bitmap.
 pub fn format(
     page_length: u32,
     page_count: u32,
@@ -210,7 +214,8 @@ pub fn format(
     owners: &mut [u8],
     local: u32,
 ) -> Answer {
-    let told = unsafe {
+    // SAFETY: any numbers are taken; pointers and lengths are those of slices, and those that are written overlap no other.
+    unsafe {
         owfs_format(
             page_length,
             page_count,
@@ -220,14 +225,10 @@ pub fn format(
             owners.len(),
             local,
         )
-    };
-    Answer {
-        number: told.number,
-        page: told.page,
     }
 }
 
-/// Makes or replaces a file.
+/// [`crate::put`] with the whole answer.
 pub fn put(
     page_length: u32,
     page_count: u32,
@@ -236,7 +237,8 @@ pub fn put(
     bytes: &[u8],
     owners: &mut [u8],
 ) -> Answer {
-    let told = unsafe {
+    // SAFETY: any numbers are taken; pointers and lengths are those of slices, and those that are written overlap no other.
+    unsafe {
         owfs_put(
             page_length,
             page_count,
@@ -249,14 +251,10 @@ pub fn put(
             owners.as_mut_ptr(),
             owners.len(),
         )
-    };
-    Answer {
-        number: told.number,
-        page: told.page,
     }
 }
 
-/// Deletes a file.
+/// [`crate::delete`] with the whole answer.
 pub fn delete(
     page_length: u32,
     page_count: u32,
@@ -264,7 +262,8 @@ pub fn delete(
     path: &[u8],
     owners: &mut [u8],
 ) -> Answer {
-    let told = unsafe {
+    // SAFETY: any numbers are taken; pointers and lengths are those of slices, and those that are written overlap no other.
+    unsafe {
         owfs_delete(
             page_length,
             page_count,
@@ -275,9 +274,5 @@ pub fn delete(
             owners.as_mut_ptr(),
             owners.len(),
         )
-    };
-    Answer {
-        number: told.number,
-        page: told.page,
     }
 }

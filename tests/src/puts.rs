@@ -2,12 +2,21 @@
 
 use std::cmp::Ordering;
 
-use super::generators::{chain_features, files, is_below_hidden, random_path, worn_plan};
-use super::plans::{directories, geometry, page_with_space, plan_with, plan_without, Room};
-use super::{Button, Tally};
+use crate::generators::{chain_features, files, is_below_hidden, random_path, worn_plan};
+use crate::plans::{directories, geometry, page_with_space, plan_with, plan_without, Room};
+use crate::{Button, Tally};
 use referee::builder::plan::{Built, BuiltEntry, ChainOf, ImagePlan, Item};
 use referee::builder::random::random_name;
 use referee::rng::Rng;
+
+/// A plan of an image in use: worn, thinned or crowded, by `kind`.
+pub fn used_plan(kind: u64, rng: &mut Rng) -> ImagePlan {
+    match kind % 3 {
+        0 => worn_plan(rng),
+        1 => thinned_plan(rng),
+        _ => crowded_plan(rng),
+    }
+}
 
 /// A plan with some pages free, and space in some directories, where files were removed.
 pub fn thinned_plan(rng: &mut Rng) -> ImagePlan {

@@ -1,0 +1,312 @@
+//! The calls as a user of the crate makes them.
+
+use owfs::{
+    check, crc16, delete, entries, list, owner_of, owner_table, path, put, read, read_to_vec,
+    Bitmap, Geometry, Kind, Listed, Name, Owner, Reason, Refusal, Totals,
+};
+
+/// The geometry of most images here.
+const GEOMETRY: Geometry = Geometry::new(32, 16);
+
+/// A refusal.
+fn refusal(number: u32, page: u32) -> Refusal {
+    Refusal { number, page }
+}
+
+/// A formatted image.
+fn formatted() -> Vec<u8> {
+    let mut image = vec![0; 32 * 16];
+    let done = owfs::format(GEOMETRY, &mut image, &mut owner_table(16), Bitmap::Local);
+    assert_eq!(done, Ok(()));
+    image
+}
+
+/// Writes a packet that ends its chain.
+fn packet(image: &mut [u8], page: u16, body: &[u8]) {
+    let mut packet = vec![body.len() as u8 + 1];
+    packet.extend_from_slice(body);
+    packet.push(0);
+    let check = !crc16(page, &packet);
+    packet.extend(check.to_le_bytes());
+    let start = 32 * usize::from(page);
+    image[start..start + packet.len()].copy_from_slice(&packet);
+}
+
+/// An image with a read-only file FULL.5 and a hidden directory LAB, which has a directory A1 with a file X.99.
+fn nested() -> Vec<u8> {
+    let mut image = vec![0; 32 * 16];
+    let root = b"\xAA\x00\x80\x1F\x00\x00\x00FULL\x85\x01\x01LAB \xFF\x02\x00";
+    packet(&mut image, 0, root);
+    packet(&mut image, 1, b"bytes");
+    packet(&mut image, 2, b"\xAAROOT\x00\x00A1  \x7F\x03\x00");
+    packet(&mut image, 3, b"\xAALAB \x00\x02X   \x63\x04\x01");
+    packet(&mut image, 4, b"");
+    image
+}
+
+#[test]
+fn a_file_from_put_to_delete() {
+    let mut image = formatted();
+    let mut owners = owner_table(16);
+    let demo = path(&[], "DEMO", 12).expect("a path");
+    assert_eq!(
+        put(GEOMETRY, &mut image, &demo, b"TEST", &mut owners),
+        Ok(())
+    );
+    let known = [0x05, 0x54, 0x45, 0x53, 0x54, 0x00, 0x14, 0x6A];
+    assert_eq!(image[32..40], known);
+    let totals = Totals {
+        used: 2,
+        files: 1,
+        directories: 0,
+    };
+    assert_eq!(check(GEOMETRY, &image, &mut owners), Ok(totals));
+    assert_eq!(owner_of(&owners, 0), Some(Owner::Root));
+    assert_eq!(owner_of(&owners, 1), Some(Owner::Entry(0)));
+    assert_eq!(owner_of(&owners, 2), Some(Owner::Free));
+    let entry = list(GEOMETRY, &image, &mut owners, 0).expect("an entry");
+    assert_eq!((entry.name.as_str(), entry.extension), ("DEMO", 12));
+    assert_eq!((entry.start, entry.pages, entry.length), (1, 1, 4));
+    assert_eq!(delete(GEOMETRY, &mut image, &demo, &mut owners), Ok(()));
+    let absent = Err(refusal(15, 0));
+    assert_eq!(delete(GEOMETRY, &mut image, &demo, &mut owners), absent);
+    assert_eq!(list(GEOMETRY, &image, &mut owners, 0), Err(refusal(15, 0)));
+    assert_eq!(owner_of(&owners, 1), Some(Owner::Free));
+}
+
+#[test]
+fn outputs() {
+    let mut image = formatted();
+    let mut owners = owner_table(16);
+    let demo = path(&[], "DEMO", 12).expect("a path");
+    put(GEOMETRY, &mut image, &demo, b"TEST", &mut owners).expect("room");
+    let mut out = *b"......";
+    let short = read(GEOMETRY, &image, &demo, &mut out[..3], &mut owners);
+    assert_eq!(short, Err(refusal(18, 0)));
+    assert_eq!(&out, b"......");
+    let length = read(GEOMETRY, &image, &demo, &mut out, &mut owners);
+    assert_eq!(length, Ok(4));
+    assert_eq!(&out, b"TEST..");
+    let bytes = read_to_vec(GEOMETRY, &image, &demo, &mut owners);
+    assert_eq!(bytes, Ok(b"TEST".to_vec()));
+    // A file on every page that is free, and one that would need a page more.
+    let most = vec![7; 15 * 28];
+    assert_eq!(put(GEOMETRY, &mut image, &demo, &most, &mut owners), Ok(()));
+    let bytes = read_to_vec(GEOMETRY, &image, &demo, &mut owners);
+    assert_eq!(bytes.as_ref(), Ok(&most));
+    let more = vec![7; 15 * 28 + 1];
+    let refused = put(GEOMETRY, &mut image, &demo, &more, &mut owners).expect_err("no room");
+    assert_eq!(refused.reason(), Reason::NoRoom);
+    let absent = path(&["NONE"], "DEMO", 12).expect("a path");
+    let refused = read_to_vec(GEOMETRY, &image, &absent, &mut owners);
+    assert_eq!(refused, Err(refusal(15, 0)));
+}
+
+/// The names that lead to an entry, each with a stroke after it, and its own.
+fn words(listed: &Listed) -> String {
+    let directories: String = listed
+        .directories
+        .iter()
+        .map(|name| format!("{name}/"))
+        .collect();
+    format!("{directories}{}", listed.entry.name)
+}
+
+#[test]
+fn entries_with_their_paths() {
+    let image = nested();
+    let mut owners = owner_table(16);
+    let listed: Result<Vec<Listed>, Refusal> = entries(GEOMETRY, &image, &mut owners).collect();
+    let listed = listed.expect("an accepted image");
+    let names: Vec<String> = listed.iter().map(words).collect();
+    assert_eq!(names, ["FULL", "LAB", "LAB/A1", "LAB/A1/X"]);
+    let kinds: Vec<Kind> = listed.iter().map(|listed| listed.entry.kind()).collect();
+    let (file, directory) = (Kind::File, Kind::Directory);
+    assert_eq!(kinds, [file, directory, directory, file]);
+    let flags = listed
+        .iter()
+        .map(|listed| (listed.entry.is_read_only(), listed.entry.is_hidden()));
+    let (none, read_only, hidden) = ((false, false), (true, false), (false, true));
+    assert_eq!(flags.collect::<Vec<_>>(), [read_only, hidden, none, none]);
+    let levels: Vec<u32> = listed.iter().map(|listed| listed.entry.level).collect();
+    assert_eq!(levels, [0, 0, 1, 2]);
+    let paths: Vec<Option<Vec<u8>>> = listed.iter().map(Listed::path).collect();
+    assert_eq!(paths[1..3], [None, None]);
+    assert_eq!(paths[3], path(&["LAB", "A1"], "X", 99).ok());
+    for (path, bytes) in [(&paths[0], &b"bytes"[..]), (&paths[3], b"")] {
+        let path = path.as_deref().expect("a file's path");
+        let told = read_to_vec(GEOMETRY, &image, path, &mut owners);
+        assert_eq!(told.as_deref(), Ok(bytes));
+    }
+    let owned: Vec<Owner> = (0..6).filter_map(|page| owner_of(&owners, page)).collect();
+    let of_entries = (0..4).map(Owner::Entry);
+    let expected: Vec<Owner> = [Owner::Root]
+        .into_iter()
+        .chain(of_entries)
+        .chain([Owner::Free])
+        .collect();
+    assert_eq!(owned, expected);
+}
+
+#[test]
+fn read_only_files_stay() {
+    let mut image = nested();
+    let before = image.clone();
+    let mut owners = owner_table(16);
+    let full = path(&[], "FULL", 5).expect("a path");
+    let refused = put(GEOMETRY, &mut image, &full, b"new", &mut owners);
+    assert_eq!(
+        refused.map_err(|refusal| refusal.reason()),
+        Err(Reason::ReadOnly)
+    );
+    let refused = delete(GEOMETRY, &mut image, &full, &mut owners);
+    assert_eq!(refused, Err(refusal(16, 0)));
+    assert_eq!(image, before);
+}
+
+/// An image with a fault: each call tells it, and the entries end with it.
+#[test]
+fn refusals_of_an_image() {
+    let mut image = nested();
+    image[3 * 32 + 1] = 0xAB;
+    let fault = refusal(2, 3);
+    let mut owners = vec![9; 40];
+    assert_eq!(check(GEOMETRY, &image, &mut owners), Err(fault));
+    assert_eq!(owners[..32], [0; 32]);
+    assert_eq!(owners[32..], [9; 8]);
+    assert_eq!(list(GEOMETRY, &image, &mut owners, 0), Err(fault));
+    let mut all = entries(GEOMETRY, &image, &mut owners);
+    assert_eq!(all.next(), Some(Err(fault)));
+    assert_eq!(all.next(), None);
+    assert_eq!(all.next(), None);
+    let full = path(&[], "FULL", 5).expect("a path");
+    let before = image.clone();
+    assert_eq!(
+        put(GEOMETRY, &mut image, &full, b"", &mut owners),
+        Err(fault)
+    );
+    assert_eq!(delete(GEOMETRY, &mut image, &full, &mut owners), Err(fault));
+    assert_eq!(image, before);
+}
+
+/// Numbers that no button has, and buffers that do not fit: always 1, and no byte is changed.
+#[test]
+fn any_arguments() {
+    let numbers = [0, 1, 2, 31, 32, 256, 257, 65_535, 65_536, u32::MAX];
+    for (page_length, page_count) in numbers
+        .into_iter()
+        .flat_map(|number| numbers.map(|other| (number, other)))
+    {
+        let geometry = Geometry::new(page_length, page_count);
+        let mut image = vec![5; 33];
+        let mut owners = vec![9; 7];
+        let mut out = [3; 4];
+        let wrong = refusal(1, 0);
+        let path = b"DEMO\x0C";
+        assert_eq!(check(geometry, &image, &mut owners), Err(wrong));
+        assert_eq!(list(geometry, &image, &mut owners, u32::MAX), Err(wrong));
+        let told = read(geometry, &image, path, &mut out, &mut owners);
+        assert_eq!(told, Err(wrong));
+        let told = read_to_vec(geometry, &image, path, &mut owners);
+        assert_eq!(told, Err(wrong));
+        for bitmap in [Bitmap::Local, Bitmap::File] {
+            let told = owfs::format(geometry, &mut image, &mut owners, bitmap);
+            assert_eq!(told, Err(wrong));
+        }
+        assert_eq!(
+            put(geometry, &mut image, path, b"", &mut owners),
+            Err(wrong)
+        );
+        assert_eq!(delete(geometry, &mut image, path, &mut owners), Err(wrong));
+        let mut all = entries(geometry, &image, &mut owners);
+        assert_eq!(all.next(), Some(Err(wrong)));
+        assert_eq!(all.next(), None);
+        assert_eq!((image, owners, out), (vec![5; 33], vec![9; 7], [3; 4]));
+        let mut owners = owner_table(page_count);
+        assert_eq!(check(geometry, &[], &mut owners), Err(wrong));
+    }
+}
+
+#[test]
+fn bitmaps() {
+    for (page_count, local, file) in [
+        (31, Ok(()), Ok(())),
+        (32, Err(refusal(4, 0)), Ok(())),
+        (300, Err(refusal(4, 0)), Ok(())),
+    ] {
+        let geometry = Geometry::new(32, page_count);
+        let mut image = vec![0; 32 * page_count as usize];
+        let mut owners = owner_table(page_count);
+        let told = owfs::format(geometry, &mut image, &mut owners, Bitmap::Local);
+        assert_eq!(told, local);
+        let told = owfs::format(geometry, &mut image, &mut owners, Bitmap::File);
+        assert_eq!(told, file);
+        assert_eq!(owner_of(&owners, 1), Some(Owner::Bitmap));
+    }
+}
+
+/// Slices that are only read may overlap.
+#[test]
+fn overlapping_slices() {
+    let mut image = formatted();
+    let mut owners = owner_table(16);
+    let demo = path(&[], "DEMO", 12).expect("a path");
+    assert_eq!(put(GEOMETRY, &mut image, &demo, &demo, &mut owners), Ok(()));
+    // The entry's name and extension number stand in page 0, and the file's bytes are its path.
+    for path in [&image[8..13], &image[33..38]] {
+        assert_eq!(path, demo);
+        let bytes = read_to_vec(GEOMETRY, &image, path, &mut owners);
+        assert_eq!(bytes.as_ref(), Ok(&demo));
+    }
+}
+
+/// The crate takes a name exactly if the library does.
+#[test]
+fn names_are_the_librarys() {
+    let image = formatted();
+    let mut owners = owner_table(16);
+    let mut taken = 0;
+    let mut compare = |stored: [u8; 4]| {
+        let path = [&stored[..], &[1]].concat();
+        let told = read_to_vec(GEOMETRY, &image, &path, &mut owners);
+        let number = told.expect_err("no file is there").number;
+        let text = String::from_utf8(stored.to_vec());
+        let name = text.ok().and_then(|text| Name::new(&text).ok());
+        let expected = if name.is_some() { 15 } else { 14 };
+        assert_eq!(number, expected, "{stored:?}");
+        taken += u32::from(name.is_some());
+    };
+    for byte in 0..=255 {
+        for place in 0..4 {
+            for mut stored in [*b"AAAA", *b"A   ", *b"AA  "] {
+                stored[place] = byte;
+                compare(stored);
+            }
+        }
+    }
+    let kinds = [b'A', b'~', b' ', b'a', 0];
+    for number in 0..5_usize.pow(4) {
+        compare([1, 5, 25, 125].map(|place| kinds[number / place % 5]));
+    }
+    assert!(taken > 200, "{taken} names");
+}
+
+/// The largest image, and the greatest owner number.
+#[test]
+fn largest_image() {
+    let geometry = Geometry::new(32, 65_535);
+    let mut image = vec![0; 32 * 65_535];
+    let mut owners = owner_table(65_535);
+    owfs::format(geometry, &mut image, &mut owners, Bitmap::File).expect("a geometry");
+    let used = check(geometry, &image, &mut owners)
+        .expect("formatted")
+        .used;
+    let free = 65_535 - used as usize;
+    let bytes: Vec<u8> = (0..27 * free).map(|place| (place / 3) as u8).collect();
+    let all = path(&[], "ALL", 0).expect("a path");
+    put(geometry, &mut image, &all, &bytes, &mut owners).expect("room");
+    let told = read_to_vec(geometry, &image, &all, &mut owners);
+    assert!(told.as_ref() == Ok(&bytes), "the file's bytes");
+    assert_eq!(owner_of(&owners, 65_534), Some(Owner::Entry(0)));
+    assert_eq!(owner_of(&owners, 65_535), None);
+}

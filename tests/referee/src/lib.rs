@@ -1,0 +1,195 @@
+//! A second implementation of the file structure of document 01: check, list, read, format, put, delete.
+//!
+//! It is written from the specification alone and serves as a referee for another implementation.
+//! Numbers are `u32` as a C caller gives them; the owner table is bytes, low byte first.
+
+mod answer;
+mod check;
+mod control;
+mod crc;
+mod edit;
+mod entry;
+pub mod geometry;
+mod list_text;
+mod names;
+mod packet;
+mod path;
+mod tree;
+
+pub mod builder;
+pub mod rng;
+
+pub use answer::{Answer, Length, Listing, Totals};
+pub use crc::{check_bytes, crc16};
+
+use answer::Fault;
+use geometry::Geometry;
+use tree::{Entry, Tree};
+
+/// Checks an image and tells pages in use, files and directories.
+pub fn check(page_length: u32, page_count: u32, image: &[u8], owners: &mut [u8]) -> Totals {
+    let judged = judge_arguments(page_length, page_count, image, owners)
+        .and_then(|geometry| judge_image(&geometry, image, owners));
+    match judged {
+        Ok(tree) => tree.totals(),
+        Err(answer) => answer.into(),
+    }
+}
+
+/// Lists the entry at a position in walk order, from 0; 15 at or past the end.
+pub fn list(
+    page_length: u32,
+    page_count: u32,
+    image: &[u8],
+    owners: &mut [u8],
+    position: u32,
+) -> Listing {
+    let judged = judge_arguments(page_length, page_count, image, owners)
+        .and_then(|geometry| judge_image(&geometry, image, owners));
+    let tree = match judged {
+        Ok(tree) => tree,
+        Err(answer) => return answer.into(),
+    };
+    match tree.walk().get(position as usize) {
+        Some((level, entry)) => listing(*level, entry),
+        None => Fault::Absent.at(0).into(),
+    }
+}
+
+/// Reads a file into the front of `out` and tells its length.
+pub fn read(
+    page_length: u32,
+    page_count: u32,
+    image: &[u8],
+    path: &[u8],
+    out: &mut [u8],
+    owners: &mut [u8],
+) -> Length {
+    let outcome = judge_arguments(page_length, page_count, image, owners).and_then(|geometry| {
+        let tree = judge_image(&geometry, image, owners)?;
+        edit::read(&geometry, image, &tree, path, out)
+    });
+    match outcome {
+        Ok(length) => Length {
+            number: 0,
+            page: 0,
+            length: length as u32,
+        },
+        Err(answer) => answer.into(),
+    }
+}
+
+/// Formats an image: `local` 0 asks for a bitmap file, any other number for a local bitmap.
+pub fn format(
+    page_length: u32,
+    page_count: u32,
+    image: &mut [u8],
+    owners: &mut [u8],
+    local: u32,
+) -> Answer {
+    let outcome = judge_arguments(page_length, page_count, image, owners).and_then(|geometry| {
+        let formatted = edit::format(&geometry, image, local != 0);
+        tell_owners(&geometry, image, owners);
+        formatted
+    });
+    done_or_refusal(outcome)
+}
+
+/// Makes or replaces a file.
+pub fn put(
+    page_length: u32,
+    page_count: u32,
+    image: &mut [u8],
+    path: &[u8],
+    bytes: &[u8],
+    owners: &mut [u8],
+) -> Answer {
+    let outcome = judge_arguments(page_length, page_count, image, owners).and_then(|geometry| {
+        let tree = judge_image(&geometry, image, owners)?;
+        edit::put(&geometry, image, &tree, path, bytes)?;
+        tell_owners(&geometry, image, owners);
+        Ok(())
+    });
+    done_or_refusal(outcome)
+}
+
+/// Deletes a file.
+pub fn delete(
+    page_length: u32,
+    page_count: u32,
+    image: &mut [u8],
+    path: &[u8],
+    owners: &mut [u8],
+) -> Answer {
+    let outcome = judge_arguments(page_length, page_count, image, owners).and_then(|geometry| {
+        let tree = judge_image(&geometry, image, owners)?;
+        edit::delete(&geometry, image, &tree, path)?;
+        tell_owners(&geometry, image, owners);
+        Ok(())
+    });
+    done_or_refusal(outcome)
+}
+
+/// What the program `list` prints for a dump.
+pub fn list_text(dump: &[u8]) -> Vec<u8> {
+    list_text::list_text(dump)
+}
+
+/// Refusal 1: P, N, the image's length, or an owner table of less than N numbers of 16 bits.
+fn judge_arguments(
+    page_length: u32,
+    page_count: u32,
+    image: &[u8],
+    owners: &[u8],
+) -> Result<Geometry, Answer> {
+    let wrong = Fault::Arguments.at(0);
+    let geometry = Geometry::new(page_length, page_count).ok_or(wrong)?;
+    if image.len() != geometry.image_length() || owners.len() < 2 * geometry.page_count() {
+        return Err(wrong);
+    }
+    Ok(geometry)
+}
+
+/// Checks the image and writes its owners to the table; all 0 if it is not accepted.
+fn judge_image(geometry: &Geometry, image: &[u8], owners: &mut [u8]) -> Result<Tree, Answer> {
+    let judged = check::check_image(geometry, image);
+    let none = vec![0; geometry.page_count()];
+    let numbers = match &judged {
+        Ok(tree) => &tree.owners,
+        Err(_) => &none,
+    };
+    for (bytes, &owner) in owners.chunks_exact_mut(2).zip(numbers) {
+        bytes.copy_from_slice(&(owner as u16).to_le_bytes());
+    }
+    judged
+}
+
+/// Writes the owners of the image as it now stands.
+fn tell_owners(geometry: &Geometry, image: &[u8], owners: &mut [u8]) {
+    // The table is all that is wanted here; the call's answer is made already.
+    let _ = judge_image(geometry, image, owners);
+}
+
+/// What listing tells of an entry.
+fn listing(level: u32, entry: &Entry) -> Listing {
+    let fields = &entry.fields;
+    Listing {
+        number: 0,
+        page: 0,
+        level,
+        name: u32::from_le_bytes(fields.name),
+        extension: u32::from(fields.extension_number()),
+        attribute: u32::from(fields.attribute()),
+        start: fields.start as u32,
+        pages: fields.pages as u32,
+        length: entry.length() as u32,
+    }
+}
+
+/// The answer of a call that tells number and page only.
+fn done_or_refusal(outcome: Result<(), Answer>) -> Answer {
+    match outcome {
+        Ok(()) => Answer::default(),
+        Err(answer) => answer,
+    }
+}

@@ -1,0 +1,276 @@
+//! Long runs of calls on one image: the library and the second program format, put, delete, check, list and read alike, after each other's edits.
+//! Every answer and every lent byte is compared, and each is known by construction: the image has a plan, which the edits change.
+
+use crate::generators::files;
+use crate::plans::{directories, formatted_plan, overlaid, plan_with, plan_without, Room};
+use crate::puts::{count_room, done_features, labelled_path, path_in, random_bytes, tight_bytes};
+use crate::{answer, both, Button, Tally};
+use referee::builder::plan::{Built, BuiltEntry, ImagePlan};
+use referee::rng::Rng;
+
+/// A button, the plan of what it holds, and the plan's image with the answers it must give.
+pub struct Run<'a> {
+    button: Button,
+    plan: ImagePlan,
+    built: Built,
+    rng: &'a mut Rng,
+    tally: &'a mut Tally,
+}
+
+impl<'a> Run<'a> {
+    /// An image of any bytes, formatted by both.
+    pub fn formatted(
+        page_length: u32,
+        page_count: u32,
+        local: u32,
+        rng: &'a mut Rng,
+        tally: &'a mut Tally,
+    ) -> Run<'a> {
+        let plan = formatted_plan(page_length, page_count, local != 0);
+        let mut run = Run::generated(plan, rng, tally);
+        run.button.image = run.rng.bytes(run.button.image.len());
+        run.format(local);
+        run
+    }
+
+    /// An image of a plan.
+    pub fn generated(plan: ImagePlan, rng: &'a mut Rng, tally: &'a mut Tally) -> Run<'a> {
+        let built = plan.build();
+        Run {
+            button: Button::from(&built),
+            plan,
+            built,
+            rng,
+            tally,
+        }
+    }
+
+    /// Bytes of an owner table that is long enough.
+    fn table(&mut self) -> usize {
+        2 * self.button.page_count as usize + self.rng.below(4)
+    }
+
+    /// The file of a path.
+    fn file(&self, path: &[u8]) -> Option<&BuiltEntry> {
+        files(&self.built)
+            .into_iter()
+            .find(|file| file.path == path)
+    }
+
+    /// A path of one of a few names in a directory that is there, or in none.
+    fn few_names(&mut self) -> Vec<u8> {
+        let directories = directories(&self.plan);
+        let mut path = directories[self.rng.below(directories.len())].0.clone();
+        if self.rng.chance(5) && path.len() < 32 {
+            path.extend(*b"NONE");
+        }
+        let digit = b'0' + self.rng.below(8) as u8;
+        path.extend([b'A' + self.rng.below(6) as u8, digit, b' ', b' ']);
+        path.push([0, 1, 99][self.rng.below(3)]);
+        path
+    }
+
+    /// A path, most often of a file that is there or could be.
+    fn path(&mut self) -> Vec<u8> {
+        if self.rng.chance(30) {
+            return self.few_names();
+        }
+        labelled_path(&self.plan, &self.built, self.rng).1
+    }
+
+    /// The path of a file that is there, if there is one; else any.
+    fn file_path(&mut self) -> Vec<u8> {
+        let path = self
+            .rng
+            .pick(&files(&self.built))
+            .map(|file| file.path.clone());
+        path.unwrap_or_else(|| self.path())
+    }
+
+    /// Demands the image of another plan, laid over the image as it was, after an edit that was done.
+    fn edited(&mut self, before: &Button, plan: ImagePlan) {
+        self.built = plan.build();
+        self.plan = plan;
+        let expected = overlaid(before, &self.built);
+        assert!(self.button.image == expected, "known by construction");
+    }
+
+    /// Format with both: an empty root, or 4 and all as before.
+    fn format(&mut self, local: u32) {
+        let before = self.button.clone();
+        let table = self.table();
+        let told = both::format(&mut self.button, table, local, self.rng);
+        self.tally.add(format!("format {}", told.number));
+        let (page_length, page_count) = (before.page_length, before.page_count);
+        if local != 0 && page_count >= 32 {
+            assert_eq!(told, answer(4, 0));
+            return;
+        }
+        assert_eq!(told, answer(0, 0));
+        let plan = formatted_plan(page_length, page_count, local != 0);
+        self.edited(&before, plan);
+    }
+
+    /// A put with both of random bytes.
+    fn put(&mut self, path: &[u8]) {
+        let bytes = random_bytes(&self.plan, path, self.rng);
+        self.put_bytes(path, &bytes);
+    }
+
+    /// Puts of small files with both until a directory must grow, then two that have just enough pages, or one too few.
+    fn crowd(&mut self) {
+        let directories = directories(&self.plan);
+        let names = directories[self.rng.below(directories.len())].0.clone();
+        for _ in 0..40 {
+            let path = path_in(&names, self.rng);
+            match Room::of(&self.plan, &path) {
+                Ok(room) if room.space.is_some() && !room.free.is_empty() => {
+                    self.put_bytes(&path, b"");
+                }
+                _ => break,
+            }
+        }
+        for _ in 0..2 {
+            let path = path_in(&names, self.rng);
+            if let Ok(room) = Room::of(&self.plan, &path) {
+                let bytes = tight_bytes(&room, self.rng);
+                self.put_bytes(&path, &bytes);
+            }
+        }
+    }
+
+    /// A put with both.
+    fn put_bytes(&mut self, path: &[u8], bytes: &[u8]) {
+        let before = self.button.clone();
+        let table = self.table();
+        let told = both::put(&mut self.button, table, path, bytes, self.rng);
+        self.tally.add("puts");
+        self.tally.add(format!("put {}", told.number));
+        if let Ok(room) = Room::of(&self.plan, path) {
+            count_room(&room, bytes, told.number, self.tally);
+        }
+        let plan = match plan_with(&self.plan, path, bytes) {
+            Ok(plan) => plan,
+            Err(number) => return assert_eq!(told, answer(number, 0), "known by construction"),
+        };
+        assert_eq!(told, answer(0, 0), "known by construction");
+        let built = self.built.clone();
+        self.edited(&before, plan);
+        for label in done_features(&built, &self.built, path) {
+            self.tally.add(label);
+        }
+    }
+
+    /// A delete with both.
+    fn delete(&mut self, path: &[u8]) {
+        let before = self.button.clone();
+        let table = self.table();
+        let told = both::delete(&mut self.button, table, path, self.rng);
+        self.tally.add(format!("delete {}", told.number));
+        match self.file(path).map(|file| file.listing.attribute) {
+            None => assert!(told == answer(14, 0) || told == answer(15, 0)),
+            Some(1) => assert_eq!(told, answer(16, 0)),
+            Some(_) => {
+                assert_eq!(told, answer(0, 0));
+                let plan = plan_without(&self.plan, path).expect("the plan has the file");
+                self.edited(&before, plan);
+            }
+        }
+    }
+
+    /// A put or a delete with both of a path that is malformed.
+    fn malformed(&mut self, mut path: Vec<u8>) {
+        match (path.len(), self.rng.below(3)) {
+            (0, _) => path = b"A".to_vec(),
+            (length, 0) => path.truncate(length / 4 * 4),
+            (length, 1) => path[length - 1] |= 0x80,
+            _ => path[0] = b'a',
+        }
+        if self.rng.chance(50) {
+            return self.put(&path);
+        }
+        let table = self.table();
+        let told = both::delete(&mut self.button, table, &path, self.rng);
+        self.tally.add(format!("delete {}", told.number));
+        assert_eq!(told, answer(14, 0));
+    }
+
+    /// A read with both, into an output that may be too short.
+    fn read(&mut self, path: &[u8]) {
+        let known = self.file(path).map(|file| file.bytes.clone());
+        let length = known.as_ref().map_or(0, Vec::len);
+        let out_bytes = (length + self.rng.below(4)).saturating_sub(self.rng.below(3));
+        let table = self.table();
+        let (told, bytes) = both::read_bytes(&self.button, table, path, out_bytes, self.rng);
+        self.tally.add(format!("read {}", told.number));
+        let told = answer(told.number, told.page);
+        match known {
+            None => assert!(told == answer(14, 0) || told == answer(15, 0)),
+            Some(known) if known.len() <= out_bytes => {
+                assert_eq!((told, bytes), (answer(0, 0), known));
+            }
+            Some(_) => assert_eq!(told, answer(18, 0)),
+        }
+    }
+
+    /// A check with both.
+    fn check(&mut self) {
+        let table = self.table();
+        let totals = both::check(&self.button, table, self.rng);
+        self.tally.add(format!("check {}", totals.number));
+        assert_eq!(totals, self.built.totals);
+    }
+
+    /// A listing with both.
+    fn list(&mut self) {
+        let position = self.rng.below(self.built.entries.len() + 1);
+        let table = self.table();
+        let told = both::list(&self.button, table, position as u32, self.rng);
+        self.tally.add(format!("list {}", told.number));
+        match self.built.entries.get(position) {
+            Some(entry) => assert_eq!(told, entry.listing),
+            None => assert_eq!(answer(told.number, told.page), answer(15, 0)),
+        }
+    }
+
+    /// One random call.
+    fn step(&mut self) {
+        let path = match self.rng.below(3) {
+            0 => self.file_path(),
+            _ => self.path(),
+        };
+        match self.rng.below(200) {
+            0..=89 => self.put(&path),
+            90..=143 => self.delete(&path),
+            144..=149 => self.malformed(path),
+            150..=173 => self.read(&path),
+            174..=183 => self.check(),
+            184 | 185 => self.crowd(),
+            186..=196 => self.list(),
+            197 => {
+                let local = [1, 7, u32::MAX][self.rng.below(3)];
+                self.format(local);
+            }
+            198 if self.rng.chance(30) => self.format(0),
+            _ => self.check(),
+        }
+    }
+
+    /// So many random calls, then a read and a delete of every file that is left.
+    pub fn run(&mut self, steps: usize) {
+        self.check();
+        for _ in 0..steps {
+            self.step();
+        }
+        let left = files(&self.built).into_iter();
+        let mut paths: Vec<Vec<u8>> = left.map(|file| file.path.clone()).collect();
+        self.rng.shuffle(&mut paths);
+        for path in paths {
+            self.read(&path);
+            self.delete(&path);
+        }
+        self.check();
+        let mut left = files(&self.built).into_iter();
+        assert!(left.all(|file| file.listing.attribute == 1));
+    }
+}

@@ -1,0 +1,100 @@
+//! The library's calls, with their answers as the second program's types.
+
+use owfs::raw;
+use referee::{Answer, Length, Listing, Totals};
+
+pub use owfs::crc16;
+
+/// Number and page of an edit.
+fn answer(told: raw::Answer) -> Answer {
+    Answer {
+        number: told.number,
+        page: told.page,
+    }
+}
+
+/// Checks an image.
+pub fn check(page_length: u32, page_count: u32, image: &[u8], owners: &mut [u8]) -> Totals {
+    let told = raw::check(page_length, page_count, image, owners);
+    Totals {
+        number: told.number,
+        page: told.page,
+        used: told.used,
+        files: told.files,
+        directories: told.directories,
+    }
+}
+
+/// Lists the entry at a position in walk order.
+pub fn list(
+    page_length: u32,
+    page_count: u32,
+    image: &[u8],
+    owners: &mut [u8],
+    position: u32,
+) -> Listing {
+    let told = raw::list(page_length, page_count, image, owners, position);
+    Listing {
+        number: told.number,
+        page: told.page,
+        level: told.level,
+        name: told.name,
+        extension: told.extension,
+        attribute: told.attribute,
+        start: told.start,
+        pages: told.pages,
+        length: told.length,
+    }
+}
+
+/// Reads a file into the front of `out`.
+pub fn read(
+    page_length: u32,
+    page_count: u32,
+    image: &[u8],
+    path: &[u8],
+    out: &mut [u8],
+    owners: &mut [u8],
+) -> Length {
+    let told = raw::read(page_length, page_count, image, path, out, owners);
+    Length {
+        number: told.number,
+        page: told.page,
+        length: told.length,
+    }
+}
+
+/// Formats an image: `local` 0 asks for a bitmap file, any other number for a local bitmap.
+pub fn format(
+    page_length: u32,
+    page_count: u32,
+    image: &mut [u8],
+    owners: &mut [u8],
+    local: u32,
+) -> Answer {
+    answer(raw::format(page_length, page_count, image, owners, local))
+}
+
+/// Makes or replaces a file.
+pub fn put(
+    page_length: u32,
+    page_count: u32,
+    image: &mut [u8],
+    path: &[u8],
+    bytes: &[u8],
+    owners: &mut [u8],
+) -> Answer {
+    let told = raw::put(page_length, page_count, image, path, bytes, owners);
+    answer(told)
+}
+
+/// Deletes a file.
+pub fn delete(
+    page_length: u32,
+    page_count: u32,
+    image: &mut [u8],
+    path: &[u8],
+    owners: &mut [u8],
+) -> Answer {
+    answer(raw::delete(page_length, page_count, image, path, owners))
+}
