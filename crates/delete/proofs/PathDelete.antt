@@ -14,7 +14,7 @@ use Rattle.rules.specs.Control.{theRoot}
 use Rattle.rules.specs.Paths.{Path, pathOf, fileKey, Found, nothing, aFile, find, atRoot, Place, directoryAt}
 use Rattle.rules.specs.Put.{writable, plainEdit}
 use Rattle.rules.specs.Delete.{present, deleteEdit, delete}
-use Rattle.entries.specs.declared.Seat.{Seat}
+use Rattle.entries.specs.declared.Slot.{Slot}
 use Rattle.lookup.specs.declared.Target.{Target}
 use Rattle.lookup.specs.declared.Target.the-variants as target
 use Rattle.lookup.specs.Targets.{Nowhere, FileAbsent, FileAt, IsTarget, Targets}
@@ -62,7 +62,7 @@ module _ (g : Geometry) (image table path : List ℕ) (T : TableOf g image table
       gone : (q : Path) (d : Place) → last q d nothing ≡ err 15 0
       gone q d = unfold present in simp then-err
 
-  module _ (s : Seat) (e : Entry) (q : r ≡ target.At s e) where
+  module _ (s : Slot) (e : Entry) (q : r ≡ target.At s e) where
     there : FileAt g v path tree s e
     there = is (target.At s e) q
 

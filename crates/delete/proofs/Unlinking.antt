@@ -20,7 +20,7 @@ use Rattle.reading.specs.Accepted.{accepted-iff}
 use Rattle.editing.specs.Contexts.{locate}
 use Rattle.editing.specs.DeleteLaws.{the-edit, pages-then}
 use Rattle.chain.specs.KnownChain.{KnownChain}
-use Rattle.entries.specs.declared.Seat.{Seat}
+use Rattle.entries.specs.declared.Slot.{Slot}
 use Rattle.marks.specs.MapPages.{WritesMap, Releases}
 use Rattle.marks.specs.ReleaseLaws.{represents-release}
 use Rattle.slots.specs.Slots.{HasSpan, Rewrites, entryFrom}
@@ -30,7 +30,7 @@ use Rattle.lookup.specs.Targets.{FileAt}
 use Rattle.volume.specs.Edits.{TableOf}
 use Rattle.delete.specs.Deletes.{HasFile}
 
-module _ (g : Geometry) (image table : List ℕ) (fit : Fit g image) (s : Seat) (e : Entry) (H : HasFile g image table s e) where
+module _ (g : Geometry) (image table : List ℕ) (fit : Fit g image) (s : Slot) (e : Entry) (H : HasFile g image table s e) where
   open HasFile H using (known, path, file)
   open TableOf known using (bytes, tree, accepted, table-is)
   open FileAt file using (formed, place, there, label, links, found, chain, at)

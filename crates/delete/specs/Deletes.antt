@@ -12,19 +12,19 @@ use Rattle.rules.specs.Result.{ok, err}
 use Rattle.rules.specs.Put.{plainEdit}
 use Rattle.rules.specs.Delete.{deleteEdit, delete}
 use Rattle.rules.specs.Demand2.{Deleted}
-use Rattle.entries.specs.declared.Seat.{Seat}
+use Rattle.entries.specs.declared.Slot.{Slot}
 use Rattle.lookup.specs.Targets.{FileAt}
 use Rattle.volume.specs.declared.Edited.{Edited}
 use Rattle.volume.specs.Edits.{editTold, Answered, TableOf}
 
 -- the image is accepted, the table tells of it, and the entry e at the place s is that of a path's file
-pub record HasFile (g : Geometry) (image table : List ℕ) (s : Seat) (e : Entry) : Type 0 where
+pub record HasFile (g : Geometry) (image table : List ℕ) (s : Slot) (e : Entry) : Type 0 where
   pub known : TableOf g image table
   pub path : List ℕ
   pub file : FileAt g (viewOf g image) path (known .tree) s e
 
 -- the image after a delete is the rule's
-unfoldable pub Unlinks : Geometry → List ℕ → List ℕ → Seat → Entry → List ℕ → Type 0
+unfoldable pub Unlinks : Geometry → List ℕ → List ℕ → Slot → Entry → List ℕ → Type 0
 Unlinks g image table s e after = (h : HasFile g image table s e) → after ≡ plainEdit g (h .file .to .directories) (deleteEdit (h .file .to) (h .file .place)) (h .known .tree) image
 
 -- the answer and the image after it are the rule's

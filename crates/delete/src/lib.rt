@@ -1,5 +1,5 @@
 // Delete: a file's entry goes from its directory, and its pages are free.
-use entries::Seat;
+use entries::Slot;
 use geometry::Geometry;
 use geometry::Shape;
 use lookup::Target;
@@ -15,13 +15,13 @@ ghost use Rattle.volume.specs.Edits.{editTold, TableOf, EditLeaves};
 ghost use Rattle.delete.specs.Deletes.{HasFile, Unlinks, PathDeleted, DeleteDone};
 
 // Deletes the file of an entry: its pages are released in the table, its directory's page is written without it, then the bitmap.
-fn unlink(image: &mut [u8], g: Geometry, seat: Seat, e: Entry, owners: &mut [u16])
+fn unlink(image: &mut [u8], g: Geometry, slot: Slot, e: Entry, owners: &mut [u16])
     requires { ⌜ Fit g (now image) ⌝ }
-    requires { ⌜ (length (now owners) ≡ g .pages) × HasFile g (now image) (now owners) seat e ⌝ }
-    ensures { λ _. ⌜ Unlinks g (now (image .entry)) (now (owners .entry)) seat e (now (image .exit)) ⌝ }
+    requires { ⌜ (length (now owners) ≡ g .pages) × HasFile g (now image) (now owners) slot e ⌝ }
+    ensures { λ _. ⌜ Unlinks g (now (image .entry)) (now (owners .entry)) slot e (now (image .exit)) ⌝ }
 {
     marks::release(image, g, e.start, owners);
-    slots::exchange(image, g, seat, seat.at, seat.at + 1, b"");
+    slots::exchange(image, g, slot, slot.at, slot.at + 1, b"");
     marks::write_map(image, g, owners);
 }
 
@@ -35,11 +35,11 @@ fn delete_path(image: &mut [u8], g: Geometry, path: &[u8], owners: &mut [u16]) -
         Target::Malformed => Edited::Refused(14, 0),
         Target::Nowhere => Edited::Refused(15, 0),
         Target::Absent(_, _, _) => Edited::Refused(15, 0),
-        Target::At(seat, e) => {
+        Target::At(slot, e) => {
             if 127 < e.extension {
                 return Edited::Refused(16, 0);
             }
-            unlink(image, g, seat, e, owners);
+            unlink(image, g, slot, e, owners);
             Edited::Done
         }
     }

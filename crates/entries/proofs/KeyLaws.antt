@@ -16,7 +16,7 @@ use Rattle.geometry.specs.Number.{number}
 use Rattle.rules.specs.PageSets.{hit, count, mem}
 use Rattle.rules.specs.PageSetLaws.{hits, same, other, hit-same, count-append}
 use Rattle.rules.specs.Names.{key}
-use Rattle.entries.specs.Seats.{entryKey, keysFrom}
+use Rattle.entries.specs.EntrySlots.{entryKey, keysFrom}
 
 pub length-keys : (g : Geometry) (m : ℕ) (b : List ℕ) → length (keysFrom g m b) ≡ m
 length-keys g zero b = refl

@@ -1,6 +1,6 @@
-pub mod SeatLaws
+pub mod SlotLaws
 pub mod KeyLaws
-pub mod Seated
+pub mod AtSlot
 pub mod Looking
 pub mod Places
 pub mod TokensAt

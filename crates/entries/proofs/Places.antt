@@ -16,10 +16,10 @@ use Rattle.rules.specs.declared.Entry.{Entry}
 use Rattle.rules.specs.Chain.{Link, first}
 use Rattle.rules.specs.Names.{entryOf}
 use Rattle.rules.specs.Tree.{Token, entry, entriesIn}
-use Rattle.entries.specs.declared.Seat.{Seat}
-use Rattle.entries.specs.Seats.{Fits, advanced}
+use Rattle.entries.specs.declared.Slot.{Slot}
+use Rattle.entries.specs.EntrySlots.{Fits, advanced}
 use Rattle.entries.proofs.KeyLaws.{entry-least}
-use Rattle.entries.proofs.Seated.{Seated}
+use Rattle.entries.proofs.AtSlot.{AtSlot}
 use Rattle.entries.proofs.Looking.{data-from}
 
 -- ---- one entry of a page
@@ -39,7 +39,7 @@ entry-cut n s l h = λ i. record {
     part a n k = ap (take n) (drop-of-take a s l (omega arith)) ∙ take-take n (s - a) (drop a l) (omega arith)
 
 -- the entry that the code reads from the page is that of the packet's data
-pub entry-read : (g : Geometry) (image : List ℕ) (total : ℕ) (s : Seat) (b : List ℕ) (more : List Link) (e : Entry) → Fit g image → Seated g (viewOf g image) total s b more → s .at < s .count
+pub entry-read : (g : Geometry) (image : List ℕ) (total : ℕ) (s : Slot) (b : List ℕ) (more : List Link) (e : Entry) → Fit g image → AtSlot g (viewOf g image) total s b more → s .at < s .count
     → e ≡ entryOf (g .width) (drop (1 + s .skip + entrySize g * s .at) (pageOf g (s .page) image)) → e ≡ entryOf (g .width) (entriesAt g (s .skip) (s .at) b)
 unfolding entrySize
 entry-read g image total s b more e fit h l q =
@@ -65,11 +65,11 @@ module _ (g : Geometry) (skip i n : ℕ) (b : List ℕ) (h : i < n) where
       ap (λ (x : ℕ). entriesIn g x (entriesAt g skip i b) ++ ts) s ∙ ap (λ (x : List ℕ). entry (entryOf (g .width) (entriesAt g skip i b)) ∷ (entriesIn g (n - (i + 1)) x ++ ts)) after-one
 
 -- ---- counts that fit
-pub seat-few : (g : Geometry) (s : Seat) → Valid g → Fits g s → s .count < 256
-seat-few g s v f = let a : 7 * s .count ≤ entrySize g * s .count = mul-le-mul-right (s .count) (entry-least g v) in omega (arith, f .room, v .most)
+pub slot-few : (g : Geometry) (s : Slot) → Valid g → Fits g s → s .count < 256
+slot-few g s v f = let a : 7 * s .count ≤ entrySize g * s .count = mul-le-mul-right (s .count) (entry-least g v) in omega (arith, f .room, v .most)
 
 -- the loop's measure falls: past an entry, and over to the next page
-pub past-less : (N : ℕ) (s s′ : Seat) → s′ ≡ advanced s → s .at < s .count → (N - s′ .next .count) * 256 + (s′ .count - s′ .at) < (N - s .next .count) * 256 + (s .count - s .at)
+pub past-less : (N : ℕ) (s s′ : Slot) → s′ ≡ advanced s → s .at < s .count → (N - s′ .next .count) * 256 + (s′ .count - s′ .at) < (N - s .next .count) * 256 + (s .count - s .at)
 past-less N s s′ e h = rw e (omega arith)
 
 pub page-less : (N a b x y z : ℕ) → b ≡ a + 1 → a < N → x < 256 → (N - b) * 256 + (x - y) < (N - a) * 256 + z

@@ -19,10 +19,10 @@ use Rattle.chain.specs.Claims.{IsGood, Counted}
 use Rattle.chain.specs.KnownChain.{ChainStands}
 use Rattle.chain.specs.Steps.{firstStep}
 use Rattle.chain.proofs.Following.{small-view}
-use Rattle.entries.specs.declared.Seat.{Seat}
-use Rattle.entries.specs.Seats.{keysFrom, chainKeys, opened, openOf, atEntry, advanced}
+use Rattle.entries.specs.declared.Slot.{Slot}
+use Rattle.entries.specs.EntrySlots.{keysFrom, chainKeys, opened, openOf, atEntry, advanced}
 use Rattle.entries.proofs.KeyLaws.{length-keys}
-use Rattle.entries.proofs.Seated.{Seated, open-good, seated-at, seated-first, next-page, seated-next}
+use Rattle.entries.proofs.AtSlot.{AtSlot, open-good, at-slot-at, at-slot-first, next-page, at-slot-next}
 use Rattle.entries.proofs.Places.{entriesAt, entry-read, first-token}
 
 -- ---- the keys of the entries among tokens
@@ -50,23 +50,23 @@ keys-few g image f skip (link p b ∷ ls) s =
     omega (arith, length-append (keysFrom g n (drop skip b)) (chainKeys g 0 ls), length-keys g n (drop skip b), length-drop skip b, small-view g image f p b (first ls) (s .0), keys-few g image f 0 ls (s .1))
 
 -- ---- the tokens from a place on, in a chain of so many pages
-pub record TokensAt (g : Geometry) (v : View) (total : ℕ) (s : Seat) (ts : List Token) : Type 0 where
+pub record TokensAt (g : Geometry) (v : View) (total : ℕ) (s : Slot) (ts : List Token) : Type 0 where
   pub bytes : List ℕ
   pub more : List Link
-  pub seated : Seated g v total s bytes more
+  pub at-slot : AtSlot g v total s bytes more
   pub few : total ≤ g .pages
   pub at-most : s .at ≤ s .count
   pub are : ts ≡ entriesIn g (s .count - s .at) (entriesAt g (s .skip) (s .at) bytes) ++ linkTokens g 0 more
 
 -- a page opened
-pub record PageAt (g : Geometry) (v : View) (total : ℕ) (s : Seat) (ts : List Token) : Type 0 where
+pub record PageAt (g : Geometry) (v : View) (total : ℕ) (s : Slot) (ts : List Token) : Type 0 where
   pub later : List Token
   pub split : ts ≡ newPage (s .page) ∷ later
   pub at-start : s .at ≡ 0
   pub ahead : TokensAt g v total s later
 
 -- an entry read
-pub record EntryAt (g : Geometry) (v : View) (total : ℕ) (s : Seat) (e : Entry) (ts : List Token) : Type 0 where
+pub record EntryAt (g : Geometry) (v : View) (total : ℕ) (s : Slot) (e : Entry) (ts : List Token) : Type 0 where
   pub later : List Token
   pub split : ts ≡ entry e ∷ later
   pub ahead : TokensAt g v total (advanced s) later
@@ -76,7 +76,7 @@ module _ (g : Geometry) (image : List ℕ) (fit : Fit g image) where
   v = viewOf g image
 
   -- the tokens of a page from its first entry on
-  page-tokens : (total skip p : ℕ) (s : Seat) (b : List ℕ) (ls : List Link) → Seated g v total s b ls → total ≤ g .pages → s .skip ≡ skip → s .at ≡ 0 → s .page ≡ p → PageAt g v total s (linkTokens g skip (link p b ∷ ls))
+  page-tokens : (total skip p : ℕ) (s : Slot) (b : List ℕ) (ls : List Link) → AtSlot g v total s b ls → total ≤ g .pages → s .skip ≡ skip → s .at ≡ 0 → s .page ≡ p → PageAt g v total s (linkTokens g skip (link p b ∷ ls))
   page-tokens total skip p s b ls h f i z q =
       let m = length (drop skip b) / entrySize g in
       let n : m ≡ s .count - s .at = ap (λ (x : ℕ). length (drop x b) / entrySize g) (sym i) ∙ sym (h .count-is) ∙ omega arith in
@@ -86,30 +86,30 @@ module _ (g : Geometry) (image : List ℕ) (fit : Fit g image) where
         later = entriesIn g m (drop skip b) ++ linkTokens g 0 ls;
         split = ap (λ (x : ℕ). newPage x ∷ (entriesIn g m (drop skip b) ++ linkTokens g 0 ls)) (sym q);
         at-start = z;
-        ahead = record { bytes = b; more = ls; seated = h; few = f; at-most = omega arith; are = ap₂ (λ (x : ℕ) (y : List ℕ). entriesIn g x y ++ linkTokens g 0 ls) n d };
+        ahead = record { bytes = b; more = ls; at-slot = h; few = f; at-most = omega arith; are = ap₂ (λ (x : ℕ) (y : List ℕ). entriesIn g x y ++ linkTokens g 0 ls) n d };
       }
 
   -- a directory's first page
-  pub first-page : (start : ℕ) (s : Seat) (ls : List Link) → s ≡ openOf g v (controlSize g) (firstStep start start) → ChainStands g v start ls → PageAt g v (length ls) s (linkTokens g (controlSize g) ls)
+  pub first-page : (start : ℕ) (s : Slot) (ls : List Link) → s ≡ openOf g v (controlSize g) (firstStep start start) → ChainStands g v start ls → PageAt g v (length ls) s (linkTokens g (controlSize g) ls)
   first-page start s [] e d = absurd (omega (arith, d .some))
   first-page start s (link p b ∷ ls) e d =
-      let n = seated-first g image fit start p b ls d in
+      let n = at-slot-first g image fit start p b ls d in
       let o : s ≡ opened g (controlSize g) (firstStep start start) (good b (first ls)) = e ∙ open-good g v (controlSize g) (firstStep start start) b (first ls) (n .0) in
-      subst (λ (x : Seat). PageAt g v (suc (length ls)) x (linkTokens g (controlSize g) (link p b ∷ ls))) (sym o)
+      subst (λ (x : Slot). PageAt g v (suc (length ls)) x (linkTokens g (controlSize g) (link p b ∷ ls))) (sym o)
       (page-tokens (suc (length ls)) (controlSize g) p (opened g (controlSize g) (firstStep start start) (good b (first ls))) b ls (n .1) (d .few) refl refl (sym (d .begins)))
 
-  module _ (total : ℕ) (s : Seat) (ts : List Token) (A : TokensAt g v total s ts) where
-    open TokensAt A using (bytes, more, seated, few, are)
+  module _ (total : ℕ) (s : Slot) (ts : List Token) (A : TokensAt g v total s ts) where
+    open TokensAt A using (bytes, more, at-slot, few, are)
 
     -- its next entry
     pub next-entry : s .at < s .count → (e : Entry) → e ≡ entryOf (g .width) (drop (1 + s .skip + entrySize g * s .at) (pageOf g (s .page) image)) → EntryAt g v total s e ts
     next-entry i e q =
-        let o : e ≡ entryOf (g .width) (entriesAt g (s .skip) (s .at) bytes) = entry-read g image total s bytes more e fit seated i q in
+        let o : e ≡ entryOf (g .width) (entriesAt g (s .skip) (s .at) bytes) = entry-read g image total s bytes more e fit at-slot i q in
         let later = entriesIn g (s .count - (s .at + 1)) (entriesAt g (s .skip) (s .at + 1) bytes) ++ linkTokens g 0 more in
         record {
           later = later;
           split = are ∙ first-token g (s .skip) (s .at) (s .count) bytes i (linkTokens g 0 more) ∙ ap (λ (x : Entry). entry x ∷ later) (sym o);
-          ahead = record { bytes = bytes; more = more; seated = seated-at g v total s bytes more (s .at + 1) seated; few = few; at-most = omega arith; are = refl };
+          ahead = record { bytes = bytes; more = more; at-slot = at-slot-at g v total s bytes more (s .at + 1) at-slot; few = few; at-most = omega arith; are = refl };
         }
 
     module _ (i : s .count ≤ s .at) where
@@ -118,30 +118,30 @@ module _ (g : Geometry) (image : List ℕ) (fit : Fit g image) where
 
       -- the end
       pub no-more : s .next .page ≡ 0 → ts ≡ []
-      no-more z = pages-only ∙ ap (linkTokens g 0) (none more seated)
+      no-more z = pages-only ∙ ap (linkTokens g 0) (none more at-slot)
         where
-          none : (ls : List Link) → Seated g v total s bytes ls → ls ≡ []
+          none : (ls : List Link) → AtSlot g v total s bytes ls → ls ≡ []
           none [] h = refl
           none (x ∷ ls) h = absurd (first-nonzero (x ∷ ls) (omega arith) (h .onward) (sym (h .next-is) ∙ z))
 
       module _ (z : s .next .page ≡ 0 → ⊥) where
-        some-more : (ls : List Link) → Seated g v total s bytes ls → 0 < length ls
+        some-more : (ls : List Link) → AtSlot g v total s bytes ls → 0 < length ls
         some-more [] h = absurd (z (h .next-is))
         some-more (x ∷ ls) h = omega arith
 
         -- the page after is there
         pub page-after : Counted (s .next) × (s .next .page < g .pages) × IsGood (v (s .next .page)) × (s .next .count < total)
-        page-after = let n = next-page g image fit total s bytes more seated (some-more more seated) in (seated .counted, n .0, n .1, n .2)
+        page-after = let n = next-page g image fit total s bytes more at-slot (some-more more at-slot) in (at-slot .counted, n .0, n .1, n .2)
 
-        pub next-tokens : (s′ : Seat) → s′ ≡ openOf g v 0 (s .next) → PageAt g v total s′ ts
-        next-tokens s′ y = subst (PageAt g v total s′) (sym pages-only) (go more seated)
+        pub next-tokens : (s′ : Slot) → s′ ≡ openOf g v 0 (s .next) → PageAt g v total s′ ts
+        next-tokens s′ y = subst (PageAt g v total s′) (sym pages-only) (go more at-slot)
           where
-            go : (ls : List Link) → Seated g v total s bytes ls → PageAt g v total s′ (linkTokens g 0 ls)
+            go : (ls : List Link) → AtSlot g v total s bytes ls → PageAt g v total s′ (linkTokens g 0 ls)
             go [] h = absurd (z (h .next-is))
             go (link p b ∷ ls) h =
-                let n = seated-next g image fit total s bytes p b ls h few in
+                let n = at-slot-next g image fit total s bytes p b ls h few in
                 let o : s′ ≡ opened g 0 (s .next) (good b (first ls)) = y ∙ open-good g v 0 (s .next) b (first ls) (n .0) in
-                subst (λ (x : Seat). PageAt g v total x (linkTokens g 0 (link p b ∷ ls))) (sym o) (page-tokens total 0 p (opened g 0 (s .next) (good b (first ls))) b ls (n .1) few refl refl (h .next-is))
+                subst (λ (x : Slot). PageAt g v total x (linkTokens g 0 (link p b ∷ ls))) (sym o) (page-tokens total 0 p (opened g 0 (s .next) (good b (first ls))) b ls (n .1) few refl refl (h .next-is))
 
     -- past all entries of its page
     pub page-past : TokensAt g v total (atEntry s (s .count)) (linkTokens g 0 more)
@@ -150,7 +150,7 @@ module _ (g : Geometry) (image : List ℕ) (fit : Fit g image) where
         record {
           bytes = bytes;
           more = more;
-          seated = seated-at g v total s bytes more (s .count) seated;
+          at-slot = at-slot-at g v total s bytes more (s .count) at-slot;
           few = few;
           at-most = omega arith;
           are = sym (ap (λ (x : ℕ). entriesIn g x (entriesAt g (s .skip) (s .count) bytes) ++ linkTokens g 0 more) z);

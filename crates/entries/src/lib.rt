@@ -16,10 +16,10 @@ ghost use Rattle.directory.specs.EntryPlaces.{HasEntry};
 ghost use Rattle.chain.specs.Claims.{Counted, IsGood};
 ghost use Rattle.chain.specs.KnownChain.{KnownChain};
 ghost use Rattle.chain.specs.Steps.{firstStep};
-ghost use Rattle.entries.specs.Seats.{entryKey, keysFrom, Fits, openOf, advanced, HasEntries, CountsEntries, Repeats};
+ghost use Rattle.entries.specs.EntrySlots.{entryKey, keysFrom, Fits, openOf, advanced, HasEntries, CountsEntries, Repeats};
 
 // A place in a directory: a page, the bytes before its entries, how many it has and the next of them; the position of the page after it.
-pub struct Seat {
+pub struct Slot {
     pub page: usize,
     pub skip: usize,
     pub count: usize,
@@ -34,16 +34,16 @@ pub fn key_of(name: u32, extension: u8) -> u64
     (name as u64) * 128 + ((extension % 128) as u64)
 }
 
-impl Seat {
+impl Slot {
     // At the first entry of a page that is known to hold a right packet.
-    pub fn begin(c: Cursor, skip: usize, image: &[u8], g: Geometry) -> Seat
+    pub fn begin(c: Cursor, skip: usize, image: &[u8], g: Geometry) -> Slot
         requires { ⌜ Fit g (now image) ⌝ }
         requires { ⌜ Counted c × (c .page < g .pages) × IsGood (viewOf g (now image) (c .page)) × (skip ≤ 31) ⌝ }
         ensures { λ r. ⌜ r ≡ openOf g (viewOf g (now (image .entry))) skip c ⌝ }
     {
         let page = c.page;
         match c.step(image, g, true) {
-            Step::Refused(_, _) => Seat {
+            Step::Refused(_, _) => Slot {
                 page,
                 skip,
                 count: 0,
@@ -55,7 +55,7 @@ impl Seat {
                 if skip <= size {
                     count = g.entries_in(size - skip);
                 }
-                Seat {
+                Slot {
                     page,
                     skip,
                     count,
@@ -67,21 +67,21 @@ impl Seat {
     }
 
     // At the first entry of a directory whose chain is known to stand.
-    pub fn first(image: &[u8], g: Geometry, start: usize) -> Seat
+    pub fn first(image: &[u8], g: Geometry, start: usize) -> Slot
         requires { ⌜ Fit g (now image) ⌝ }
         requires { ⌜ KnownChain g (viewOf g (now image)) start ⌝ }
         ensures { λ r. ⌜ r ≡ openOf g (viewOf g (now (image .entry))) (controlSize g) (firstStep start start) ⌝ }
     {
-        Seat::begin(Cursor::new(start, start), g.control_size(), image, g)
+        Slot::begin(Cursor::new(start, start), g.control_size(), image, g)
     }
 
     // Past one entry.
-    pub fn past(self) -> Seat
+    pub fn past(self) -> Slot
         requires { ⌜ self .at < self .count ⌝ }
         ensures { λ r. ⌜ r ≡ advanced self ⌝ }
     {
         let next = self.next;
-        Seat {
+        Slot {
             page: self.page,
             skip: self.skip,
             count: self.count,
@@ -144,15 +144,15 @@ pub fn count_of(image: &[u8], g: Geometry, start: usize) -> usize
     requires { ⌜ KnownChain g (viewOf g (now image)) start ⌝ }
     ensures { λ r. ⌜ CountsEntries g (viewOf g (now (image .entry))) start r × (r < 16777216) ⌝ }
 {
-    let mut seat = Seat::first(image, g, start);
+    let mut slot = Slot::first(image, g, start);
     let mut n = 0;
     loop {
-        n += seat.count;
-        let next = seat.next;
+        n += slot.count;
+        let next = slot.next;
         if next.page == 0 {
             return n;
         }
-        seat = Seat::begin(next, 0, image, g);
+        slot = Slot::begin(next, 0, image, g);
     }
 }
 
@@ -162,19 +162,19 @@ pub fn is_repeated(image: &[u8], g: Geometry, start: usize, m: usize, key: u64) 
     requires { ⌜ HasEntries g (viewOf g (now image)) start m ⌝ }
     ensures { λ r. ⌜ Repeats g (viewOf g (now (image .entry))) start m key r ⌝ }
 {
-    let mut seat = Seat::first(image, g, start);
+    let mut slot = Slot::first(image, g, start);
     let mut left = m;
     loop {
-        let count = seat.count;
-        let page = geometry::page_of(image, g, seat.page);
-        if page_has(page, 1 + seat.skip, least(left, count), key, g) {
+        let count = slot.count;
+        let page = geometry::page_of(image, g, slot.page);
+        if page_has(page, 1 + slot.skip, least(left, count), key, g) {
             return true;
         }
         if left <= count {
             return false;
         }
         left -= count;
-        let next = seat.next;
-        seat = Seat::begin(next, 0, image, g);
+        let next = slot.next;
+        slot = Slot::begin(next, 0, image, g);
     }
 }

@@ -17,8 +17,8 @@ use Rattle.rules.specs.Listing.{linesOf}
 use Rattle.rules.specs.Check.{Part, chain, directory}
 use Rattle.chain.specs.Claims.{IsGood, Counted}
 use Rattle.chain.specs.Steps.{firstStep}
-use Rattle.entries.specs.declared.Seat.{Seat}
-use Rattle.entries.specs.Seats.{openOf, advanced}
+use Rattle.entries.specs.declared.Slot.{Slot}
+use Rattle.entries.specs.EntrySlots.{openOf, advanced}
 use Rattle.entries.proofs.TokensAt.{TokensAt, PageAt, EntryAt, next-entry, no-more, page-after, next-tokens, first-page}
 use Rattle.listing.specs.declared.Look.{Look}
 use Rattle.listing.specs.declared.Look.the-variants as look
@@ -73,7 +73,7 @@ module _ (g : Geometry) (v : View) (levels level : ℕ) where
       (record { part = directory d; rest = t; stands = (refl, refl, b .1, under-stands levels (startOf d) d (b .0) (b .2)); shape = j; below = b .3; lines = refl })
 
 -- ---- what is ahead at a place, where position k is looked for, in the search for position k₀ of t₀
-pub record Ahead (g : Geometry) (v : View) (levels level k₀ : ℕ) (t₀ : Items) (s : Seat) (k : ℕ) : Type 0 where
+pub record Ahead (g : Geometry) (v : View) (levels level k₀ : ℕ) (t₀ : Items) (s : Slot) (k : ℕ) : Type 0 where
   pub total : ℕ
   pub rest : Items
   pub ahead : TokensAt g v total s (tokens rest)
@@ -84,11 +84,11 @@ module _ (g : Geometry) (image : List ℕ) (fit : Fit g image) (levels level k�
   abbrev v : View
   v = viewOf g image
 
-  abbrev Now : Seat → ℕ → Type 0
+  abbrev Now : Slot → ℕ → Type 0
   Now = Ahead g v levels level k₀ t₀
 
   -- at the first entry of a page of the directory t
-  opened : (total k : ℕ) (s : Seat) (t : Items) → Below g v levels t → ((r : Look) → Looks k (linesOf level t) r → Looks k₀ (linesOf level t₀) r) → PageAt g v total s (tokens t) → Now s k
+  opened : (total k : ℕ) (s : Slot) (t : Items) → Below g v levels t → ((r : Look) → Looks k (linesOf level t) r → Looks k₀ (linesOf level t₀) r) → PageAt g v total s (tokens t) → Now s k
   opened total k s t b f p =
       let o = opens g v levels level t (s .page) (p .later) (sym (p .split)) b in
       record {
@@ -99,7 +99,7 @@ module _ (g : Geometry) (image : List ℕ) (fit : Fit g image) (levels level k�
         finish = λ r u. f r (subst (λ (xs : List Line). Looks k xs r) (sym (o .lines)) u);
       }
 
-  module _ (s : Seat) (k : ℕ) (A : Now s k) where
+  module _ (s : Slot) (k : ℕ) (A : Now s k) where
     open Ahead A using (total, rest, ahead, below, finish)
 
     module _ (i : s .at < s .count) (e : Entry) (q : e ≡ entryOf (g .width) (drop (1 + s .skip + entrySize g * s .at) (pageOf g (s .page) image))) where
@@ -122,8 +122,8 @@ module _ (g : Geometry) (image : List ℕ) (fit : Fit g image) (levels level k�
             let a = looks-first k (partLines level e (entered .part)) (linesOf level (entered .rest)) x (told (look.Found x) o) in
             finish (look.Found x) (subst (λ (xs : List Line). Looks k xs (look.Found x)) (sym (entered .lines)) a)
 
-        pub ahead-past : (j : ℕ) → r ≡ look.Left j → (s′ : Seat) → s′ ≡ advanced s → Now s′ j
-        ahead-past j o s′ y = subst (λ (x : Seat). Now x j) (sym y) (record {
+        pub ahead-past : (j : ℕ) → r ≡ look.Left j → (s′ : Slot) → s′ ≡ advanced s → Now s′ j
+        ahead-past j o s′ y = subst (λ (x : Slot). Now x j) (sym y) (record {
           total = total;
           rest = entered .rest;
           ahead = subst (TokensAt g v total (advanced s)) (entered .shape) (read .ahead);
@@ -143,11 +143,11 @@ module _ (g : Geometry) (image : List ℕ) (fit : Fit g image) (levels level k�
         pub ahead-next : Counted (s .next) × (s .next .page < g .pages) × IsGood (v (s .next .page)) × (s .next .count < total)
         ahead-next = page-after g image fit total s (tokens rest) ahead i z
 
-        pub ahead-page : (s′ : Seat) → s′ ≡ openOf g v 0 (s .next) → Now s′ k
+        pub ahead-page : (s′ : Slot) → s′ ≡ openOf g v 0 (s .next) → Now s′ k
         ahead-page s′ y = opened total k s′ rest below finish (next-tokens g image fit total s (tokens rest) ahead i z s′ y)
 
   -- the first page
-  pub ahead-first : (start : ℕ) (s : Seat) → Stands g v levels start t₀ → s ≡ openOf g v (controlSize g) (firstStep start start) → Now s k₀
+  pub ahead-first : (start : ℕ) (s : Slot) → Stands g v levels start t₀ → s ≡ openOf g v (controlSize g) (firstStep start start) → Now s k₀
   ahead-first start s S e =
       let ls = S .chained .links in
       opened (length ls) k₀ s t₀ (S .below) (λ r u. u) (subst (PageAt g v (length ls) s) (S .chained .shape) (first-page g image fit start s ls e (S .chained .chain)))

@@ -1,5 +1,5 @@
 // The entry at a walk position of an image that is known to be accepted, found in the image alone.
-use entries::Seat;
+use entries::Slot;
 use geometry::Geometry;
 use rules::Entry;
 use rules::Line;
@@ -70,22 +70,22 @@ fn look_directory(
     requires { ⌜ (levels + level ≤ 8) × HasDirectory g (viewOf g (now image)) levels start ⌝ }
     ensures { λ r. ⌜ LooksDirectory g (viewOf g (now (image .entry))) levels level start k r ⌝ }
 {
-    let mut seat = Seat::first(image, g, start);
+    let mut slot = Slot::first(image, g, start);
     let mut left = k;
     loop {
-        if seat.at < seat.count {
-            let e = seat.entry(image, g);
+        if slot.at < slot.count {
+            let e = slot.entry(image, g);
             match look_entry(image, g, levels, level, e, left) {
                 Look::Found(x) => return Look::Found(x),
                 Look::Left(j) => left = j,
             }
-            seat = seat.past();
+            slot = slot.past();
         } else {
-            let next = seat.next;
+            let next = slot.next;
             if next.page == 0 {
                 return Look::Left(left);
             }
-            seat = Seat::begin(next, 0, image, g);
+            slot = Slot::begin(next, 0, image, g);
         }
     }
 }

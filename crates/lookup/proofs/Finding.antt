@@ -20,9 +20,9 @@ use Rattle.rules.specs.Delete.{remove}
 use Rattle.editing.specs.PageChange.{entryTokens, controlOn}
 use Rattle.chain.specs.Claims.{IsGood, Counted}
 use Rattle.chain.specs.Steps.{firstStep}
-use Rattle.entries.specs.declared.Seat.{Seat}
-use Rattle.entries.specs.Seats.{openOf, advanced}
-use Rattle.entries.proofs.Seated.{skip-of}
+use Rattle.entries.specs.declared.Slot.{Slot}
+use Rattle.entries.specs.EntrySlots.{openOf, advanced}
+use Rattle.entries.proofs.AtSlot.{skip-of}
 use Rattle.entries.proofs.TokensAt.{TokensAt, PageAt, EntryAt, first-page, next-entry, no-more, page-after, next-tokens}
 use Rattle.lookup.specs.declared.Search.the-variants as search
 use Rattle.lookup.specs.Searches as searches
@@ -112,7 +112,7 @@ module _ (k : ℕ) where
       }
 
 -- ---- what is found from a place on, in the search of t₀
-pub record Finding (g : Geometry) (v : View) (k : ℕ) (t₀ : Items) (s : Seat) : Type 0 where
+pub record Finding (g : Geometry) (v : View) (k : ℕ) (t₀ : Items) (s : Slot) : Type 0 where
   pub total : ℕ
   pub rest : Items
   pub ahead : TokensAt g v total s (tokens rest)
@@ -146,7 +146,7 @@ module _ (g : Geometry) (image : List ℕ) (fit : Fit g image) (k : ℕ) (t₀ :
   v = viewOf g image
 
   -- at the first entry of a page of what is left
-  module _ (total : ℕ) (s : Seat) (t : Items) (p : PageAt g v total s (tokens t)) (f : find k t₀ ≡ find k t) (before : List Token)
+  module _ (total : ℕ) (s : Slot) (t : Items) (p : PageAt g v total s (tokens t)) (f : find k t₀ ≡ find k t) (before : List Token)
       (c : (f : Items → Items) → Passes k f → tokens (f t₀) ≡ before ++ tokens (f t)) (h : (control : List ℕ) → length control ≡ controlSize g → length (controlOn (g .width) control before) ≡ s .skip) where
     opened : Finding g v k t₀ s
     opened =
@@ -163,12 +163,12 @@ module _ (g : Geometry) (image : List ℕ) (fit : Fit g image) (k : ℕ) (t₀ :
           skip-is = h;
         }
 
-  pub find-first : (start : ℕ) (s : Seat) → searches.TreeAt g v start t₀ → s ≡ openOf g v (controlSize g) (firstStep start start) → Finding g v k t₀ s
+  pub find-first : (start : ℕ) (s : Slot) → searches.TreeAt g v start t₀ → s ≡ openOf g v (controlSize g) (firstStep start start) → Finding g v k t₀ s
   find-first start s T e =
       let c = T .stands .chained in
       opened (length (c .links)) s t₀ (subst (PageAt g v (length (c .links)) s) (c .shape) (first-page g image fit start s (c .links) e (c .chain))) refl [] (λ f q. refl) (λ control l. l ∙ sym (skip-of g v (controlSize g) (firstStep start start) s e))
 
-  module _ (s : Seat) (F : Finding g v k t₀ s) where
+  module _ (s : Slot) (F : Finding g v k t₀ s) where
     open Finding F using (total, rest, ahead, same, before, entries, changed, at-is, skip-is)
 
     module _ (i : s .at < s .count) (e : Entry) (q : e ≡ entryOf (g .width) (drop (1 + s .skip + entrySize g * s .at) (pageOf g (s .page) image))) where
@@ -192,12 +192,12 @@ module _ (g : Geometry) (image : List ℕ) (fit : Fit g image) (k : ℕ) (t₀ :
             replaced = λ l ls new z. whole (replace k new) (passes-replace k new) (entry (fileEntry l new) ∷ read .later) (o .replaced l ls new (sym same ∙ z));
             at-is = at-is;
             under = i;
-            fits = ahead .seated .fits;
+            fits = ahead .at-slot .fits;
             skip-is = skip-is;
-            next-is = λ b n z. pointer-of v (s .page) b (ahead .bytes) n (first (ahead .more)) z (ahead .seated .here) (ahead .seated .next-is);
+            next-is = λ b n z. pointer-of v (s .page) b (ahead .bytes) n (first (ahead .more)) z (ahead .at-slot .here) (ahead .at-slot .next-is);
           }
 
-      pub find-on : (key (e .name) (e .extension) ≡ k → ⊥) → (s′ : Seat) → s′ ≡ advanced s → Finding g v k t₀ s′
+      pub find-on : (key (e .name) (e .extension) ≡ k → ⊥) → (s′ : Slot) → s′ ≡ advanced s → Finding g v k t₀ s′
       find-on h s′ y =
           let o = find-past k rest e (read .later) (sym (read .split)) h in
           subst (Finding g v k t₀) (sym y) (record {
@@ -220,7 +220,7 @@ module _ (g : Geometry) (image : List ℕ) (fit : Fit g image) (k : ℕ) (t₀ :
         pub find-next : Counted (s .next) × (s .next .page < g .pages) × IsGood (v (s .next .page)) × (s .next .count < total)
         find-next = page-after g image fit total s (tokens rest) ahead i z
 
-        pub find-page-on : (s′ : Seat) → s′ ≡ openOf g v 0 (s .next) → Finding g v k t₀ s′
+        pub find-page-on : (s′ : Slot) → s′ ≡ openOf g v 0 (s .next) → Finding g v k t₀ s′
         find-page-on s′ y = opened total s′ rest (next-tokens g image fit total s (tokens rest) ahead i z s′ y) same (before ++ (newPage (s .page) ∷ entryTokens entries))
             (λ f p. changed f p ∙ sym (append-assoc before (newPage (s .page) ∷ entryTokens entries) (tokens (f rest))))
             (λ control l. ap length (no-control (g .width) control before (s .page) entries) ∙ sym (skip-of g v 0 (s .next) s′ y))

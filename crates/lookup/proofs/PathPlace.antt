@@ -17,7 +17,7 @@ use Rattle.rules.specs.Paths.{namesIn, fileKey, Found, nothing, aFile, aDirecto
 use Rattle.chain.specs.KnownChain.{ChainStands}
 use Rattle.path.proofs.Parts.{Parts}
 use Rattle.listing.proofs.Accepting.{accepted-stands}
-use Rattle.entries.specs.declared.Seat.{Seat}
+use Rattle.entries.specs.declared.Slot.{Slot}
 use Rattle.lookup.specs.declared.Spot.{Spot}
 use Rattle.lookup.specs.declared.Spot.the-variants as spot
 use Rattle.lookup.specs.declared.Search.the-variants as search
@@ -101,7 +101,7 @@ module _ (g : Geometry) (v : View) (path : List ℕ) (i : Image) (names name ext
         go (aFile l ls) e z = absurd (let z : _≡_ {A = ℕ} 0 1 = cc in omega arith)
         go (aDirectory l d) e z = absurd (let z : _≡_ {A = ℕ} 0 1 = cc in omega arith)
 
-    pub file-at : (p : Seat) (e : Entry) → s ≡ spot.At p e → FileAt g v path i p e
+    pub file-at : (p : Slot) (e : Entry) → s ≡ spot.At p e → FileAt g v path i p e
     file-at p e q =
         let at : PlaceOf g v k (there .place .items) p e = subst (IsPlace g v k (there .place .items)) q (f (there .place .items) (there .tree)) in
         let x = found-file g v start (there .place .items) (there .tree) k name extension k-is (P .low) e (at .found) in

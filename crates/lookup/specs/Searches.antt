@@ -15,8 +15,8 @@ use Rattle.rules.specs.Paths.{namesIn, Found, nothing, aFile, aDirectory, find,
 use Rattle.rules.specs.Put.{replace}
 use Rattle.rules.specs.Delete.{remove}
 use Rattle.editing.specs.PageChange.{entryTokens, controlOn}
-use Rattle.entries.specs.declared.Seat.{Seat}
-use Rattle.entries.specs.Seats.{Fits}
+use Rattle.entries.specs.declared.Slot.{Slot}
+use Rattle.entries.specs.EntrySlots.{Fits}
 use Rattle.listing.specs.Standing.{Stands}
 use Rattle.lookup.specs.declared.Spot.{Spot}
 use Rattle.lookup.specs.declared.Spot.the-variants as spot
@@ -42,7 +42,7 @@ module _ (g : Geometry) (v : View) where
     pub at : TreeAt start tree
 
   -- the place s of the entry e under a key in the directory t: the tokens before its page, the entries before it, what comes after; and the directory with the file removed or replaced
-  pub record PlaceOf (k : ℕ) (t : Items) (s : Seat) (e : Entry) : Type 0 where
+  pub record PlaceOf (k : ℕ) (t : Items) (s : Slot) (e : Entry) : Type 0 where
     pub found : search.Found e ≡ entryOf (find k t)
     pub before : List Token
     pub entries : List Entry

@@ -12,7 +12,7 @@ use Rattle.rules.specs.Control.{theRoot}
 use Rattle.rules.specs.Check.{check}
 use Rattle.rules.specs.Paths.{Path, pathOf, fileKey, nothing, aFile, find, atRoot, Place, directoryAt}
 use Rattle.chain.specs.KnownChain.{ChainStands}
-use Rattle.entries.specs.declared.Seat.{Seat}
+use Rattle.entries.specs.declared.Slot.{Slot}
 use Rattle.lookup.specs.declared.Target.{Target}
 use Rattle.lookup.specs.declared.Target.the-variants as target
 use Rattle.lookup.specs.Searches.{TreeAt, PlaceOf}
@@ -36,7 +36,7 @@ module _ (g : Geometry) (v : View) (path : List ℕ) (i : Image) where
     pub absent : find (fileKey to) (place .items) ≡ nothing
 
   -- the file's entry e at the place s, and its chain
-  pub record FileAt (s : Seat) (e : Entry) : Type 0 where
+  pub record FileAt (s : Slot) (e : Entry) : Type 0 where
     pub to : Path
     pub formed : pathOf path ≡ ok to
     pub place : Place

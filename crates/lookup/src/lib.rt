@@ -1,5 +1,5 @@
 // Entries found by name in an image that is known to be accepted: in a directory, and along the directories of a path.
-use entries::Seat;
+use entries::Slot;
 use geometry::Geometry;
 use path::Parsed;
 use rules::Entry;
@@ -13,7 +13,7 @@ ghost use Rattle.lookup.specs.Targets.{Targets};
 
 // The entry that was looked for and its place.
 pub enum Spot {
-    At(Seat, Entry),
+    At(Slot, Entry),
     Absent,
 }
 
@@ -38,7 +38,7 @@ pub enum Target {
     // the file is absent: its directory's start page, its name and extension
     Absent(usize, u32, u8),
     // the place of the file's entry
-    At(Seat, Entry),
+    At(Slot, Entry),
 }
 
 // The place of a directory's entry with this key.
@@ -47,20 +47,20 @@ pub fn find_place(image: &[u8], g: Geometry, start: usize, key: u64) -> Spot
     requires { ⌜ HasTree g (viewOf g (now image)) start ⌝ }
     ensures { λ r. ⌜ Places g (viewOf g (now (image .entry))) start key r ⌝ }
 {
-    let mut seat = Seat::first(image, g, start);
+    let mut slot = Slot::first(image, g, start);
     loop {
-        if seat.at < seat.count {
-            let e = seat.entry(image, g);
+        if slot.at < slot.count {
+            let e = slot.entry(image, g);
             if entries::key_of(e.name, e.extension) == key {
-                return Spot::At(seat, e);
+                return Spot::At(slot, e);
             }
-            seat = seat.past();
+            slot = slot.past();
         } else {
-            let next = seat.next;
+            let next = slot.next;
             if next.page == 0 {
                 return Spot::Absent;
             }
-            seat = Seat::begin(next, 0, image, g);
+            slot = Slot::begin(next, 0, image, g);
         }
     }
 }
@@ -114,7 +114,7 @@ pub fn find_file(image: &[u8], g: Geometry, path: &[u8]) -> Target
                 let key = entries::key_of(name, extension);
                 match find_place(image, g, start, key) {
                     Spot::Absent => Target::Absent(start, name, extension),
-                    Spot::At(seat, e) => Target::At(seat, e),
+                    Spot::At(slot, e) => Target::At(slot, e),
                 }
             }
         },

@@ -20,7 +20,7 @@ use Rattle.rules.specs.Candidate.{chainPages}
 use Rattle.editing.specs.PageChange.{entryTokens}
 use Rattle.marks.specs.MapPages.{WritesMap}
 use Rattle.marks.specs.RootLaws.{zero-taken}
-use Rattle.entries.specs.declared.Seat.{Seat}
+use Rattle.entries.specs.declared.Slot.{Slot}
 use Rattle.slots.specs.Slots.{HasSpan, Rewrites}
 use Rattle.storing.specs.Free.{freeFrom, Next, NextFree, CountsFree, HasRoom, Stores}
 use Rattle.storing.specs.FreeLaws.{first-free}
@@ -49,7 +49,7 @@ page-there p [] ts = omega (arith, hit-same p)
 page-there p (newPage q ∷ a) ts = omega (arith, page-there p a ts)
 page-there p (entry e ∷ a) ts = page-there p a ts
 
-module _ (g : Geometry) (image table bytes : List ℕ) (sized : length table ≡ g .pages) (name extension : ℕ) (s : Seat) (L : Growing g image table bytes name extension s) where
+module _ (g : Geometry) (image table bytes : List ℕ) (sized : length table ≡ g .pages) (name extension : ℕ) (s : Slot) (L : Growing g image table bytes name extension s) where
   abbrev p : Putting g image table bytes name extension
   p = L .putting
 

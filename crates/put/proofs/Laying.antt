@@ -14,7 +14,7 @@ use Rattle.rules.specs.Tree.{fileEntry}
 use Rattle.rules.specs.Put.{put}
 use Rattle.reading.specs.EntryLaws.{length-entry}
 use Rattle.editing.specs.PageChange.{entriesBytes}
-use Rattle.entries.specs.declared.Seat.{Seat}
+use Rattle.entries.specs.declared.Slot.{Slot}
 use Rattle.marks.specs.MapPages.{WritesMap}
 use Rattle.slots.specs.Slots.{HasSpan, Rewrites, entryFrom}
 use Rattle.storing.specs.Free.{freeFrom, NextFree, CountsFree, HasRoom, Stores}
@@ -26,7 +26,7 @@ use Rattle.stages.specs.PageStage as stage
 use Rattle.put.specs.Puts.{Putting, newLabel, Laying}
 use Rattle.put.proofs.Storing as storing
 
-module _ (g : Geometry) (image table bytes : List ℕ) (sized : length table ≡ g .pages) (name extension : ℕ) (s : Seat) (first last : ℕ)
+module _ (g : Geometry) (image table bytes : List ℕ) (sized : length table ≡ g .pages) (name extension : ℕ) (s : Slot) (first last : ℕ)
     (L : Laying g image table bytes name extension s first last) where
   abbrev p : Putting g image table bytes name extension
   p = L .putting

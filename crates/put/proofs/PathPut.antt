@@ -20,7 +20,7 @@ use Rattle.rules.specs.Paths.{Path, pathOf, fileKey, aFile, find, atRoot, Place
 use Rattle.rules.specs.Put.{writable, put}
 use Rattle.reading.specs.Accepted.{accepted-iff}
 use Rattle.editing.specs.PutLaws.{Asked}
-use Rattle.entries.specs.declared.Seat.{Seat}
+use Rattle.entries.specs.declared.Slot.{Slot}
 use Rattle.lookup.specs.declared.Target.{Target}
 use Rattle.lookup.specs.declared.Target.the-variants as target
 use Rattle.lookup.specs.Targets.{Nowhere, FileAbsent, FileAt, IsTarget, Targets}
@@ -92,7 +92,7 @@ module _ (g : Geometry) (image table path bytes : List ℕ) (fit : Fit g image) 
       insert-answer t after i = i to-insert
 
     -- the file is there
-    module _ (s : Seat) (e : Entry) (q : r ≡ target.At s e) where
+    module _ (s : Slot) (e : Entry) (q : r ≡ target.At s e) where
       there : FileAt g v path tree s e
       there = is (target.At s e) q
 

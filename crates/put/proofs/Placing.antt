@@ -20,7 +20,7 @@ use Rattle.editing.specs.FormedPaths.{formed}
 use Rattle.editing.specs.PutDirectory.{extra-old, extra-new, after-old, after-new, same-label}
 use Rattle.editing.specs.PutLaws.{Asked, label, kept-old}
 use Rattle.chain.specs.KnownChain.{KnownChain}
-use Rattle.entries.specs.declared.Seat.{Seat}
+use Rattle.entries.specs.declared.Slot.{Slot}
 use Rattle.lookup.specs.Searches.{HasTree}
 use Rattle.space.specs.declared.Space.{Space}
 use Rattle.space.specs.declared.Space.the-variants as space
@@ -61,7 +61,7 @@ module _ (g : Geometry) (image table bytes : List ℕ) (name extension start : �
         (λ x. omega (arith, kept-old g image path bytes asked x, ap (λ (f : Found). count x (chainPages f)) absent)) (table-used g image path bytes table asked table-is);
   }
 
-  module _ (r : Space) (h : Spaces g (viewOf g image) start r) (s : Seat) where
+  module _ (r : Space) (h : Spaces g (viewOf g image) start r) (s : Slot) where
     pub to-lay : r ≡ space.At s → Laying g image table bytes name extension s (s .count) (s .count)
     unfolding putting
     to-lay e =
@@ -106,7 +106,7 @@ module _ (g : Geometry) (image table bytes : List ℕ) (name extension start : �
     grow-answer e t after h = h (to-grow e)
 
 -- ---- a file that is there
-module _ (g : Geometry) (image table bytes : List ℕ) (s : Seat) (e : Entry) (R : Replacing g image table bytes s e) where
+module _ (g : Geometry) (image table bytes : List ℕ) (s : Slot) (e : Entry) (R : Replacing g image table bytes s e) where
   open Replacing R using (path, asked, table-is, old, links, found, entry-is, chain, at)
 
   abbrev items : Items

@@ -20,7 +20,7 @@ use Rattle.rules.specs.Demand2.{PutDone}
 use Rattle.editing.specs.PageChange.{entryTokens, controlOn}
 use Rattle.editing.specs.PutLaws.{Asked, label}
 use Rattle.chain.specs.KnownChain.{ChainStands}
-use Rattle.entries.specs.declared.Seat.{Seat}
+use Rattle.entries.specs.declared.Slot.{Slot}
 use Rattle.lookup.specs.Searches.{TreeAt, PlaceOf}
 use Rattle.volume.specs.declared.Edited.{Edited}
 use Rattle.volume.specs.Edits.{editTold, Answered}
@@ -42,7 +42,7 @@ module _ {g : Geometry} {image table bytes : List ℕ} {name extension : ℕ} (p
   newLabel = label g image (p .path) bytes (p .asked)
 
 -- the directory keeps its pages: the file's entry goes to the page s, in the place of the entries from number `first` to `last`
-pub record Laying (g : Geometry) (image table bytes : List ℕ) (name extension : ℕ) (s : Seat) (first last : ℕ) : Type 0 where
+pub record Laying (g : Geometry) (image table bytes : List ℕ) (name extension : ℕ) (s : Slot) (first last : ℕ) : Type 0 where
   pub putting : Putting g image table bytes name extension
   pub stays : extraPages g (newLabel putting) (itemsOf putting) ≡ 0
   pub before : List Token
@@ -58,11 +58,11 @@ pub record Laying (g : Geometry) (image table bytes : List ℕ) (name extension 
   pub next-is : (b : List ℕ) (n : ℕ) → viewOf g image (s .page) ≡ good b n → s .next .page ≡ n
 
 -- the answer and the image after it are the rule's
-abbrev pub Lays : Geometry → List ℕ → List ℕ → List ℕ → ℕ → ℕ → Seat → ℕ → ℕ → Edited → List ℕ → Type 0
+abbrev pub Lays : Geometry → List ℕ → List ℕ → List ℕ → ℕ → ℕ → Slot → ℕ → ℕ → Edited → List ℕ → Type 0
 Lays g image table bytes name extension s first last r after = (l : Laying g image table bytes name extension s first last) → Answered image (put g (l .putting .path) bytes image) r after
 
 -- no page of the directory has space: a page joins after its last page s with the file's entry
-pub record Growing (g : Geometry) (image table bytes : List ℕ) (name extension : ℕ) (s : Seat) : Type 0 where
+pub record Growing (g : Geometry) (image table bytes : List ℕ) (name extension : ℕ) (s : Slot) : Type 0 where
   pub putting : Putting g image table bytes name extension
   pub absent : find (fileKey (putting .asked .to)) (itemsOf putting) ≡ nothing
   pub grows : extraPages g (newLabel putting) (itemsOf putting) ≡ 1
@@ -72,7 +72,7 @@ pub record Growing (g : Geometry) (image table bytes : List ℕ) (name extension
   pub then : (q : ℕ) (chain : List Link) → tokens (itemsAfter g (newLabel putting) q chain (itemsOf putting))
       ≡ before ++ (newPage (s .page) ∷ (entryTokens entries ++ (newPage q ∷ (entry (fileEntry (newLabel putting) chain) ∷ []))))
 
-abbrev pub Grows : Geometry → List ℕ → List ℕ → List ℕ → ℕ → ℕ → Seat → Edited → List ℕ → Type 0
+abbrev pub Grows : Geometry → List ℕ → List ℕ → List ℕ → ℕ → ℕ → Slot → Edited → List ℕ → Type 0
 Grows g image table bytes name extension s r after = (l : Growing g image table bytes name extension s) → Answered image (put g (l .putting .path) bytes image) r after
 
 -- a file that the directory from page `start` on does not have
@@ -89,7 +89,7 @@ abbrev pub Inserts : Geometry → List ℕ → List ℕ → List ℕ → ℕ →
 Inserts g image table bytes name extension start r after = (l : Inserting g image table bytes name extension start) → Answered image (put g (l .path) bytes image) r after
 
 -- a file that is there: the entry e at the place s
-pub record Replacing (g : Geometry) (image table bytes : List ℕ) (s : Seat) (e : Entry) : Type 0 where
+pub record Replacing (g : Geometry) (image table bytes : List ℕ) (s : Slot) (e : Entry) : Type 0 where
   pub path : List ℕ
   pub asked : Asked g image path bytes
   pub table-is : table ≡ owners (g .pages) (asked .tree)
@@ -100,7 +100,7 @@ pub record Replacing (g : Geometry) (image table bytes : List ℕ) (s : Seat) (e
   pub chain : ChainStands g (viewOf g image) (e .start) links
   pub at : PlaceOf g (viewOf g image) (fileKey (asked .to)) (asked .place .items) s e
 
-abbrev pub Replaces : Geometry → List ℕ → List ℕ → List ℕ → Seat → Entry → Edited → List ℕ → Type 0
+abbrev pub Replaces : Geometry → List ℕ → List ℕ → List ℕ → Slot → Entry → Edited → List ℕ → Type 0
 Replaces g image table bytes s e r after = (l : Replacing g image table bytes s e) → Answered image (put g (l .path) bytes image) r after
 
 -- a put that is done leaves an accepted image that reads the bytes at the path, all else as it was; a refusal changes no byte; and demand 3

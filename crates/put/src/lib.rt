@@ -1,5 +1,5 @@
 // Put: a file made or replaced, in the lowest free pages.
-use entries::Seat;
+use entries::Slot;
 use geometry::Geometry;
 use geometry::Shape;
 use lookup::Target;
@@ -22,7 +22,7 @@ const TAKEN: u16 = 3;
 fn lay_file(
     image: &mut [u8],
     g: Geometry,
-    seat: Seat,
+    slot: Slot,
     first: usize,
     last: usize,
     name: u32,
@@ -31,8 +31,8 @@ fn lay_file(
     owners: &mut [u16],
 ) -> Edited
     requires { ⌜ Fit g (now image) ⌝ }
-    requires { ⌜ (length (now owners) ≡ g .pages) × Laying g (now image) (now owners) (now bytes) name extension seat first last ⌝ }
-    ensures { λ r. ⌜ Lays g (now (image .entry)) (now (owners .entry)) (now (bytes .entry)) name extension seat first last r (now (image .exit)) ⌝ }
+    requires { ⌜ (length (now owners) ≡ g .pages) × Laying g (now image) (now owners) (now bytes) name extension slot first last ⌝ }
+    ensures { λ r. ⌜ Lays g (now (image .entry)) (now (owners .entry)) (now (bytes .entry)) name extension slot first last r (now (image .exit)) ⌝ }
 {
     let pages = storing::pages_for(bytes.len(), g.data_capacity());
     if storing::count_free(owners) < pages {
@@ -46,7 +46,7 @@ fn lay_file(
         start,
         pages,
     };
-    slots::place_entry(image, g, seat, first, last, e);
+    slots::place_entry(image, g, slot, first, last, e);
     marks::write_map(image, g, owners);
     Edited::Done
 }
@@ -55,15 +55,15 @@ fn lay_file(
 fn grow(
     image: &mut [u8],
     g: Geometry,
-    seat: Seat,
+    slot: Slot,
     name: u32,
     extension: u8,
     bytes: &[u8],
     owners: &mut [u16],
 ) -> Edited
     requires { ⌜ Fit g (now image) ⌝ }
-    requires { ⌜ (length (now owners) ≡ g .pages) × Growing g (now image) (now owners) (now bytes) name extension seat ⌝ }
-    ensures { λ r. ⌜ Grows g (now (image .entry)) (now (owners .entry)) (now (bytes .entry)) name extension seat r (now (image .exit)) ⌝ }
+    requires { ⌜ (length (now owners) ≡ g .pages) × Growing g (now image) (now owners) (now bytes) name extension slot ⌝ }
+    ensures { λ r. ⌜ Grows g (now (image .entry)) (now (owners .entry)) (now (bytes .entry)) name extension slot r (now (image .exit)) ⌝ }
 {
     let pages = storing::pages_for(bytes.len(), g.data_capacity());
     if storing::count_free(owners) <= pages {
@@ -80,7 +80,7 @@ fn grow(
         pages,
     };
     slots::write_entry(image, g, joins, e);
-    slots::rewrite(image, g, seat.page, 0, 0, b"", joins);
+    slots::rewrite(image, g, slot.page, 0, 0, b"", joins);
     marks::write_map(image, g, owners);
     Edited::Done
 }
@@ -100,18 +100,18 @@ fn insert_file(
     ensures { λ r. ⌜ Inserts g (now (image .entry)) (now (owners .entry)) (now (bytes .entry)) name extension start r (now (image .exit)) ⌝ }
 {
     match space::find_space(image, g, start) {
-        Space::At(seat) => lay_file(
+        Space::At(slot) => lay_file(
             image,
             g,
-            seat,
-            seat.count,
-            seat.count,
+            slot,
+            slot.count,
+            slot.count,
             name,
             extension,
             bytes,
             owners,
         ),
-        Space::Full(seat) => grow(image, g, seat, name, extension, bytes, owners),
+        Space::Full(slot) => grow(image, g, slot, name, extension, bytes, owners),
     }
 }
 
@@ -119,22 +119,22 @@ fn insert_file(
 fn replace_file(
     image: &mut [u8],
     g: Geometry,
-    seat: Seat,
+    slot: Slot,
     e: Entry,
     bytes: &[u8],
     owners: &mut [u16],
 ) -> Edited
     requires { ⌜ Fit g (now image) ⌝ }
-    requires { ⌜ (length (now owners) ≡ g .pages) × Replacing g (now image) (now owners) (now bytes) seat e ⌝ }
-    ensures { λ r. ⌜ Replaces g (now (image .entry)) (now (owners .entry)) (now (bytes .entry)) seat e r (now (image .exit)) ⌝ }
+    requires { ⌜ (length (now owners) ≡ g .pages) × Replacing g (now image) (now owners) (now bytes) slot e ⌝ }
+    ensures { λ r. ⌜ Replaces g (now (image .entry)) (now (owners .entry)) (now (bytes .entry)) slot e r (now (image .exit)) ⌝ }
 {
     marks::release(image, g, e.start, owners);
     lay_file(
         image,
         g,
-        seat,
-        seat.at,
-        seat.at + 1,
+        slot,
+        slot.at,
+        slot.at + 1,
         e.name,
         e.extension,
         bytes,
@@ -154,11 +154,11 @@ fn put_path(image: &mut [u8], g: Geometry, path: &[u8], bytes: &[u8], owners: &m
         Target::Absent(start, name, extension) => {
             insert_file(image, g, start, name, extension, bytes, owners)
         }
-        Target::At(seat, e) => {
+        Target::At(slot, e) => {
             if 127 < e.extension {
                 return Edited::Refused(16, 0);
             }
-            replace_file(image, g, seat, e, bytes, owners)
+            replace_file(image, g, slot, e, bytes, owners)
         }
     }
 }

@@ -15,7 +15,7 @@ use Rattle.rules.specs.Control.{theRoot}
 use Rattle.rules.specs.Check.{check}
 use Rattle.rules.specs.Paths.{Path, pathOf, fileKey, Found, nothing, aFile, find, atRoot, Place, directoryAt}
 use Rattle.rules.specs.Calls.{bytesOf, fileAt, readBytes, lengthOf, filled}
-use Rattle.entries.specs.declared.Seat.{Seat}
+use Rattle.entries.specs.declared.Slot.{Slot}
 use Rattle.lookup.specs.declared.Target.{Target}
 use Rattle.lookup.specs.declared.Target.the-variants as target
 use Rattle.lookup.specs.Targets.{Nowhere, FileAbsent, FileAt, IsTarget, Targets}
@@ -67,7 +67,7 @@ module _ (g : Geometry) (v : View) (path out : List ℕ) (r : Target) (h : Targe
       gone : bytesOf nothing ≡ err 15 0
       gone = unfold bytesOf in refl
 
-  module _ (s : Seat) (e : Entry) (q : r ≡ target.At s e) where
+  module _ (s : Slot) (e : Entry) (q : r ≡ target.At s e) where
     pub there : FileAt g v path i s e
     there = is (target.At s e) q
 

@@ -6,7 +6,7 @@ use lib.ListN.{length, take, drop}
 use Rattle.geometry.specs.declared.Geometry.{Geometry}
 use Rattle.geometry.specs.Geometry.{entrySize}
 use Rattle.packet.specs.Packet.{good, View, viewOf, write, writePage}
-use Rattle.entries.specs.declared.Seat.{Seat}
+use Rattle.entries.specs.declared.Slot.{Slot}
 
 -- bytes over the front of others
 abbrev pub overFront : List ℕ → List ℕ → List ℕ
@@ -33,5 +33,5 @@ abbrev pub Rewrites : Geometry → ℕ → ℕ → ℕ → List ℕ → ℕ → 
 Rewrites g page from to new next image after = (bytes : List ℕ) (n : ℕ) → viewOf g image page ≡ good bytes n → after ≡ writePage g (write page (spliced from to new bytes) next) image
 
 -- where the entry of a number begins in the data of its page
-abbrev pub entryFrom : Geometry → Seat → ℕ → ℕ
+abbrev pub entryFrom : Geometry → Slot → ℕ → ℕ
 entryFrom g s i = s .skip + entrySize g * i

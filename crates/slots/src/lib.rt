@@ -1,7 +1,7 @@
 // A directory's page written again with some of its bytes exchanged.
 use chain::Cursor;
 use chain::Step;
-use entries::Seat;
+use entries::Slot;
 use geometry::Geometry;
 use rules::Entry;
 ghost use mathlib.Core.Path.{_≡_};
@@ -51,27 +51,27 @@ pub fn rewrite(
 }
 
 // Writes a directory's page with the entries from one number to another exchanged for others; later entries of the page follow them.
-pub fn exchange(image: &mut [u8], g: Geometry, seat: Seat, first: usize, last: usize, new: &[u8])
+pub fn exchange(image: &mut [u8], g: Geometry, slot: Slot, first: usize, last: usize, new: &[u8])
     requires { ⌜ Fit g (now image) ⌝ }
-    requires { ⌜ (seat .page < g .pages) × HasSpan g (viewOf g (now image)) (seat .page) (entryFrom g seat first) (entryFrom g seat last) (length (now new)) ⌝ }
-    ensures { λ _. ⌜ Rewrites g (seat .page) (entryFrom g seat first) (entryFrom g seat last) (now (new .entry)) (seat .next .page) (now (image .entry)) (now (image .exit)) ⌝ }
+    requires { ⌜ (slot .page < g .pages) × HasSpan g (viewOf g (now image)) (slot .page) (entryFrom g slot first) (entryFrom g slot last) (length (now new)) ⌝ }
+    ensures { λ _. ⌜ Rewrites g (slot .page) (entryFrom g slot first) (entryFrom g slot last) (now (new .entry)) (slot .next .page) (now (image .entry)) (now (image .exit)) ⌝ }
 {
     let width = g.entry_size();
-    let from = seat.skip + width * first;
-    let to = seat.skip + width * last;
-    rewrite(image, g, seat.page, from, to, new, seat.next.page);
+    let from = slot.skip + width * first;
+    let to = slot.skip + width * last;
+    rewrite(image, g, slot.page, from, to, new, slot.next.page);
 }
 
 // Writes an entry in a directory's page, in the place of those from one number to another.
-pub fn place_entry(image: &mut [u8], g: Geometry, seat: Seat, first: usize, last: usize, e: Entry)
+pub fn place_entry(image: &mut [u8], g: Geometry, slot: Slot, first: usize, last: usize, e: Entry)
     requires { ⌜ Fit g (now image) ⌝ }
-    requires { ⌜ (seat .page < g .pages) × HasSpan g (viewOf g (now image)) (seat .page) (entryFrom g seat first) (entryFrom g seat last) (entrySize g) ⌝ }
-    ensures { λ _. ⌜ Rewrites g (seat .page) (entryFrom g seat first) (entryFrom g seat last) (entryBytes (g .width) e) (seat .next .page) (now (image .entry)) (now (image .exit)) ⌝ }
+    requires { ⌜ (slot .page < g .pages) × HasSpan g (viewOf g (now image)) (slot .page) (entryFrom g slot first) (entryFrom g slot last) (entrySize g) ⌝ }
+    ensures { λ _. ⌜ Rewrites g (slot .page) (entryFrom g slot first) (entryFrom g slot last) (entryBytes (g .width) e) (slot .next .page) (now (image .entry)) (now (image .exit)) ⌝ }
 {
     let width = g.entry_size();
     let mut bytes = [0u8; 9];
     directory::entries::put_entry(&mut bytes[..width], e, g.width);
-    exchange(image, g, seat, first, last, &bytes[..width]);
+    exchange(image, g, slot, first, last, &bytes[..width]);
 }
 
 // Writes a page with one entry, the last page of its chain.

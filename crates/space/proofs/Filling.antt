@@ -16,9 +16,9 @@ use Rattle.rules.specs.Put.{insert, isFull}
 use Rattle.editing.specs.PageChange.{entryTokens, controlOn}
 use Rattle.chain.specs.Claims.{IsGood, Counted}
 use Rattle.chain.specs.Steps.{firstStep}
-use Rattle.entries.specs.declared.Seat.{Seat}
-use Rattle.entries.specs.Seats.{openOf, atEntry}
-use Rattle.entries.proofs.Seated.{skip-of}
+use Rattle.entries.specs.declared.Slot.{Slot}
+use Rattle.entries.specs.EntrySlots.{openOf, atEntry}
+use Rattle.entries.proofs.AtSlot.{skip-of}
 use Rattle.entries.proofs.Places.{entriesAt}
 use Rattle.entries.proofs.TokensAt.{TokensAt, PageAt, first-page, no-more, page-after, next-tokens, page-past}
 use Rattle.lookup.specs.Searches.{TreeAt}
@@ -108,7 +108,7 @@ module _ (later : ℕ) where
   full-end next (dir l d t) e = absurd (let z : _≡_ {A = ℕ} 0 1 = cc in omega arith)
 
 -- ---- at the first entry of a page with room for so many; the pages before it are full
-pub record Filling (g : Geometry) (v : View) (t₀ : Items) (s : Seat) (room : ℕ) : Type 0 where
+pub record Filling (g : Geometry) (v : View) (t₀ : Items) (s : Slot) (room : ℕ) : Type 0 where
   pub total : ℕ
   pub ts : List Token
   pub ahead : TokensAt g v total s ts
@@ -122,7 +122,7 @@ module _ (g : Geometry) (image : List ℕ) (fit : Fit g image) (t₀ : Items) wh
   v = viewOf g image
 
   -- a page opened with none free before it
-  opened : (total : ℕ) (s : Seat) (us before : List Token) (room : ℕ) → PageAt g v total s us → Past (laterEntries g) (firstEntries g) 0 t₀ before room 0 us
+  opened : (total : ℕ) (s : Slot) (us before : List Token) (room : ℕ) → PageAt g v total s us → Past (laterEntries g) (firstEntries g) 0 t₀ before room 0 us
       → ((control : List ℕ) → length control ≡ controlSize g → length (controlOn (g .width) control before) ≡ s .skip) → Filling g v t₀ s room
   opened total s us before room p P h = record {
     total = total;
@@ -135,14 +135,14 @@ module _ (g : Geometry) (image : List ℕ) (fit : Fit g image) (t₀ : Items) wh
     skip-is = h;
   }
 
-  pub fill-first : (start : ℕ) (s : Seat) (room : ℕ) → TreeAt g v start t₀ → s ≡ openOf g v (controlSize g) (firstStep start start) → room ≡ firstEntries g → Filling g v t₀ s room
+  pub fill-first : (start : ℕ) (s : Slot) (room : ℕ) → TreeAt g v start t₀ → s ≡ openOf g v (controlSize g) (firstStep start start) → room ≡ firstEntries g → Filling g v t₀ s room
   fill-first start s room T e r =
       let c = T .stands .chained in
       subst (Filling g v t₀ s) (sym r)
       (opened (length (c .links)) s (tokens t₀) [] (firstEntries g) (subst (PageAt g v (length (c .links)) s) (c .shape) (first-page g image fit start s (c .links) e (c .chain)))
       (past-none (laterEntries g) (firstEntries g) 0 t₀ (tokens t₀) refl) (λ control l. l ∙ sym (skip-of g v (controlSize g) (firstStep start start) s e)))
 
-  module _ (s : Seat) (room : ℕ) (F : Filling g v t₀ s room) where
+  module _ (s : Slot) (room : ℕ) (F : Filling g v t₀ s room) where
     open Filling F using (total, ts, ahead, at-start, before, past, skip-is)
 
     abbrev entries : List Entry
@@ -176,9 +176,9 @@ module _ (g : Geometry) (image : List ℕ) (fit : Fit g image) (t₀ : Items) wh
     page-is = record {
       shape = ended (room - s .count) refl .whole ∙ joined later;
       count-is = count-is;
-      fits = ahead .seated .fits;
+      fits = ahead .at-slot .fits;
       skip-is = skip-is;
-      next-is = λ b n e. let q : good b n ≡ good (ahead .bytes) (first (ahead .more)) = sym e ∙ ahead .seated .here in let i : n ≡ first (ahead .more) = cc in ahead .seated .next-is ∙ sym i;
+      next-is = λ b n e. let q : good b n ≡ good (ahead .bytes) (first (ahead .more)) = sym e ∙ ahead .at-slot .here in let i : n ≡ first (ahead .more) = cc in ahead .at-slot .next-is ∙ sym i;
     }
 
     -- the directory with the new entry after the page's
@@ -225,7 +225,7 @@ module _ (g : Geometry) (image : List ℕ) (fit : Fit g image) (t₀ : Items) wh
         pub fill-next : Counted (s .next) × (s .next .page < g .pages) × IsGood (v (s .next .page)) × (s .next .count < total)
         fill-next = page-after g image fit total (atEntry s (s .count)) later at-end (omega arith) z
 
-        pub fill-on : (s′ : Seat) (room′ : ℕ) → s′ ≡ openOf g v 0 (s .next) → room′ ≡ laterEntries g → Filling g v t₀ s′ room′
+        pub fill-on : (s′ : Slot) (room′ : ℕ) → s′ ≡ openOf g v 0 (s .next) → room′ ≡ laterEntries g → Filling g v t₀ s′ room′
         fill-on s′ room′ y r =
             subst (Filling g v t₀ s′) (sym r)
             (opened total s′ later upTo (laterEntries g) (next-tokens g image fit total (atEntry s (s .count)) later at-end (omega arith) z s′ y) filled

@@ -12,15 +12,15 @@ use Rattle.rules.specs.Chain.{Link}
 use Rattle.rules.specs.Tree.{Label, Items, file, fileEntry, Token, newPage, entry, tokens}
 use Rattle.rules.specs.Put.{insert, isFull}
 use Rattle.editing.specs.PageChange.{entryTokens, controlOn}
-use Rattle.entries.specs.declared.Seat.{Seat}
-use Rattle.entries.specs.Seats.{Fits}
+use Rattle.entries.specs.declared.Slot.{Slot}
+use Rattle.entries.specs.EntrySlots.{Fits}
 use Rattle.lookup.specs.Searches.{TreeAt}
 use Rattle.space.specs.declared.Space.{Space}
 use Rattle.space.specs.declared.Space.the-variants.{At, Full}
 
 module _ (g : Geometry) (v : View) where
   -- the page s of the directory t with all its entries: the tokens before it, and those after its entries
-  pub record PageEnd (t : Items) (s : Seat) (before : List Token) (entries : List Entry) (later : List Token) : Type 0 where
+  pub record PageEnd (t : Items) (s : Slot) (before : List Token) (entries : List Entry) (later : List Token) : Type 0 where
     pub shape : tokens t ≡ before ++ (newPage (s .page) ∷ (entryTokens entries ++ later))
     pub count-is : length entries ≡ s .count
     pub fits : Fits g s
@@ -28,7 +28,7 @@ module _ (g : Geometry) (v : View) where
     pub next-is : (b : List ℕ) (n : ℕ) → v (s .page) ≡ good b n → s .next .page ≡ n
 
   -- it has space: a new entry goes to its end
-  pub record SpaceAt (t : Items) (s : Seat) : Type 0 where
+  pub record SpaceAt (t : Items) (s : Slot) : Type 0 where
     pub before : List Token
     pub entries : List Entry
     pub later : List Token
@@ -38,7 +38,7 @@ module _ (g : Geometry) (v : View) where
         → tokens (insert (file l ls) (laterEntries g) q (firstEntries g) 0 t) ≡ before ++ (newPage (s .page) ∷ (entryTokens entries ++ (entry (fileEntry l ls) ∷ later)))
 
   -- no page has space: page q joins after the last one
-  pub record NoSpace (t : Items) (s : Seat) : Type 0 where
+  pub record NoSpace (t : Items) (s : Slot) : Type 0 where
     pub before : List Token
     pub entries : List Entry
     pub page : PageEnd t s before entries []

@@ -1,5 +1,5 @@
 // The page of a directory that a new entry goes to, in an image that is known to be accepted.
-use entries::Seat;
+use entries::Slot;
 use geometry::Geometry;
 ghost use Rattle.geometry.specs.Geometry.{Fit};
 ghost use Rattle.packet.specs.Packet.{viewOf};
@@ -9,9 +9,9 @@ ghost use Rattle.space.specs.Spaces.{Spaces};
 // The page of a directory that a new entry goes to.
 pub enum Space {
     // the first page with space
-    At(Seat),
+    At(Slot),
     // no page has space: the last page
-    Full(Seat),
+    Full(Slot),
 }
 
 // The first page of a directory with space for an entry, in chain order; its last page if there is none.
@@ -20,17 +20,17 @@ pub fn find_space(image: &[u8], g: Geometry, start: usize) -> Space
     requires { ⌜ HasTree g (viewOf g (now image)) start ⌝ }
     ensures { λ r. ⌜ Spaces g (viewOf g (now (image .entry))) start r ⌝ }
 {
-    let mut seat = Seat::first(image, g, start);
+    let mut slot = Slot::first(image, g, start);
     let mut room = g.first_entries();
     loop {
-        if seat.count < room {
-            return Space::At(seat);
+        if slot.count < room {
+            return Space::At(slot);
         }
-        let next = seat.next;
+        let next = slot.next;
         if next.page == 0 {
-            return Space::Full(seat);
+            return Space::Full(slot);
         }
-        seat = Seat::begin(next, 0, image, g);
+        slot = Slot::begin(next, 0, image, g);
         room = g.later_entries();
     }
 }

@@ -24,8 +24,8 @@ use Rattle.rules.specs.Check.{Part, partPages, judgeEntry, judgeSub}
 use Rattle.rules.specs.Soundness.{entry-sound, sub-sound}
 use Rattle.chain.specs.Claims.{IsGood, Counted}
 use Rattle.chain.specs.Steps.{firstStep}
-use Rattle.entries.specs.declared.Seat.{Seat}
-use Rattle.entries.specs.Seats.{chainKeys, openOf, advanced, HasEntries}
+use Rattle.entries.specs.declared.Slot.{Slot}
+use Rattle.entries.specs.EntrySlots.{chainKeys, openOf, advanced, HasEntries}
 use Rattle.entries.proofs.TokensAt.{TokensAt, EntryAt, tokenKeys, token-keys, first-page, next-entry, no-more, page-after, next-tokens}
 use Rattle.walk.specs.declared.Walk.{Walk}
 use Rattle.walk.specs.declared.Walk.the-variants as w
@@ -42,7 +42,7 @@ module _ (g : Geometry) (v : View) (levels name start : ℕ) where
   LeftOver = Rest g v (judgeSub g v levels) here
 
   -- after m entries of the chain ls₀, whose walk began with the totals c₀ and the table t₀
-  pub record Left (c₀ : Totals) (t₀ claimed₀ : List ℕ) (ls₀ : List Link) (t : List ℕ) (c : Totals) (s : Seat) (m : ℕ) : Type 0 where
+  pub record Left (c₀ : Totals) (t₀ claimed₀ : List ℕ) (ls₀ : List Link) (t : List ℕ) (c : Totals) (s : Slot) (m : ℕ) : Type 0 where
     pub claimed : List ℕ
     pub seen : List ℕ
     pub before : List ℕ
@@ -60,13 +60,13 @@ module _ (g : Geometry) (image : List ℕ) (fit : Fit g image) (levels name star
   abbrev v : View
   v = viewOf g image
 
-  abbrev pub Now : List ℕ → Totals → Seat → ℕ → Type 0
+  abbrev pub Now : List ℕ → Totals → Slot → ℕ → Type 0
   Now = Left g v levels name start c₀ t₀ claimed₀ ls₀
 
   abbrev pub Whole : Walk → List ℕ → Type 0
   Whole = LeftOver g v levels name start claimed₀ start [] (linkTokens g (controlSize g) ls₀) c₀ t₀
 
-  module _ (t : List ℕ) (c : Totals) (s : Seat) (m : ℕ) (L : Now t c s m) where
+  module _ (t : List ℕ) (c : Totals) (s : Slot) (m : ℕ) (L : Now t c s m) where
     open Left L using (claimed, seen, before, ts, represents, good-totals, ahead, keys-are, met, same, finish)
 
     -- the entries met are the chain's first
@@ -121,10 +121,10 @@ module _ (g : Geometry) (image : List ℕ) (fit : Fit g image) (levels name star
               }
 
           -- past it, with one entry less to go
-          pub left-entry : (d : Totals) → r ≡ w.Done d → (s′ : Seat) (n : ℕ) → s′ ≡ advanced s → m + 1 ≡ n → Now u d s′ n
+          pub left-entry : (d : Totals) → r ≡ w.Done d → (s′ : Slot) (n : ℕ) → s′ ≡ advanced s → m + 1 ≡ n → Now u d s′ n
           left-entry d o s′ n y h =
               let a = answered (w.Done d) o in
-              subst (λ (x : ℕ). Now u d s′ x) h (subst (λ (x : Seat). Now u d x (m + 1)) (sym y) (subst (λ (x : List ℕ). Now x d (advanced s) (m + 1)) (sym (a .3)) (subst (λ (x : Totals). Now (ownPart (c .files + c .directories) t (a .0)) x (advanced s) (m + 1)) (sym (a .2)) (entered (a .0) (a .1)))))
+              subst (λ (x : ℕ). Now u d s′ x) h (subst (λ (x : Slot). Now u d x (m + 1)) (sym y) (subst (λ (x : List ℕ). Now x d (advanced s) (m + 1)) (sym (a .3)) (subst (λ (x : Totals). Now (ownPart (c .files + c .directories) t (a .0)) x (advanced s) (m + 1)) (sym (a .2)) (entered (a .0) (a .1)))))
 
     module _ (i : s .count ≤ s .at) where
       pub left-done : s .next .page ≡ 0 → Whole (w.Done c) t
@@ -136,7 +136,7 @@ module _ (g : Geometry) (image : List ℕ) (fit : Fit g image) (levels name star
         pub left-next : Counted (s .next) × (s .next .page < g .pages) × IsGood (v (s .next .page)) × (s .next .count < length ls₀)
         left-next = page-after g image fit (length ls₀) s ts ahead i z
 
-        pub left-page : (s′ : Seat) → s′ ≡ openOf g v 0 (s .next) → Now t c s′ m
+        pub left-page : (s′ : Slot) → s′ ≡ openOf g v 0 (s .next) → Now t c s′ m
         left-page s′ y =
             let k = next-tokens g image fit (length ls₀) s ts ahead i z s′ y in
             record {
@@ -155,7 +155,7 @@ module _ (g : Geometry) (image : List ℕ) (fit : Fit g image) (levels name star
             }
 
   -- the first page
-  pub left-first : (s : Seat) (n : ℕ) → s ≡ openOf g v (controlSize g) (firstStep start start) → 0 ≡ n → Represents t₀ claimed₀ → Good g c₀ t₀ → Now t₀ c₀ s n
+  pub left-first : (s : Slot) (n : ℕ) → s ≡ openOf g v (controlSize g) (firstStep start start) → 0 ≡ n → Represents t₀ claimed₀ → Good g c₀ t₀ → Now t₀ c₀ s n
   left-first s n e z r h =
       let k = first-page g image fit start s ls₀ e chain in
       subst (Now t₀ c₀ s) z (record {
@@ -174,7 +174,7 @@ module _ (g : Geometry) (image : List ℕ) (fit : Fit g image) (levels name star
       })
 
 -- for the code's own needs: one list of claimed pages and one chain
-pub witness : (g : Geometry) (v : View) (levels name start : ℕ) (c₀ : Totals) (t₀ t : List ℕ) (c : Totals) (s : Seat) (m : ℕ) (k : KnownChain g v start)
+pub witness : (g : Geometry) (v : View) (levels name start : ℕ) (c₀ : Totals) (t₀ t : List ℕ) (c : Totals) (s : Slot) (m : ℕ) (k : KnownChain g v start)
     → ((claimed : List ℕ) (ls : List Link) → Represents t₀ claimed → ChainStands g v start ls → Left g v levels name start c₀ t₀ claimed ls t c s m)
     → Left g v levels name start c₀ t₀ (taken t₀) (k .links) t c s m
 witness g v levels name start c₀ t₀ t c s m k f = f (taken t₀) (k .links) (represents-taken t₀) (k .chain)

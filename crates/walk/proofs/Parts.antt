@@ -31,7 +31,7 @@ use Rattle.directory.specs.Faults.{faultAt, testOf}
 use Rattle.chain.specs.declared.Claim.{Claim}
 use Rattle.chain.specs.declared.Claim.the-variants as claim
 use Rattle.chain.specs.Claims.{Agrees, Claims}
-use Rattle.entries.specs.Seats.{chainKeys, Repeats}
+use Rattle.entries.specs.EntrySlots.{chainKeys, Repeats}
 use Rattle.walk.specs.declared.Walk.{Walk}
 use Rattle.walk.specs.declared.Walk.the-variants as w
 use Rattle.walk.specs.Walks.{Good, Ready, Answers, plusDirectory, plusPart, ownDirectory, ownPart, judgeFirst, judgeBelow, Met}

@@ -19,7 +19,7 @@ use Rattle.rules.specs.Owners.{fileCount, directoryCount, own, ownEntries}
 use Rattle.rules.specs.OwnerLaws.{Represents, inUse}
 use Rattle.rules.specs.Check.{Part, chain, directory, judgeLabel, judgeFile, judgeEntry, judgeDirectory, judgeSub}
 use Rattle.directory.specs.Faults.{faultAt}
-use Rattle.entries.specs.Seats.{chainKeys}
+use Rattle.entries.specs.EntrySlots.{chainKeys}
 use Rattle.walk.specs.declared.Parent.{Parent}
 use Rattle.walk.specs.declared.Walk.{Walk}
 use Rattle.walk.specs.declared.Walk.the-variants as w

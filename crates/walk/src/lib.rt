@@ -1,7 +1,7 @@
 // The walk over a directory and all below it: every chain is claimed in the owner table, every entry judged, in the order of the check.
 use chain::Claim;
 use directory::control::Kind;
-use entries::Seat;
+use entries::Slot;
 use geometry::Geometry;
 use rules::Entry;
 use rules::Totals;
@@ -11,7 +11,7 @@ ghost use lib.ListN.{length};
 ghost use Rattle.geometry.specs.Geometry.{Fit};
 ghost use Rattle.packet.specs.Packet.{viewOf};
 ghost use Rattle.directory.specs.Faults.{testOf};
-ghost use Rattle.entries.specs.Seats.{HasEntries};
+ghost use Rattle.entries.specs.EntrySlots.{HasEntries};
 ghost use Rattle.walk.specs.Walks.{Good, Ready, Remaining, EntryFault, BelowFault, FileWalked, EntryWalked, DirectoryWalked};
 
 // What a walk answers: the totals so far, or a number of document 01 and the page told.
@@ -165,24 +165,24 @@ pub fn walk_directory(
             };
             let count = entries::count_of(image, g, start);
             let parent = Parent { name, start, count };
-            let mut seat = Seat::first(image, g, start);
+            let mut slot = Slot::first(image, g, start);
             let mut left = count;
             loop {
-                if seat.at < seat.count {
-                    let page = seat.page;
-                    let e = seat.entry(image, g);
+                if slot.at < slot.count {
+                    let page = slot.page;
+                    let e = slot.entry(image, g);
                     match walk_entry(image, g, levels, parent, page, left, e, so_far, owners) {
                         Walk::Refused(number, told) => return Walk::Refused(number, told),
                         Walk::Done(d) => so_far = d,
                     }
-                    seat = seat.past();
+                    slot = slot.past();
                     left -= 1;
                 } else {
-                    let next = seat.next;
+                    let next = slot.next;
                     if next.page == 0 {
                         return Walk::Done(so_far);
                     }
-                    seat = Seat::begin(next, 0, image, g);
+                    slot = Slot::begin(next, 0, image, g);
                 }
             }
         }

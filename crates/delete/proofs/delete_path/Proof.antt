@@ -12,13 +12,13 @@ returns : tie.Need-returns
 returns c =
     let s = c .before .before .before .before .before .before .before .before .before .before in
     let a = s .args in
-    read-only (a .g) (a .image .now) (a .owners .now) (a .path .now) (s .pre .1 .1) (c .before .before .before .before .before .find-file .result) (c .before .before .before .before .before .find-file .ensures) _ _ (c .before .before .before .seat .given .1) (c .if1 .taken)
+    read-only (a .g) (a .image .now) (a .owners .now) (a .path .now) (s .pre .1 .1) (c .before .before .before .before .before .find-file .result) (c .before .before .before .before .before .find-file .ensures) _ _ (c .before .before .before .slot .given .1) (c .if1 .taken)
 
 unlink-requires : tie.Need-unlink-requires
 unlink-requires c κs =
     let s = c .before .before .before .before .before .before .before .before .before .before .before .before in
     let a = s .args in
-    (s .pre .0, (s .pre .1 .0, has-file (a .g) (a .image .now) (a .owners .now) (a .path .now) (s .pre .1 .1) (c .before .before .before .before .before .before .before .find-file .result) (c .before .before .before .before .before .before .before .find-file .ensures) _ _ (c .before .before .before .before .before .seat .given .1)))
+    (s .pre .0, (s .pre .1 .0, has-file (a .g) (a .image .now) (a .owners .now) (a .path .now) (s .pre .1 .1) (c .before .before .before .before .before .before .before .find-file .result) (c .before .before .before .before .before .before .before .find-file .ensures) _ _ (c .before .before .before .before .before .slot .given .1)))
 
 returns-2 : tie.Need-returns-2
 returns-2 c =
@@ -42,7 +42,7 @@ returns-5 : tie.Need-returns-5
 returns-5 c =
     let s = c .before .before .before .before .before .before .before .before .before .before .before .before .before .before .before .before .before in
     let a = s .args in
-    done (a .g) (a .image .now) (a .owners .now) (a .path .now) (s .pre .1 .1) (c .before .before .before .before .before .before .before .before .before .before .before .before .find-file .result) (c .before .before .before .before .before .before .before .before .before .before .before .before .find-file .ensures) _ _ (c .before .before .before .before .before .before .before .before .before .before .seat .given .1) (omega (arith, c .before .before .before .before .before .before .before .if1 .left)) _ (c .before .before .before .before .unlink .ensures)
+    done (a .g) (a .image .now) (a .owners .now) (a .path .now) (s .pre .1 .1) (c .before .before .before .before .before .before .before .before .before .before .before .before .find-file .result) (c .before .before .before .before .before .before .before .before .before .before .before .before .find-file .ensures) _ _ (c .before .before .before .before .before .before .before .before .before .before .slot .given .1) (omega (arith, c .before .before .before .before .before .before .before .if1 .left)) _ (c .before .before .before .before .unlink .ensures)
 
 pub delete-path-spec : {M : Type 1} → statement M
 delete-path-spec =

@@ -5,17 +5,17 @@ use native.Mathlib.Omega.{arith}
 use Rattle.packet.specs.Packet.{viewOf}
 use Rattle.rules.specs.Chain.{Link}
 use Rattle.chain.specs.KnownChain.{ChainStands}
-use Rattle.entries.proofs.Seated.{counts-on}
+use Rattle.entries.proofs.AtSlot.{counts-on}
 use Rattle.entries.proofs.Counting.{Counting, count-first, count-few, count-done, count-next, count-on}
 use borrow.Author.Needs.{needs}
 use Rattle.entries.proofs.count_of.Statement.{statement}
 use Rattle.entries.proofs.count_of.Tie as tie
 
 abbrev Inv-loop : tie.InvT-loop
-Inv-loop image g start seat₀ n₀ seat n = (ls : List Link) → ChainStands g (viewOf g image) start ls → Counting g (viewOf g image) ls seat n
+Inv-loop image g start slot₀ n₀ slot n = (ls : List Link) → ChainStands g (viewOf g image) start ls → Counting g (viewOf g image) ls slot n
 
 abbrev μ-loop : tie.MeasureT-loop
-μ-loop image g start seat₀ n₀ seat n = g .pages - seat .next .count
+μ-loop image g start slot₀ n₀ slot n = g .pages - slot .next .count
 
 loop-holds : tie.Need-loop-holds Inv-loop μ-loop
 loop-holds c = λ ls d. count-first _ _ (c .before .before .pre .0) _ _ ls (c .first .ensures) d

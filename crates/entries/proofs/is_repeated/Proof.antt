@@ -7,9 +7,9 @@ use Rattle.geometry.specs.Geometry.{controlSize}
 use Rattle.packet.specs.Packet.{viewOf}
 use Rattle.rules.specs.PageSets.{mem}
 use Rattle.rules.specs.Chain.{Link}
-use Rattle.entries.specs.Seats.{chainKeys}
+use Rattle.entries.specs.EntrySlots.{chainKeys}
 use Rattle.entries.proofs.KeyLaws.{entry-least}
-use Rattle.entries.proofs.Seated.{counts-on}
+use Rattle.entries.proofs.AtSlot.{counts-on}
 use Rattle.entries.proofs.Looking.{Looking, started, searched, found, not-found, next-good, look-on}
 use borrow.Author.Needs.{needs}
 use Rattle.entries.proofs.is_repeated.Statement.{statement}
@@ -17,10 +17,10 @@ use Rattle.entries.proofs.is_repeated.Tie as tie
 use Rattle.chain.specs.KnownChain.{ChainStands}
 
 abbrev Inv-loop : tie.InvT-loop
-Inv-loop image g start m key seat₀ left₀ seat left = (ls : List Link) → ChainStands g (viewOf g image) start ls → m ≤ length (chainKeys g (controlSize g) ls) → Looking g (viewOf g image) key (mem key (take m (chainKeys g (controlSize g) ls))) (length ls) seat left
+Inv-loop image g start m key slot₀ left₀ slot left = (ls : List Link) → ChainStands g (viewOf g image) start ls → m ≤ length (chainKeys g (controlSize g) ls) → Looking g (viewOf g image) key (mem key (take m (chainKeys g (controlSize g) ls))) (length ls) slot left
 
 abbrev μ-loop : tie.MeasureT-loop
-μ-loop image g start m key seat₀ left₀ seat left = left + (g .pages - seat .next .count)
+μ-loop image g start m key slot₀ left₀ slot left = left + (g .pages - slot .next .count)
 
 first-requires : tie.Need-first-requires Inv-loop μ-loop
 first-requires c κs = let s = c .before .pre in (s .0, record { links = s .1 .links; chain = s .1 .chain })
@@ -32,13 +32,13 @@ page-of-requires : tie.Need-page-of-requires Inv-loop μ-loop
 page-of-requires c κs =
     let s = c .before .before .before .pre in
     let l = c .loop .inv (s .1 .links) (s .1 .chain) (s .1 .enough) in
-    (s .0, l .seated .fits .inside)
+    (s .0, l .at-slot .fits .inside)
 
 add-page-has : tie.Need-add-page-has Inv-loop μ-loop
 add-page-has c =
     let s = c .before .before .before .before .before .pre in
     let l = c .before .before .loop .inv (s .1 .links) (s .1 .chain) (s .1 .enough) in
-    let r = l .seated .fits .room in
+    let r = l .at-slot .fits .room in
     let k = s .0 .valid .most in
     search needs
 
@@ -46,7 +46,7 @@ page-has-requires : tie.Need-page-has-requires Inv-loop μ-loop
 page-has-requires c κs =
     let s = c .before .before .before .before .before .before .pre in
     let l = c .before .before .before .loop .inv (s .1 .links) (s .1 .chain) (s .1 .enough) in
-    (s .0 .valid, searched _ _ (s .0) (c .before .before .before .loop .seat) _ _ _ (l .seated .fits) (c .before .before .page-of .ensures) (c .least .ensures))
+    (s .0 .valid, searched _ _ (s .0) (c .before .before .before .loop .slot) _ _ _ (l .at-slot .fits) (c .before .before .page-of .ensures) (c .least .ensures))
 
 returns : tie.Need-returns Inv-loop μ-loop
 returns c = λ ls d n.
@@ -63,7 +63,7 @@ begin-requires c κs =
     let s = c .before .before .before .before .before .before .before .before .before .before .pre in
     let l = c .before .before .before .before .before .before .before .loop .inv (s .1 .links) (s .1 .chain) (s .1 .enough) in
     let k = next-good _ _ (s .0) _ _ _ _ _ l (entry-least _ (s .0 .valid)) _ (c .before .before .before .before .before .before .page-of .ensures) _ (c .before .before .before .before .least .ensures) _ (c .before .before .before .page-has .ensures) (c .before .before .if1 .left) (c .before .if2 .left) in
-    (s .0, (l .seated .counted, k .0, k .1, omega arith))
+    (s .0, (l .at-slot .counted, k .0, k .1, omega arith))
 
 loop-less : tie.Need-loop-less Inv-loop μ-loop
 loop-less c =

@@ -4,7 +4,7 @@ use native.Mathlib.Omega.{arith}
 use lib.ListN.{drop}
 use Rattle.geometry.specs.Geometry.{entrySize}
 use Rattle.rules.specs.PageSets.{mem}
-use Rattle.entries.specs.Seats.{keysFrom}
+use Rattle.entries.specs.EntrySlots.{keysFrom}
 use Rattle.entries.proofs.KeyLaws.{key-found, key-passed, keys-begin, keys-end, at-entry}
 use borrow.Author.Needs.{needs}
 use Rattle.entries.proofs.page_has.Statement.{statement}

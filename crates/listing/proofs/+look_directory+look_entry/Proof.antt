@@ -3,8 +3,8 @@ use Prim.Native.Nat.{_<_, ℕ, _+_, _-_, _*_}
 use native.Mathlib.Omega.{arith}
 use Rattle.packet.specs.Packet.{viewOf}
 use Rattle.rules.specs.Tree.{Items}
-use Rattle.entries.proofs.Places.{seat-few, past-less, page-less}
-use Rattle.entries.proofs.Seated.{counts-on}
+use Rattle.entries.proofs.Places.{slot-few, past-less, page-less}
+use Rattle.entries.proofs.AtSlot.{counts-on}
 use Rattle.listing.specs.Standing.{Stands}
 use Rattle.listing.proofs.Lines.{looks-head, looks-file, some-level, has-directory, looks-below}
 use Rattle.listing.proofs.Ahead.{Ahead, ahead-first, ahead-part, ahead-found, ahead-past, ahead-done, ahead-next, ahead-page}
@@ -17,10 +17,10 @@ use Rattle.listing.proofs.+look_directory+look_entry.Lts-look_directory
 use Rattle.listing.proofs.look_entry.Reads as look-entry
 use Rattle.listing.proofs.look_entry.Kinds as look-entry-kinds
 use Rattle.listing.proofs.+look_directory+look_entry.Lts-look_entry as look-entry-lts
-use Rattle.entries.proofs.Seat.begin.Reads as begin-reads
-use Rattle.entries.proofs.Seat.first.Reads as first-reads
-use Rattle.entries.proofs.Seat.entry.Reads as entry-reads
-use Rattle.entries.proofs.Seat.past.Reads as past-reads
+use Rattle.entries.proofs.Slot.begin.Reads as begin-reads
+use Rattle.entries.proofs.Slot.first.Reads as first-reads
+use Rattle.entries.proofs.Slot.entry.Reads as entry-reads
+use Rattle.entries.proofs.Slot.past.Reads as past-reads
 use Rattle.listing.proofs.entry_line.Reads as entry-line-reads
 use Rattle.listing.proofs.+look_directory+look_entry.{statement}
 use Rattle.listing.proofs.+look_directory+look_entry.Tie.{close}
@@ -56,11 +56,11 @@ look-entry-below t =
     and 1 look-entry-kinds.ps (falls 1 look-entry-kinds.ps _<_ μ-look-entry t) look-entry.Pre
 
 abbrev look-directory-Inv-loop : look-directory-lts.InvT-loop
-look-directory-Inv-loop image g levels level start k seat₀ left₀ seat left =
-    (t : Items) → Stands g (viewOf g image) levels start t → Ahead g (viewOf g image) levels level k t seat left
+look-directory-Inv-loop image g levels level start k slot₀ left₀ slot left =
+    (t : Items) → Stands g (viewOf g image) levels start t → Ahead g (viewOf g image) levels level k t slot left
 
 abbrev look-directory-μ-loop : look-directory-lts.MeasureT-loop
-look-directory-μ-loop image g levels level start k seat₀ left₀ seat left = (g .pages - seat .next .count) * 256 + (seat .count - seat .at)
+look-directory-μ-loop image g levels level start k slot₀ left₀ slot left = (g .pages - slot .next .count) * 256 + (slot .count - slot .at)
 
 abbrev look-directory-calls : ℕ → look-directory-lts.Claims
 look-directory-calls t = (first-reads.Asked, first-reads.Learnt, entry-reads.Asked, entry-reads.Learnt, look-entry-below t, look-entry.Post, past-reads.Asked, past-reads.Learnt, begin-reads.Asked, begin-reads.Learnt)
@@ -81,7 +81,7 @@ look-directory-entry-requires : (t : ℕ) → look-directory-lts.Need-entry-requ
 look-directory-entry-requires t c κs =
     let s = c .before .before .before .before .before .pre .1 in
     let l = c .before .before .loop .inv (s .1 .1 .tree) (s .1 .1 .stands) in
-    (s .0, (l .ahead .seated .fits, c .if1 .taken))
+    (s .0, (l .ahead .at-slot .fits, c .if1 .taken))
 
 look-directory-look-entry-requires : (t : ℕ) → look-directory-lts.Need-look-entry-requires (look-directory-calls t) (look-directory-at t) look-directory.Post look-directory-Inv-loop look-directory-μ-loop
 look-directory-look-entry-requires t c κs =
@@ -126,7 +126,7 @@ look-directory-loop-less-2 t c =
     let k = ahead-next _ _ (s .0) _ _ _ _ _ _ l (c .before .before .before .before .if1 .left) (c .before .if2 .left) in
     let n = ahead-page _ _ (s .0) _ _ _ _ _ _ l (c .before .before .before .before .if1 .left) (c .before .if2 .left) _ (c .begin .ensures) in
     let f = l .ahead .few in
-    page-less (c .before .before .before .before .before .before .before .before .before .args .g .pages) _ _ _ _ _ (counts-on _ _ (s .0) _ _ _ (c .begin .ensures) (k .2)) (omega (arith, k .3)) (seat-few _ _ (s .0 .valid) (n .ahead .seated .fits))
+    page-less (c .before .before .before .before .before .before .before .before .before .args .g .pages) _ _ _ _ _ (counts-on _ _ (s .0) _ _ _ (c .begin .ensures) (k .2)) (omega (arith, k .3)) (slot-few _ _ (s .0 .valid) (n .ahead .at-slot .fits))
 
 look-directory-loop-again-2 : (t : ℕ) → look-directory-lts.Need-loop-again-2 (look-directory-calls t) (look-directory-at t) look-directory.Post look-directory-Inv-loop look-directory-μ-loop
 look-directory-loop-again-2 t c = λ tree st.

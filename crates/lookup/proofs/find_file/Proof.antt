@@ -41,7 +41,7 @@ returns-4 : tie.Need-returns-4
 returns-4 c = λ i h.
     let a = c .before .before .before .before .before .before .before .before .before .before .before .before .before .before .before .args in
     let P = well-formed _ _ _ _ _ (c .before .before .before .before .before .before .before .before .before .before .before .before .parse .ensures) (c .before .before .before .before .before .before .before .before .before .before .names .given .1) in
-    file-at (a .g) (viewOf (a .g) (a .image .now)) (a .path .now) i _ _ _ P (c .before .before .before .before .before .before .before .before .resolve .result) (c .before .before .before .before .before .before .before .before .resolve .ensures (i .tree) (root-tree _ _ i h) atRoot theRoot) _ (c .before .before .before .before .before .before .start .given .1) _ (c .before .before .before .before .key-of .ensures) (c .before .before .before .find-place .result) (c .before .before .before .find-place .ensures) _ _ (c .before .seat .given .1)
+    file-at (a .g) (viewOf (a .g) (a .image .now)) (a .path .now) i _ _ _ P (c .before .before .before .before .before .before .before .before .resolve .result) (c .before .before .before .before .before .before .before .before .resolve .ensures (i .tree) (root-tree _ _ i h) atRoot theRoot) _ (c .before .before .before .before .before .before .start .given .1) _ (c .before .before .before .before .key-of .ensures) (c .before .before .before .find-place .result) (c .before .before .before .find-place .ensures) _ _ (c .before .slot .given .1)
 
 pub find-file-spec : {M : Type 1} → statement M
 find-file-spec =

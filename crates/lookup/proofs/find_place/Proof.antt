@@ -5,18 +5,18 @@ use native.Mathlib.Omega.{arith}
 use Rattle.packet.specs.Packet.{viewOf}
 use Rattle.rules.specs.Tree.{Items}
 use Rattle.lookup.specs.Searches.{TreeAt}
-use Rattle.entries.proofs.Places.{seat-few, past-less, page-less}
-use Rattle.entries.proofs.Seated.{counts-on}
+use Rattle.entries.proofs.Places.{slot-few, past-less, page-less}
+use Rattle.entries.proofs.AtSlot.{counts-on}
 use Rattle.lookup.proofs.Finding.{Finding, find-first, found, find-on, not-found, find-next, find-page-on}
 use borrow.Author.Needs.{needs}
 use Rattle.lookup.proofs.find_place.Statement.{statement}
 use Rattle.lookup.proofs.find_place.Tie as tie
 
 abbrev Inv-loop : tie.InvT-loop
-Inv-loop image g start key seat₀ seat = (t : Items) → TreeAt g (viewOf g image) start t → Finding g (viewOf g image) key t seat
+Inv-loop image g start key slot₀ slot = (t : Items) → TreeAt g (viewOf g image) start t → Finding g (viewOf g image) key t slot
 
 abbrev μ-loop : tie.MeasureT-loop
-μ-loop image g start key seat₀ seat = (g .pages - seat .next .count) * 256 + (seat .count - seat .at)
+μ-loop image g start key slot₀ slot = (g .pages - slot .next .count) * 256 + (slot .count - slot .at)
 
 first-requires : tie.Need-first-requires Inv-loop μ-loop
 first-requires c κs = let s = c .before .pre in (s .0, record { links = s .1 .at .stands .chained .links; chain = s .1 .at .stands .chained .chain })
@@ -27,7 +27,7 @@ loop-holds c = λ t d. find-first _ _ (c .before .before .pre .0) _ t _ _ d (c .
 entry-requires : tie.Need-entry-requires Inv-loop μ-loop
 entry-requires c κs =
     let s = c .before .before .before .before .before .pre in
-    (s .0, (c .before .before .loop .inv (s .1 .tree) (s .1 .at) .ahead .seated .fits, c .if1 .taken))
+    (s .0, (c .before .before .loop .inv (s .1 .tree) (s .1 .at) .ahead .at-slot .fits, c .if1 .taken))
 
 returns : tie.Need-returns Inv-loop μ-loop
 returns c = λ t d. found _ _ (c .before .before .before .before .before .before .before .before .pre .0) _ t _ (c .before .before .before .before .before .loop .inv t d) (c .before .before .before .if1 .taken) _ (c .before .before .entry .ensures .0) (sym (c .before .key-of .ensures) ∙ c .if2 .taken)
@@ -53,7 +53,7 @@ loop-less-2 c =
     let l = c .before .before .before .before .before .before .loop .inv (s .1 .tree) (s .1 .at) in
     let k = find-next _ _ (s .0) _ _ _ l (c .before .before .before .before .if1 .left) (c .before .if3 .left) in
     let n = find-page-on _ _ (s .0) _ _ _ l (c .before .before .before .before .if1 .left) (c .before .if3 .left) _ (c .begin .ensures) in
-    page-less (c .before .before .before .before .before .before .before .before .before .args .g .pages) _ _ _ _ _ (counts-on _ _ (s .0) _ _ _ (c .begin .ensures) (k .2)) (omega (arith, k .3, l .ahead .few)) (seat-few _ _ (s .0 .valid) (n .ahead .seated .fits))
+    page-less (c .before .before .before .before .before .before .before .before .before .args .g .pages) _ _ _ _ _ (counts-on _ _ (s .0) _ _ _ (c .begin .ensures) (k .2)) (omega (arith, k .3, l .ahead .few)) (slot-few _ _ (s .0 .valid) (n .ahead .at-slot .fits))
 
 loop-again-2 : tie.Need-loop-again-2 Inv-loop μ-loop
 loop-again-2 c = λ t d. find-page-on _ _ (c .before .before .before .before .before .before .before .before .before .pre .0) _ t _ (c .before .before .before .before .before .before .loop .inv t d) (c .before .before .before .before .if1 .left) (c .before .if3 .left) _ (c .begin .ensures)

@@ -18,13 +18,13 @@ returns : tie.Need-returns
 returns c =
     let s = c .before .before .before .before .before .before .before .before .before .before .before in
     let a = s .args in
-    read-only (a .g) (a .image .now) (a .owners .now) (a .path .now) (a .bytes .now) (s .pre .0) (s .pre .1 .1) (λ i. c .before .before .before .before .before .before .before .before .before .shared-slice-known .given i .fits) (λ i. c .before .before .before .before .before .before .before .before .shared-slice-known2 .given i .fits) (c .before .before .before .before .before .find-file .result) (c .before .before .before .before .before .find-file .ensures) _ _ (c .before .before .before .seat .given .1) (c .if1 .taken)
+    read-only (a .g) (a .image .now) (a .owners .now) (a .path .now) (a .bytes .now) (s .pre .0) (s .pre .1 .1) (λ i. c .before .before .before .before .before .before .before .before .before .shared-slice-known .given i .fits) (λ i. c .before .before .before .before .before .before .before .before .shared-slice-known2 .given i .fits) (c .before .before .before .before .before .find-file .result) (c .before .before .before .before .before .find-file .ensures) _ _ (c .before .before .before .slot .given .1) (c .if1 .taken)
 
 replace-file-requires : tie.Need-replace-file-requires
 replace-file-requires c κs =
     let s = c .before .before .before .before .before .before .before .before .before .before .before .before .before in
     let a = s .args in
-    (s .pre .0, (s .pre .1 .0, to-replace (a .g) (a .image .now) (a .owners .now) (a .path .now) (a .bytes .now) (s .pre .0) (s .pre .1 .1) (λ i. c .before .before .before .before .before .before .before .before .before .before .before .shared-slice-known .given i .fits) (λ i. c .before .before .before .before .before .before .before .before .before .before .shared-slice-known2 .given i .fits) (c .before .before .before .before .before .before .before .find-file .result) (c .before .before .before .before .before .before .before .find-file .ensures) _ _ (c .before .before .before .before .before .seat .given .1) (omega (arith, c .before .before .if1 .left))))
+    (s .pre .0, (s .pre .1 .0, to-replace (a .g) (a .image .now) (a .owners .now) (a .path .now) (a .bytes .now) (s .pre .0) (s .pre .1 .1) (λ i. c .before .before .before .before .before .before .before .before .before .before .before .shared-slice-known .given i .fits) (λ i. c .before .before .before .before .before .before .before .before .before .before .shared-slice-known2 .given i .fits) (c .before .before .before .before .before .before .before .find-file .result) (c .before .before .before .before .before .before .before .find-file .ensures) _ _ (c .before .before .before .before .before .slot .given .1) (omega (arith, c .before .before .if1 .left))))
 
 returns-2 : tie.Need-returns-2
 returns-2 c =
@@ -48,7 +48,7 @@ returns-5 : tie.Need-returns-5
 returns-5 c =
     let s = c .before .before .before .before .before .before .before .before .before .before .before .before .before .before .before .before .before .before in
     let a = s .args in
-    replace-answer (a .g) (a .image .now) (a .owners .now) (a .path .now) (a .bytes .now) (s .pre .0) (s .pre .1 .1) (λ i. c .before .before .before .before .before .before .before .before .before .before .before .before .before .before .before .before .shared-slice-known .given i .fits) (λ i. c .before .before .before .before .before .before .before .before .before .before .before .before .before .before .before .shared-slice-known2 .given i .fits) (c .before .before .before .before .before .before .before .before .before .before .before .before .find-file .result) (c .before .before .before .before .before .before .before .before .before .before .before .before .find-file .ensures) _ _ (c .before .before .before .before .before .before .before .before .before .before .seat .given .1) (omega (arith, c .before .before .before .before .before .before .before .if1 .left)) (c .before .before .before .before .replace-file .result) _ (c .before .before .before .before .replace-file .ensures)
+    replace-answer (a .g) (a .image .now) (a .owners .now) (a .path .now) (a .bytes .now) (s .pre .0) (s .pre .1 .1) (λ i. c .before .before .before .before .before .before .before .before .before .before .before .before .before .before .before .before .shared-slice-known .given i .fits) (λ i. c .before .before .before .before .before .before .before .before .before .before .before .before .before .before .before .shared-slice-known2 .given i .fits) (c .before .before .before .before .before .before .before .before .before .before .before .before .find-file .result) (c .before .before .before .before .before .before .before .before .before .before .before .before .find-file .ensures) _ _ (c .before .before .before .before .before .before .before .before .before .before .slot .given .1) (omega (arith, c .before .before .before .before .before .before .before .if1 .left)) (c .before .before .before .before .replace-file .result) _ (c .before .before .before .before .replace-file .ensures)
 
 pub put-path-spec : {M : Type 1} → statement M
 put-path-spec =

@@ -24,12 +24,12 @@ add-to c = let k = span-few _ _ (c .before .before .before .before .before .pre 
 rewrite-requires : tie.Need-rewrite-requires
 rewrite-requires c κs =
     let a = c .before .before .before .before .before .before .args in
-    (c .before .before .before .before .before .before .pre .0, (c .before .before .before .before .before .before .pre .1 .0, subst (λ (w : ℕ). HasSpan (a .g) (viewOf (a .g) (a .image .now)) (a .seat .page) (a .seat .skip + w * a .first) (a .seat .skip + w * a .last) (length (a .new .now))) (sym (c .before .before .before .entry-size .ensures .0)) (c .before .before .before .before .before .before .pre .1 .1)))
+    (c .before .before .before .before .before .before .pre .0, (c .before .before .before .before .before .before .pre .1 .0, subst (λ (w : ℕ). HasSpan (a .g) (viewOf (a .g) (a .image .now)) (a .slot .page) (a .slot .skip + w * a .first) (a .slot .skip + w * a .last) (length (a .new .now))) (sym (c .before .before .before .entry-size .ensures .0)) (c .before .before .before .before .before .before .pre .1 .1)))
 
 returns : tie.Need-returns
 returns c =
     let a = c .before .before .before .before .before .before .before .before .before .args in
-    λ b n E. c .before .before .rewrite .ensures b n E ∙ ap (λ (w : ℕ). writePage (a .g) (write (a .seat .page) (spliced (a .seat .skip + w * a .first) (a .seat .skip + w * a .last) (a .new .now) b) (a .seat .next .page)) (a .image .now)) (c .before .before .before .before .before .before .entry-size .ensures .0)
+    λ b n E. c .before .before .rewrite .ensures b n E ∙ ap (λ (w : ℕ). writePage (a .g) (write (a .slot .page) (spliced (a .slot .skip + w * a .first) (a .slot .skip + w * a .last) (a .new .now) b) (a .slot .next .page)) (a .image .now)) (c .before .before .before .before .before .before .entry-size .ensures .0)
 
 pub exchange-spec : {M : Type 1} → statement M
 exchange-spec =

@@ -28,12 +28,12 @@ exchange-requires : tie.Need-exchange-requires
 exchange-requires c κs =
     let a = c .before .before .before .before .before .before .before .args in
     let z = front-size _ _ _ _ (c .before .before .before .put-entry .ensures) (entry-length (a .g) (a .e) _ (c .before .before .before .before .before .entry-size .ensures .0)) in
-    (c .before .before .before .before .before .before .before .pre .0, (c .before .before .before .before .before .before .before .pre .1 .0, subst (λ (n : ℕ). HasSpan (a .g) (viewOf (a .g) (a .image .now)) (a .seat .page) (entryFrom (a .g) (a .seat) (a .first)) (entryFrom (a .g) (a .seat) (a .last)) n) (sym (c .before .before .before .before .before .entry-size .ensures .0) ∙ z) (c .before .before .before .before .before .before .before .pre .1 .1)))
+    (c .before .before .before .before .before .before .before .pre .0, (c .before .before .before .before .before .before .before .pre .1 .0, subst (λ (n : ℕ). HasSpan (a .g) (viewOf (a .g) (a .image .now)) (a .slot .page) (entryFrom (a .g) (a .slot) (a .first)) (entryFrom (a .g) (a .slot) (a .last)) n) (sym (c .before .before .before .before .before .entry-size .ensures .0) ∙ z) (c .before .before .before .before .before .before .before .pre .1 .1)))
 
 returns : tie.Need-returns
 returns c =
     let a = c .before .before .before .before .before .before .before .before .before .before .args in
-    λ b n E. c .before .before .exchange .ensures b n E ∙ ap (λ (x : List ℕ). writePage (a .g) (write (a .seat .page) (spliced (entryFrom (a .g) (a .seat) (a .first)) (entryFrom (a .g) (a .seat) (a .last)) x b) (a .seat .next .page)) (a .image .now))
+    λ b n E. c .before .before .exchange .ensures b n E ∙ ap (λ (x : List ℕ). writePage (a .g) (write (a .slot .page) (spliced (entryFrom (a .g) (a .slot) (a .first)) (entryFrom (a .g) (a .slot) (a .last)) x b) (a .slot .next .page)) (a .image .now))
     (front-read _ _ _ _ (c .before .before .before .before .before .before .put-entry .ensures) (entry-length (a .g) (a .e) _ (c .before .before .before .before .before .before .before .before .entry-size .ensures .0)))
 
 pub place-entry-spec : {M : Type 1} → statement M

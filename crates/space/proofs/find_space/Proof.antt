@@ -4,17 +4,17 @@ use native.Mathlib.Omega.{arith}
 use Rattle.packet.specs.Packet.{viewOf}
 use Rattle.rules.specs.Tree.{Items}
 use Rattle.lookup.specs.Searches.{TreeAt}
-use Rattle.entries.proofs.Seated.{counts-on}
+use Rattle.entries.proofs.AtSlot.{counts-on}
 use Rattle.space.proofs.Filling.{Filling, fill-first, has-space, no-space, fill-next, fill-on}
 use borrow.Author.Needs.{needs}
 use Rattle.space.proofs.find_space.Statement.{statement}
 use Rattle.space.proofs.find_space.Tie as tie
 
 abbrev Inv-loop : tie.InvT-loop
-Inv-loop image g start seat₀ room₀ seat room = (t : Items) → TreeAt g (viewOf g image) start t → Filling g (viewOf g image) t seat room
+Inv-loop image g start slot₀ room₀ slot room = (t : Items) → TreeAt g (viewOf g image) start t → Filling g (viewOf g image) t slot room
 
 abbrev μ-loop : tie.MeasureT-loop
-μ-loop image g start seat₀ room₀ seat room = g .pages - seat .next .count
+μ-loop image g start slot₀ room₀ slot room = g .pages - slot .next .count
 
 first-requires : tie.Need-first-requires Inv-loop μ-loop
 first-requires c κs = let s = c .before .pre in (s .0, record { links = s .1 .at .stands .chained .links; chain = s .1 .at .stands .chained .chain })

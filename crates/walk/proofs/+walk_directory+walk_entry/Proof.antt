@@ -8,7 +8,7 @@ use Rattle.packet.specs.Packet.{viewOf}
 use Rattle.rules.specs.Chain.{Link}
 use Rattle.rules.specs.OwnerLaws.{Represents, taken}
 use Rattle.chain.specs.KnownChain.{ChainStands, KnownChain}
-use Rattle.entries.proofs.Seated.{counts-on, same-next}
+use Rattle.entries.proofs.AtSlot.{counts-on, same-next}
 use Rattle.walk.proofs.Parts.{claim-few, totals-fit, below-some, below-ready, entry-refused, file-entry, entry-below, entry-directory}
 use Rattle.walk.proofs.Left.{Left, witness, one-left, left-known, left-refused, left-entry, left-done, left-next, left-page, left-first}
 use Rattle.walk.proofs.Directories.{refused-directory, whole-refused, whole-done, known-directory}
@@ -23,10 +23,10 @@ use Rattle.walk.proofs.walk_entry.Reads as walk-entry
 use Rattle.walk.proofs.walk_entry.Kinds as walk-entry-kinds
 use Rattle.walk.proofs.+walk_directory+walk_entry.Lts-walk_entry as walk-entry-lts
 use Rattle.chain.proofs.claim_chain.Reads as claim-chain-reads
-use Rattle.entries.proofs.Seat.begin.Reads as begin-reads
-use Rattle.entries.proofs.Seat.entry.Reads as entry-reads
-use Rattle.entries.proofs.Seat.first.Reads as first-reads
-use Rattle.entries.proofs.Seat.past.Reads as past-reads
+use Rattle.entries.proofs.Slot.begin.Reads as begin-reads
+use Rattle.entries.proofs.Slot.entry.Reads as entry-reads
+use Rattle.entries.proofs.Slot.first.Reads as first-reads
+use Rattle.entries.proofs.Slot.past.Reads as past-reads
 use Rattle.entries.proofs.count_of.Reads as count-of-reads
 use Rattle.walk.proofs.below_fault.Reads as below-fault-reads
 use Rattle.walk.proofs.entry_fault.Reads as entry-fault-reads
@@ -65,13 +65,13 @@ walk-entry-below t =
     and 2 walk-entry-kinds.ps (falls 2 walk-entry-kinds.ps _<_ μ-walk-entry t) walk-entry.Pre
 
 abbrev walk-directory-Inv-loop : walk-directory-lts.InvT-loop
-walk-directory-Inv-loop image g levels name from start owner owners₀ pages so-far₀ count parent seat₀ left₀ owners so-far seat left =
+walk-directory-Inv-loop image g levels name from start owner owners₀ pages so-far₀ count parent slot₀ left₀ owners so-far slot left =
     (length owners ≡ g .pages) × KnownChain g (viewOf g image) start × (left ≤ count)
-    × ((claimed : List ℕ) (ls : List Link) → Represents owners₀ claimed → ChainStands g (viewOf g image) start ls → Left g (viewOf g image) levels name start so-far₀ owners₀ claimed ls owners so-far seat (count - left))
+    × ((claimed : List ℕ) (ls : List Link) → Represents owners₀ claimed → ChainStands g (viewOf g image) start ls → Left g (viewOf g image) levels name start so-far₀ owners₀ claimed ls owners so-far slot (count - left))
 
 abbrev walk-directory-μ-loop : walk-directory-lts.MeasureT-loop
-walk-directory-μ-loop image g levels name from start owner owners₀ pages so-far₀ count parent seat₀ left₀ owners so-far seat left =
-    left + (g .pages - seat .next .count)
+walk-directory-μ-loop image g levels name from start owner owners₀ pages so-far₀ count parent slot₀ left₀ owners so-far slot left =
+    left + (g .pages - slot .next .count)
 
 abbrev walk-directory-calls : ℕ → walk-directory-lts.Claims
 walk-directory-calls t = (claim-chain-reads.Asked, claim-chain-reads.Learnt, count-of-reads.Asked, count-of-reads.Learnt, first-reads.Asked, first-reads.Learnt, entry-reads.Asked, entry-reads.Learnt, walk-entry-below t, walk-entry.Post, past-reads.Asked, past-reads.Learnt, begin-reads.Asked, begin-reads.Learnt)
@@ -116,7 +116,7 @@ walk-directory-entry-requires : (t : ℕ) → walk-directory-lts.Need-entry-requ
 walk-directory-entry-requires t c κs =
     let i = c .before .before .loop .inv in
     let l = witness _ _ _ _ _ _ _ _ _ _ _ (i .1) (i .3) in
-    (c .before .before .before .before .before .before .before .before .before .before .before .before .before .before .before .pre .1 .0, (l .ahead .seated .fits, c .if1 .taken))
+    (c .before .before .before .before .before .before .before .before .before .before .before .before .before .before .before .pre .1 .0, (l .ahead .at-slot .fits, c .if1 .taken))
 
 walk-directory-walk-entry-requires : (t : ℕ) → walk-directory-lts.Need-walk-entry-requires (walk-directory-calls t) (walk-directory-at t) walk-directory.Post walk-directory-Inv-loop walk-directory-μ-loop
 walk-directory-walk-entry-requires t c κs =

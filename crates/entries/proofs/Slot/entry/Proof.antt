@@ -1,8 +1,8 @@
 use mathlib.Core.Path.{_∙_}
-use Rattle.entries.proofs.SeatLaws.{entry-inside, entry-from, entry-reads}
+use Rattle.entries.proofs.SlotLaws.{entry-inside, entry-from, entry-reads}
 use borrow.Author.Needs.{needs}
-use Rattle.entries.proofs.Seat.entry.Statement.{statement}
-use Rattle.entries.proofs.Seat.entry.Tie as tie
+use Rattle.entries.proofs.Slot.entry.Statement.{statement}
+use Rattle.entries.proofs.Slot.entry.Tie as tie
 
 mul-at : tie.Need-mul-at
 mul-at c =

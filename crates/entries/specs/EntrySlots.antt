@@ -14,7 +14,7 @@ use Rattle.rules.specs.Names.{key}
 use Rattle.chain.specs.declared.Cursor.{Cursor}
 use Rattle.chain.specs.KnownChain.{ChainStands}
 use Rattle.chain.specs.Steps.{after}
-use Rattle.entries.specs.declared.Seat.{Seat}
+use Rattle.entries.specs.declared.Slot.{Slot}
 
 -- the key of the entry in front of bytes
 abbrev pub entryKey : List ℕ → ℕ
@@ -31,23 +31,23 @@ chainKeys g skip [] = []
 chainKeys g skip (link p b ∷ ls) = keysFrom g (length (drop skip b) / entrySize g) (drop skip b) ++ chainKeys g 0 ls
 
 -- the entries of a place lie in its page
-pub record Fits (g : Geometry) (s : Seat) : Type 0 where
+pub record Fits (g : Geometry) (s : Slot) : Type 0 where
   pub inside : s .page < g .pages
   pub room : 1 + s .skip + entrySize g * s .count ≤ g .size
 
 -- a place at the first entry of a page
-abbrev pub opened : Geometry → ℕ → Cursor → Packet → Seat
+abbrev pub opened : Geometry → ℕ → Cursor → Packet → Slot
 opened g skip c bad = record { page = c .page; skip = skip; count = 0; at = 0; next = c }
 opened g skip c (good b n) = record { page = c .page; skip = skip; count = length (drop skip b) / entrySize g; at = 0; next = after c (length b) n }
 
-unfoldable pub openOf : Geometry → View → ℕ → Cursor → Seat
+unfoldable pub openOf : Geometry → View → ℕ → Cursor → Slot
 openOf g v skip c = opened g skip c (v (c .page))
 
 -- at another entry of the page; past one entry
-abbrev pub atEntry : Seat → ℕ → Seat
+abbrev pub atEntry : Slot → ℕ → Slot
 atEntry s i = record { page = s .page; skip = s .skip; count = s .count; at = i; next = s .next }
 
-abbrev pub advanced : Seat → Seat
+abbrev pub advanced : Slot → Slot
 advanced s = atEntry s (s .at + 1)
 
 -- there is a directory's chain, and it has at least so many entries

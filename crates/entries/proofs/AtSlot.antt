@@ -16,12 +16,12 @@ use Rattle.chain.specs.Claims.{IsGood, Counted}
 use Rattle.chain.specs.KnownChain.{ChainStands}
 use Rattle.chain.specs.Steps.{firstStep}
 use Rattle.chain.proofs.Following.{small-view}
-use Rattle.entries.specs.declared.Seat.{Seat}
-use Rattle.entries.specs.Seats.{Fits, opened, openOf, atEntry, advanced}
-use Rattle.entries.proofs.SeatLaws.{seat-fits}
+use Rattle.entries.specs.declared.Slot.{Slot}
+use Rattle.entries.specs.EntrySlots.{Fits, opened, openOf, atEntry, advanced}
+use Rattle.entries.proofs.SlotLaws.{slot-fits}
 
 -- a place in the page with these bytes, these pages to come, in a chain of so many
-pub record Seated (g : Geometry) (v : View) (total : ℕ) (s : Seat) (bytes : List ℕ) (more : List Link) : Type 0 where
+pub record AtSlot (g : Geometry) (v : View) (total : ℕ) (s : Slot) (bytes : List ℕ) (more : List Link) : Type 0 where
   pub here : v (s .page) ≡ good bytes (first more)
   pub count-is : s .count ≡ length (drop (s .skip) bytes) / entrySize g
   pub next-is : s .next .page ≡ first more
@@ -37,8 +37,8 @@ unfolding openOf
 open-good g v skip c b n e = ap (opened g skip c) e
 
 -- at another entry of the page
-pub seated-at : (g : Geometry) (v : View) (total : ℕ) (s : Seat) (b : List ℕ) (ls : List Link) (i : ℕ) → Seated g v total s b ls → Seated g v total (atEntry s i) b ls
-seated-at g v total s b ls i h = record {
+pub at-slot-at : (g : Geometry) (v : View) (total : ℕ) (s : Slot) (b : List ℕ) (ls : List Link) (i : ℕ) → AtSlot g v total s b ls → AtSlot g v total (atEntry s i) b ls
+at-slot-at g v total s b ls i h = record {
   here = h .here;
   count-is = h .count-is;
   next-is = h .next-is;
@@ -50,26 +50,26 @@ seated-at g v total s b ls i h = record {
   fits = record { inside = h .fits .inside; room = h .fits .room };
 }
 
-pub skip-of : (g : Geometry) (v : View) (skip : ℕ) (c : Cursor) (s : Seat) → s ≡ openOf g v skip c → s .skip ≡ skip
+pub skip-of : (g : Geometry) (v : View) (skip : ℕ) (c : Cursor) (s : Slot) → s ≡ openOf g v skip c → s .skip ≡ skip
 unfolding openOf
 skip-of g v skip c s e = go (v (c .page)) e
   where
     go : (x : Packet) → s ≡ opened g skip c x → s .skip ≡ skip
-    go bad e = ap (λ (y : Seat). y .skip) e
-    go (good b n) e = ap (λ (y : Seat). y .skip) e
+    go bad e = ap (λ (y : Slot). y .skip) e
+    go (good b n) e = ap (λ (y : Slot). y .skip) e
 
-pub same-next : (s s′ : Seat) → s′ ≡ advanced s → s′ .next .count ≡ s .next .count
-same-next s s′ e = ap (λ (x : Seat). x .next .count) e
+pub same-next : (s s′ : Slot) → s′ ≡ advanced s → s′ .next .count ≡ s .next .count
+same-next s s′ e = ap (λ (x : Slot). x .next .count) e
 
 module _ (g : Geometry) (image : List ℕ) (fit : Fit g image) where
   abbrev v : View
   v = viewOf g image
 
   -- at the first entry of a page that stands
-  seat-at : (total skip : ℕ) (c : Cursor) (b : List ℕ) (ls : List Link) → v (c .page) ≡ good b (first ls) → c .page < g .pages → skip ≤ 31 → Counted c → suc (c .count) < 65536
+  slot-at : (total skip : ℕ) (c : Cursor) (b : List ℕ) (ls : List Link) → v (c .page) ≡ good b (first ls) → c .page < g .pages → skip ≤ 31 → Counted c → suc (c .count) < 65536
       → Stand v (linked ls) → ((x : ℕ) → 1 ≤ count x (pages ls) → x < g .pages) → count 0 (pages ls) ≡ 0 → c .count + suc (length ls) ≡ total
-      → Seated g v total (opened g skip c (good b (first ls))) b ls
-  seat-at total skip c b ls e h i o y s w z p = record {
+      → AtSlot g v total (opened g skip c (good b (first ls))) b ls
+  slot-at total skip c b ls e h i o y s w z p = record {
     here = e;
     count-is = refl;
     next-is = refl;
@@ -78,41 +78,41 @@ module _ (g : Geometry) (image : List ℕ) (fit : Fit g image) where
     onward = z;
     passed = omega arith;
     counted = record { few = omega arith; small = omega (arith, o .small, small-view g image fit (c .page) b (first ls) e) };
-    fits = subst (Fits g) (open-good g v skip c b (first ls) e) (seat-fits g image skip c fit h i);
+    fits = subst (Fits g) (open-good g v skip c b (first ls) e) (slot-fits g image skip c fit h i);
   }
 
   -- of a directory's first page
-  pub seated-first : (start p : ℕ) (b : List ℕ) (ls : List Link) → ChainStands g v start (link p b ∷ ls)
-      → (v start ≡ good b (first ls)) × Seated g v (suc (length ls)) (opened g (controlSize g) (firstStep start start) (good b (first ls))) b ls
+  pub at-slot-first : (start p : ℕ) (b : List ℕ) (ls : List Link) → ChainStands g v start (link p b ∷ ls)
+      → (v start ≡ good b (first ls)) × AtSlot g v (suc (length ls)) (opened g (controlSize g) (firstStep start start) (good b (first ls))) b ls
   unfolding controlSize
-  seated-first start p b ls d =
+  at-slot-first start p b ls d =
       let e : v start ≡ good b (first ls) = ap v (sym (d .begins)) ∙ d .stand .0 in (
         e,
-        seat-at (suc (length ls)) (controlSize g) (firstStep start start) b ls e (d .within start (omega (arith, ap (λ (x : ℕ). count x (p ∷ pages ls)) (sym (d .begins)), hit-same p))) (omega (arith, fit .valid .two))
+        slot-at (suc (length ls)) (controlSize g) (firstStep start start) b ls e (d .within start (omega (arith, ap (λ (x : ℕ). count x (p ∷ pages ls)) (sym (d .begins)), hit-same p))) (omega (arith, fit .valid .two))
             (record { few = omega arith; small = omega arith }) (omega arith) (d .stand .1) (λ x e. d .within x (omega arith)) (d .onward) (omega arith),
       )
 
-  module _ (total : ℕ) (s : Seat) (bytes : List ℕ) where
+  module _ (total : ℕ) (s : Slot) (bytes : List ℕ) where
     -- there is a next page
-    pub next-page : (more : List Link) → Seated g v total s bytes more → 0 < length more → (s .next .page < g .pages) × IsGood (v (s .next .page)) × (s .next .count < total)
+    pub next-page : (more : List Link) → AtSlot g v total s bytes more → 0 < length more → (s .next .page < g .pages) × IsGood (v (s .next .page)) × (s .next .count < total)
     next-page [] h l = absurd (omega arith)
     next-page (link p b ∷ ls) h l =
         let i = h .next-is in
         (rw i (h .within p (omega (arith, hit-same p))), rw (i, h .stand .0) tt, omega (arith, h .passed))
 
     -- and the place at its first entry
-    pub seated-next : (p : ℕ) (b : List ℕ) (ls : List Link) → Seated g v total s bytes (link p b ∷ ls) → total ≤ g .pages
-        → (v (s .next .page) ≡ good b (first ls)) × Seated g v total (opened g 0 (s .next) (good b (first ls))) b ls
-    seated-next p b ls h t =
+    pub at-slot-next : (p : ℕ) (b : List ℕ) (ls : List Link) → AtSlot g v total s bytes (link p b ∷ ls) → total ≤ g .pages
+        → (v (s .next .page) ≡ good b (first ls)) × AtSlot g v total (opened g 0 (s .next) (good b (first ls))) b ls
+    at-slot-next p b ls h t =
         let e : v (s .next .page) ≡ good b (first ls) = ap v (h .next-is) ∙ h .stand .0 in
         let w = next-page (link p b ∷ ls) h (omega arith) in
-        (e, seat-at total 0 (s .next) b ls e (w .0) (omega arith) (h .counted) (omega (arith, fit .valid .few)) (h .stand .1) (λ x j. h .within x (omega arith)) (omega (arith, h .onward)) (omega (arith, h .passed)))
+        (e, slot-at total 0 (s .next) b ls e (w .0) (omega arith) (h .counted) (omega (arith, fit .valid .few)) (h .stand .1) (λ x j. h .within x (omega arith)) (omega (arith, h .onward)) (omega (arith, h .passed)))
 
   -- the page after has a count one higher
-  pub counts-on : (skip : ℕ) (c : Cursor) (s : Seat) → s ≡ openOf g v skip c → IsGood (v (c .page)) → s .next .count ≡ c .count + 1
+  pub counts-on : (skip : ℕ) (c : Cursor) (s : Slot) → s ≡ openOf g v skip c → IsGood (v (c .page)) → s .next .count ≡ c .count + 1
   unfolding openOf
   counts-on skip c s e = go (v (c .page)) refl
     where
       go : (x : Packet) → v (c .page) ≡ x → IsGood x → s .next .count ≡ c .count + 1
       go bad q k = absurd k
-      go (good b n) q k = ap (λ (x : Seat). x .next .count) (e ∙ ap (opened g skip c) q)
+      go (good b n) q k = ap (λ (x : Slot). x .next .count) (e ∙ ap (opened g skip c) q)

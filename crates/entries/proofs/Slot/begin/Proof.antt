@@ -1,8 +1,8 @@
 use mathlib.Core.Path.{sym, _∙_}
-use Rattle.entries.proofs.SeatLaws.{open-is, none-left}
+use Rattle.entries.proofs.SlotLaws.{open-is, none-left}
 use borrow.Author.Needs.{needs}
-use Rattle.entries.proofs.Seat.begin.Statement.{statement}
-use Rattle.entries.proofs.Seat.begin.Tie as tie
+use Rattle.entries.proofs.Slot.begin.Statement.{statement}
+use Rattle.entries.proofs.Slot.begin.Tie as tie
 use Rattle.chain.proofs.Following.{never-refused}
 
 returns : tie.Need-returns

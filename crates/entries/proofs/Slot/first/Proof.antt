@@ -4,10 +4,10 @@ use native.Mathlib.Omega.{arith}
 use Rattle.packet.specs.Packet.{viewOf}
 use Rattle.chain.specs.declared.Cursor.{Cursor}
 use Rattle.chain.proofs.Following.{follow, page-known}
-use Rattle.entries.specs.Seats.{openOf}
+use Rattle.entries.specs.EntrySlots.{openOf}
 use borrow.Author.Needs.{needs}
-use Rattle.entries.proofs.Seat.first.Statement.{statement}
-use Rattle.entries.proofs.Seat.first.Tie as tie
+use Rattle.entries.proofs.Slot.first.Statement.{statement}
+use Rattle.entries.proofs.Slot.first.Tie as tie
 
 begin-requires : tie.Need-begin-requires
 begin-requires c κs =
