@@ -8,27 +8,17 @@ use Rattle.rules.specs.Chain.{Link, first, content}
 use Rattle.rules.specs.Names.{extensionNumber, attribute}
 use Rattle.rules.specs.Tree.{Label, Items, end, page, file, dir, startOf}
 
-abbrev pub fileLine : ℕ → Label → List Link → Line
-fileLine level l ls = record {
-  level = level;
-  name = l .name;
-  extension = extensionNumber (l .extension);
-  attribute = attribute (l .extension);
-  start = first ls;
-  pages = length ls;
-  length = length (content ls);
-}
+-- level, name as stored, extension number, attribute, start page, pages as in the entry, bytes
+abbrev pub lineOf : ℕ → Label → ℕ → ℕ → ℕ → Line
+lineOf level l start pages bytes =
+    record { level = level; name = l .name; extension = extensionNumber (l .extension); attribute = attribute (l .extension); start = start; pages = pages; length = bytes }
 
+abbrev pub fileLine : ℕ → Label → List Link → Line
+fileLine level l ls = lineOf level l (first ls) (length ls) (length (content ls))
+
+-- a directory has no pages in its entry and no bytes
 abbrev pub directoryLine : ℕ → Label → Items → Line
-directoryLine level l d = record {
-  level = level;
-  name = l .name;
-  extension = extensionNumber (l .extension);
-  attribute = attribute (l .extension);
-  start = startOf d;
-  pages = 0;
-  length = 0;
-}
+directoryLine level l d = lineOf level l (startOf d) 0 0
 
 -- walk order (a term of document 01): a directory's entries in chain order, and right after a subdirectory's entry all entries below it
 abbrev pub linesOf : ℕ → Items → List Line
