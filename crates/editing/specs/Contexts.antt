@@ -13,7 +13,7 @@ use Rattle.rules.specs.Chain.{Link, pages}
 use Rattle.rules.specs.Tree.{Label, keyOf, Items, end, page, file, dir, startOf, ownPages, innerPages, allPages}
 use Rattle.rules.specs.Control.{Above}
 use Rattle.rules.specs.Paths.{directoryKey, Found, nothing, aFile, aDirectory, find, Site, below, Place, directoryAt, changeIn, changeAt}
-use Rattle.rules.specs.Candidate.{targetPath}
+use Rattle.rules.specs.Candidate.{directoryKeys}
 
 -- a directory with one subdirectory taken out of it
 pub data Context : Type 0 where
@@ -144,15 +144,6 @@ in-context k (dir m b t) l d e = on-choose _ _ _ _ e
     })
 
 -- ---- all names of a path
--- the keys of directory names
-abbrev pub directoryKeys : List ℕ → List ℕ
-directoryKeys [] = []
-directoryKeys (x ∷ xs) = directoryKey x ∷ directoryKeys xs
-
-pub target-keys : (xs : List ℕ) (name extension : ℕ) → targetPath (record { directories = xs; name = name; extension = extension }) ≡ directoryKeys xs
-target-keys [] name extension = refl
-target-keys (x ∷ xs) name extension = ap (λ (l : List ℕ). directoryKey x ∷ l) (target-keys xs name extension)
-
 -- the directory at a place, as the way down leads to it
 pub record Located (names : List ℕ) (site : Site) (here : Above) (t : Items) (place : Place) : Type 0 where
   pub contexts : List Context

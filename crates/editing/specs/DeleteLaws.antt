@@ -27,7 +27,7 @@ use Rattle.rules.specs.Demand2.{shown, Deleted}
 use Rattle.reading.specs.Directory.{all-split}
 use Rattle.reading.specs.Accepted.{accepted-iff}
 use Rattle.editing.specs.Capacity.{entriesHere, PagesHold}
-use Rattle.editing.specs.Contexts.{filledAll, contextPath, all-filled-all, directoryKeys, target-keys, Located, locate}
+use Rattle.editing.specs.Contexts.{filledAll, contextPath, all-filled-all, Located, locate}
 use Rattle.editing.specs.ContextStands.{Shaped, shaped-changed}
 use Rattle.editing.specs.EditStands.{DirectoryEdit, place-shaped, tree-edited, used-edited, edit-done}
 use Rattle.editing.specs.InsertLaws.{replace-stands}
@@ -105,9 +105,6 @@ present-file (aDirectory l d) u e k = clash e
 pub file-key : (path : List ℕ) (q : Path) → Formed path q → FileKey (fileKey q)
 file-key path q f = omega (arith, f .extension)
 
-pub target-is : (q : Path) → targetPath q ≡ directoryKeys (q .directories)
-target-is q = target-keys (q .directories) (q .name) (q .extension)
-
 -- ---- what a delete leaves
 module _ (g : Geometry) (path image : List ℕ) (bytes : Bytes image) (i : Image) (well : WellFormed g image i) (q : Path) (p : pathOf path ≡ ok q) (place : Place)
     (there : directoryAt (q .directories) atRoot theRoot (i .tree) ≡ ok place) (l : Label) (ls : List Link) (f : find (fileKey q) (place .items) ≡ aFile l ls) where
@@ -153,7 +150,7 @@ module _ (g : Geometry) (path image : List ℕ) (bytes : Bytes image) (i : Image
   delete-leaves : Deleted g path image (plainEdit g (q .directories) (deleteEdit q place) i image)
   delete-leaves =
       let c = changed in
-      let t : targetPath q ≡ contextPath (located .contexts) = target-is q ∙ sym (located .path) in
+      let t : targetPath q ≡ contextPath (located .contexts) = sym (located .path) in
       let n = find-removed k l ls d (shape-here .1 .names k) f in
       record {
         at = record { before = i; accepted = well; to = q; formed = p; place = place; there = there };

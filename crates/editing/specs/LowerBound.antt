@@ -28,7 +28,6 @@ use Rattle.editing.specs.Capacity.{capacity-least}
 use Rattle.editing.specs.Contexts.{Context, aroundAll, contextPath}
 use Rattle.editing.specs.PathLaws.{allFound, path-all, paths-apart, path-append, owned}
 use Rattle.editing.specs.PathChanges.{placeLabel, at-place}
-use Rattle.editing.specs.DeleteLaws.{target-is}
 use Rattle.editing.specs.PutDirectory.{extra-old, extra-new, replaced-exact}
 use Rattle.editing.specs.PutLaws.{Asked, label, kept, free, extra, wanted, located, cs, key-file, root-shaped, here-shaped, used-is, kept-is, kept-within}
 use Rattle.editing.specs.FoundLaws.{exists-pages, exists-key, entry-some, key-of-entry, FileAbove, file-above, same-map, last-same}
@@ -105,7 +104,7 @@ module _ (g : Geometry) (image path bytes : List ℕ) (a : Asked g image path by
 
   -- ---- the old image
   target-path : target ≡ contextPath way
-  target-path = target-is (a .to) ∙ sym (located g image path bytes a .path)
+  target-path = sym (located g image path bytes a .path)
 
   at-target : lookUp target old ≡ aDirectory (placeLabel rootLabel way) d
   at-target =

@@ -28,7 +28,6 @@ use Rattle.rules.specs.Demand2.{PutDone}
 use Rattle.reading.specs.Accepted.{accepted, accepted-iff}
 use Rattle.editing.specs.Contexts.{contextPath}
 use Rattle.editing.specs.PathChanges.{start-entry}
-use Rattle.editing.specs.DeleteLaws.{target-is}
 use Rattle.editing.specs.PutLaws.{Asked, kept, free, free-clear, extra, wanted, chain, after, theEdit, edit-is, located, cs, into, own-then, chain-reads, result, put-edited, put-paths, put-total}
 
 -- ---- read-only
@@ -94,7 +93,7 @@ module _ (g : Geometry) (image path bytes : List ℕ) (a : Asked g image path by
     pub put-leaves : PutDone g path bytes image imageAfter
     put-leaves =
         let c = put-paths g image path bytes a spare clear room in
-        let t : targetPath (a .to) ≡ contextPath (cs g image path bytes a) = target-is (a .to) ∙ sym (located g image path bytes a .path) in
+        let t : targetPath (a .to) ≡ contextPath (cs g image path bytes a) = sym (located g image path bytes a .path) in
         let e = after g image path bytes a spare in
         let d = a .place .items in
         let z : length (take more spare) ≡ more = length-take-le more spare (omega arith) in

@@ -87,13 +87,14 @@ SameMap inRoot (inFile ms) = ⊥
 SameMap (inFile ls) inRoot = ⊥
 SameMap (inFile ls) (inFile ms) = SamePages (pages ls) (pages ms)
 
+-- the keys of directory names
+abbrev pub directoryKeys : List ℕ → List ℕ
+directoryKeys [] = []
+directoryKeys (x ∷ xs) = directoryKey x ∷ directoryKeys xs
+
 -- the target: the directory that the put's directory names lead to, the root if there are none; and the put's file
 abbrev pub targetPath : Path → List ℕ
 targetPath q = directoryKeys (q .directories)
-  where
-    directoryKeys : List ℕ → List ℕ
-    directoryKeys [] = []
-    directoryKeys (x ∷ xs) = directoryKey x ∷ directoryKeys xs
 
 abbrev pub filePath : Path → List ℕ
 filePath q = targetPath q ++ (fileKey q ∷ [])
