@@ -35,7 +35,7 @@ use Rattle.chain.proofs.Following.{first-stands, small-view}
 use Rattle.listing.specs.Standing.{Below}
 use Rattle.listing.proofs.Accepting.{accepted-stands}
 use Rattle.lookup.proofs.Resolving.{FoundStands, find-stands, place-below}
-use Rattle.answers.specs.Trees.{Small, TotalsSmall, LineSmall, LengthSmall, DoneSmall}
+use Rattle.answers.specs.Small.{Small, TotalsSmall, LineSmall, LengthSmall, DoneSmall}
 use Rattle.answers.proofs.ToldLaws.{Tells, check-tells, read-tells, format-tells, put-tells, delete-tells}
 
 -- an answer is small if it is for every accepted image

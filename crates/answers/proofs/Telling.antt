@@ -8,16 +8,15 @@ use Rattle.rules.specs.declared.Totals.{Totals}
 use Rattle.rules.specs.declared.Line.{Line}
 use Rattle.walk.specs.declared.Walk.{Walk}
 use Rattle.walk.specs.declared.Walk.the-variants as w
-use Rattle.volume.specs.Scans.{told}
+use Rattle.volume.specs.Told.{told, editTold}
 use Rattle.query.specs.declared.Listed.{Listed}
 use Rattle.query.specs.declared.Listed.the-variants as listed
 use Rattle.query.specs.declared.Length.{Length}
 use Rattle.query.specs.declared.Length.the-variants as length′
-use Rattle.query.specs.Questions.{lineTold, lengthTold}
+use Rattle.query.specs.Told.{lineTold, lengthTold}
 use Rattle.volume.specs.declared.Edited.{Edited}
 use Rattle.volume.specs.declared.Edited.the-variants as edited
-use Rattle.volume.specs.Edits.{editTold}
-use Rattle.answers.specs.Trees.{Small, TotalsSmall, LineSmall, LengthSmall, DoneSmall}
+use Rattle.answers.specs.Small.{Small, TotalsSmall, LineSmall, LengthSmall, DoneSmall}
 
 pub totals-told : (a : Walk) (t : Totals) → Small TotalsSmall (told a) → a ≡ w.Done t → TotalsSmall t
 totals-told a t h e = subst (λ (x : Walk). Small TotalsSmall (told x)) e h

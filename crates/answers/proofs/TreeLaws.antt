@@ -13,7 +13,7 @@ use Rattle.geometry.specs.Geometry.{geometryOf}
 use Rattle.packet.specs.Packet.{viewOf}
 use Rattle.rules.specs.declared.Totals.{Totals}
 use Rattle.rules.specs.declared.Line.{Line}
-use Rattle.rules.specs.Result.{Res, ok, err}
+use Rattle.rules.specs.Result.{Res, ok, err, IsOk}
 use Rattle.rules.specs.ResultLaws.{clash}
 use Rattle.rules.specs.RefusalLaws.{Between, between-ok, between-then, between-wider, between-err, check-faults, line-faults, read-faults, format-faults, put-faults, delete-faults}
 use Rattle.rules.specs.Tree.{Image}
@@ -23,20 +23,17 @@ use Rattle.rules.specs.Format.{format}
 use Rattle.rules.specs.Put.{put}
 use Rattle.rules.specs.Delete.{delete}
 use Rattle.rules.specs.Calls.{readBytes, lengthOf, filled, inGeometry, asked, done as doneCall, changed, checkCall, listCall, readCall, formatCall, putCall, deleteCall}
-use Rattle.rules.specs.Candidate.{Demand3}
-use Rattle.rules.specs.CallLaws.{asked-fits, asked-wrong, format-refused, put-refused, delete-refused}
-use Rattle.rules.specs.Demand2.{Formatted, Deleted, PutDone}
-use Rattle.reading.specs.CheckCall.{asked-formed, asked-answered}
-use Rattle.editing.specs.CallEdits.{format-call, put-call, delete-call}
-use Rattle.editing.specs.Demand3.{demand-said, demand-3}
-use Rattle.format.proofs.Calling.{format-number}
+use Rattle.rules.specs.CallLaws.{asked-fits, asked-wrong}
+use Rattle.rules.specs.Promises.{Accepts, TellsTree, Formats, Deletes, Puts}
+use Rattle.reading.specs.CheckCall.{asked-tells, tells-said}
+use Rattle.editing.specs.Demand3.{demand-said}
+use Rattle.editing.specs.Promised.{format-stated, delete-stated, put-stated, leaves-said}
 use Rattle.table.specs.Table.{numbersOf}
 use Rattle.answers.specs.declared.OwfsTotals.{OwfsTotals}
 use Rattle.answers.specs.declared.OwfsEntry.{OwfsEntry}
 use Rattle.answers.specs.declared.OwfsLength.{OwfsLength}
 use Rattle.answers.specs.declared.OwfsAnswer.{OwfsAnswer}
 use Rattle.answers.specs.Answers.{totalsFor, entryFor, lengthFor, answerFor, asksLocal, checkAnswer, listAnswer, readAnswer, formatAnswer, putAnswer, deleteAnswer}
-use Rattle.answers.specs.Trees.{AcceptsTree, ListsTree, ReadsTree, Formats, Puts, Deletes}
 
 -- no refusal has the number 0
 module _ {A : Type 0} (P N : ℕ) (image t : List ℕ) (question : Image → Res A) (h : (i : Image) → Between 1 18 (question i)) where
@@ -49,10 +46,10 @@ module _ {A : Type 0} (P N : ℕ) (image t : List ℕ) (question : Image → Res
           (between-then (between-wider 1 18 (omega arith) (omega arith) (check-faults g (viewOf g image))) h)
 
   -- so an answer is there where the number told is 0
-  pub done : (number : Res A → ℕ) → ((n p : ℕ) → number (err n p) ≡ n) → number (asked P N image t question .0) ≡ 0 → (a : A) × (asked P N image t question .0 ≡ ok a)
+  pub done : (number : Res A → ℕ) → ((n p : ℕ) → number (err n p) ≡ n) → number (asked P N image t question .0) ≡ 0 → IsOk (asked P N image t question .0)
   done number k z = go (asked P N image t question .0) refl
     where
-      go : (r : Res A) → asked P N image t question .0 ≡ r → (a : A) × (asked P N image t question .0 ≡ ok a)
+      go : (r : Res A) → asked P N image t question .0 ≡ r → IsOk (asked P N image t question .0)
       go (ok a) e = (a, e)
       go (err n p) e = absurd (omega (arith, asked-faults .number n p e .0, sym (ap number e) ∙ z, k n p))
 
@@ -60,39 +57,33 @@ module _ (P N : ℕ) (image owners : List ℕ) (bytes : Bytes image) where
   abbrev table : List ℕ
   table = numbersOf owners
 
-  pub accepts-tree : (r : OwfsTotals) (b : List ℕ) → (r, b) ≡ checkAnswer P N image owners → AcceptsTree P N image owners r
+  pub accepts-tree : (r : OwfsTotals) (b : List ℕ) → (r, b) ≡ checkAnswer P N image owners → Accepts P N image table (r .number ≡ 0)
   unfolding checkAnswer checkCall
   accepts-tree r b e =
       let f : Image → Res Totals = λ i. ok (totals i) in
-      let q : r ≡ totalsFor (asked P N image table f .0) = ap (λ (x : OwfsTotals × List ℕ). x .0) e in
-      let n : r .number ≡ totalsFor (asked P N image table f .0) .number = ap (λ (x : OwfsTotals). x .number) q in (
-        λ z. let d = done P N image table f (λ i. between-ok) (λ x. totalsFor x .number) (λ n p. refl) (sym n ∙ z) in asked-answered P N image table bytes f (d .0) (d .1),
-        λ w. n ∙ ap (λ (x : Res Totals). totalsFor x .number) (asked-formed P N image table bytes f w),
-      )
+      let n : r .number ≡ totalsFor (asked P N image table f .0) .number = ap (λ (x : OwfsTotals × List ℕ). x .0 .number) e in
+      let k = asked-tells P N image table bytes f in
+      (λ z. k .formed (done P N image table f (λ i. between-ok) (λ x. totalsFor x .number) (λ n p. refl) (sym n ∙ z)), λ w. n ∙ ap (λ (x : Res Totals). totalsFor x .number) (k .tells w))
 
-  pub lists-tree : (k : ℕ) (r : OwfsEntry) (b : List ℕ) → (r, b) ≡ listAnswer P N image owners k → ListsTree P N image owners k r
+  pub lists-tree : (k : ℕ) (r : OwfsEntry) (b : List ℕ) → (r, b) ≡ listAnswer P N image owners k
+      → TellsTree P N image table (λ i. lineAt k (linesOf 0 (i .tree))) (λ x. r ≡ entryFor x) (r .number ≡ 0)
   unfolding listAnswer listCall
   lists-tree k r b e =
       let f : Image → Res Line = λ i. lineAt k (linesOf 0 (i .tree)) in
       let q : r ≡ entryFor (asked P N image table f .0) = ap (λ (x : OwfsEntry × List ℕ). x .0) e in
-      record {
-        lists = λ w. q ∙ ap entryFor (asked-formed P N image table bytes f w);
-        formed = λ z.
-            let d = done P N image table f (λ i. between-wider 1 18 (omega arith) (omega arith) (line-faults k (linesOf 0 (i .tree)))) (λ x. entryFor x .number) (λ n p. refl) (sym (ap (λ (x : OwfsEntry). x .number) q) ∙ z) in
-            asked-answered P N image table bytes f (d .0) (d .1);
-      }
+      let h : (i : Image) → Between 1 18 (f i) = λ i. between-wider 1 18 (omega arith) (omega arith) (line-faults k (linesOf 0 (i .tree))) in
+      tells-said (λ x t. q ∙ ap entryFor t) (λ z. done P N image table f h (λ x. entryFor x .number) (λ n p. refl) (sym (ap (λ (x : OwfsEntry). x .number) q) ∙ z)) (asked-tells P N image table bytes f)
 
-  pub reads-tree : (path out : List ℕ) (r : OwfsLength) (after b : List ℕ) → (r, after, b) ≡ readAnswer P N image owners path out → ReadsTree P N image owners path out r after
+  pub reads-tree : (path out : List ℕ) (r : OwfsLength) (after b : List ℕ) → (r, after, b) ≡ readAnswer P N image owners path out
+      → TellsTree P N image table (readBytes path out) (λ x. (r ≡ lengthFor (lengthOf x)) × (after ≡ filled out x)) (r .number ≡ 0)
   unfolding readAnswer readCall
   reads-tree path out r after b e =
       let f = readBytes path out in
-      let q : _≡_ {A = OwfsLength × List ℕ} (r, after) (lengthFor (lengthOf (asked P N image table f .0)), filled out (asked P N image table f .0)) = ap (λ (x : OwfsLength × List ℕ × List ℕ). (x .0, x .1)) e in
-      record {
-        reads = λ w. q ∙ ap (λ (x : Res (List ℕ)). (lengthFor (lengthOf x), filled out x)) (asked-formed P N image table bytes f w);
-        formed = λ z.
-            let d = done P N image table f (λ i. between-wider 1 18 (omega arith) (omega arith) (read-faults path out i)) (λ x. lengthFor (lengthOf x) .number) (λ n p. refl) (sym (ap (λ (x : OwfsLength × List ℕ). x .0 .number) q) ∙ z) in
-            asked-answered P N image table bytes f (d .0) (d .1);
-      }
+      let q : r ≡ lengthFor (lengthOf (asked P N image table f .0)) = ap (λ (x : OwfsLength × List ℕ × List ℕ). x .0) e in
+      let o : after ≡ filled out (asked P N image table f .0) = ap (λ (x : OwfsLength × List ℕ × List ℕ). x .1) e in
+      let h : (i : Image) → Between 1 18 (f i) = λ i. between-wider 1 18 (omega arith) (omega arith) (read-faults path out i) in
+      tells-said (λ x t. (q ∙ ap (λ (y : Res (List ℕ)). lengthFor (lengthOf y)) t, o ∙ ap (filled out) t))
+      (λ z. done P N image table f h (λ x. lengthFor (lengthOf x) .number) (λ n p. refl) (sym (ap (λ (x : OwfsLength). x .number) q) ∙ z)) (asked-tells P N image table bytes f)
 
 -- ---- an edit: the number told is 0 exactly when it is done
 module _ (P N : ℕ) (image table : List ℕ) (edit : Geometry → Res (List ℕ)) (h : (g : Geometry) → Between 1 18 (edit g)) where
@@ -130,21 +121,9 @@ module _ (P N : ℕ) (image table : List ℕ) (edit : Geometry → Res (List ℕ
             let e = sym (told-as (err n p) k) ∙ z in
             k ∙ ap₂ (λ (x y : ℕ). err x y) (ap (λ (x : OwfsAnswer). x .number) e) (ap (λ (x : OwfsAnswer). x .page) e)
 
-    pub record RefusedAs : Type 0 where
-      pub number : ℕ
-      pub page : ℕ
-      pub told-is : r .number ≡ number
-      pub is : call .0 ≡ err number page
-
-    pub edit-refused : (r .number ≡ 0 → ⊥) → RefusedAs
-    edit-refused z = go (call .0) refl
-      where
-        go : (q : Res (Unit {0})) → call .0 ≡ q → RefusedAs
-        go (ok u) k = absurd (z (edit-done .1 k))
-        go (err n p) k = record { number = n; page = p; told-is = ap (λ (x : OwfsAnswer). x .number) (told-as (err n p) k); is = k }
-
 module _ (P N : ℕ) (image owners : List ℕ) where
-  pub formats : (local : ℕ) (r : OwfsAnswer) (after b : List ℕ) → (r, after, b) ≡ formatAnswer P N image owners local → Formats P N image owners local r after
+  pub formats : (local : ℕ) (r : OwfsAnswer) (after b : List ℕ) → (r, after, b) ≡ formatAnswer P N image owners local
+      → Formats P N image (numbersOf owners) (asksLocal local) (r .number ≡ 0) (λ x. r ≡ answerFor x) after
   unfolding formatAnswer formatCall
   formats local r after b e =
       let t = numbersOf owners in
@@ -152,16 +131,15 @@ module _ (P N : ℕ) (image owners : List ℕ) where
       let h : (g : Geometry) → Between 1 18 (f g) = λ g. between-wider 1 18 (omega arith) (omega arith) (format-faults g (asksLocal local) image) in
       let told : r ≡ answerFor (changed P N image t f .0) = ap (λ (x : OwfsAnswer × List ℕ × List ℕ). x .0) e in
       let left : after ≡ changed P N image t f .1 = ap (λ (x : OwfsAnswer × List ℕ × List ℕ). x .1) e in
-      record {
-        done = λ g s z. subst (Formatted g (asksLocal local) image) (sym left) (format-call P N image t g s (asksLocal local) (edit-done P N image t f h r told .0 z));
-        refused = λ z. let k = edit-refused P N image t f h r told z in (
-          elim (format-number P N image t (asksLocal local) (k .number) (k .page) (k .is)) [ inl i ↦ inl (k .told-is ∙ i) | inr i ↦ inr (k .told-is ∙ i) ],
-          left ∙ format-refused P N image t (asksLocal local) (k .number) (k .page) (k .is),
-        );
-      }
+      let d = edit-done P N image t f h r told in
+      let k = format-stated P N image t (asksLocal local) in (
+        rw left (leaves-said d (k .0)),
+        λ z. elim (k .1 (λ y. z (d .1 y))) [ inl i ↦ inl (told-as P N image t f h r told (err 1 0) i) | inr i ↦ inr (told-as P N image t f h r told (err 4 0) i) ],
+      )
 
 module _ (P N : ℕ) (image owners : List ℕ) (bytes : Bytes image) where
-  pub deletes : (path : List ℕ) (r : OwfsAnswer) (after b : List ℕ) → (r, after, b) ≡ deleteAnswer P N image owners path → Deletes P N image owners path r after
+  pub deletes : (path : List ℕ) (r : OwfsAnswer) (after b : List ℕ) → (r, after, b) ≡ deleteAnswer P N image owners path
+      → Deletes P N image (numbersOf owners) path (r .number ≡ 0) after
   unfolding deleteAnswer deleteCall
   deletes path r after b e =
       let t = numbersOf owners in
@@ -169,12 +147,10 @@ module _ (P N : ℕ) (image owners : List ℕ) (bytes : Bytes image) where
       let h : (g : Geometry) → Between 1 18 (f g) = λ g. between-wider 1 18 (omega arith) (omega arith) (delete-faults g path image) in
       let told : r ≡ answerFor (changed P N image t f .0) = ap (λ (x : OwfsAnswer × List ℕ × List ℕ). x .0) e in
       let left : after ≡ changed P N image t f .1 = ap (λ (x : OwfsAnswer × List ℕ × List ℕ). x .1) e in
-      record {
-        done = λ g s z. subst (Deleted g path image) (sym left) (delete-call P N image t g s bytes path (edit-done P N image t f h r told .0 z));
-        refused = λ z. let k = edit-refused P N image t f h r told z in left ∙ delete-refused P N image t path (k .number) (k .page) (k .is);
-      }
+      rw left (leaves-said (edit-done P N image t f h r told) (delete-stated P N image t bytes path))
 
-  pub puts : (path text : List ℕ) → Bytes path → Bytes text → (r : OwfsAnswer) (after b : List ℕ) → (r, after, b) ≡ putAnswer P N image owners path text → Puts P N image owners path text r after
+  pub puts : (path text : List ℕ) → Bytes path → Bytes text → (r : OwfsAnswer) (after b : List ℕ) → (r, after, b) ≡ putAnswer P N image owners path text
+      → Puts P N image (numbersOf owners) path text (r .number ≡ 0) (λ x. r ≡ answerFor x) after
   unfolding putAnswer putCall
   puts path text pb db r after b e =
       let t = numbersOf owners in
@@ -182,9 +158,6 @@ module _ (P N : ℕ) (image owners : List ℕ) (bytes : Bytes image) where
       let h : (g : Geometry) → Between 1 18 (f g) = λ g. between-wider 1 18 (omega arith) (omega arith) (put-faults g path text image) in
       let told : r ≡ answerFor (changed P N image t f .0) = ap (λ (x : OwfsAnswer × List ℕ × List ℕ). x .0) e in
       let left : after ≡ changed P N image t f .1 = ap (λ (x : OwfsAnswer × List ℕ × List ℕ). x .1) e in
-      record {
-        done = λ g s z. subst (PutDone g path text image) (sym left) (put-call P N image t g s bytes path text pb db (edit-done P N image t f h r told .0 z));
-        refused = λ z. let k = edit-refused P N image t f h r told z in left ∙ put-refused P N image t path text (k .number) (k .page) (k .is);
-        demand = subst (λ (a : List ℕ). Demand3 P N image t path text (r .number ≡ 0) (r ≡ record { number = 17; page = 0 }) a) (sym left)
-            (demand-said P N image t path text (edit-done P N image t f h r told) (edit-told P N image t f h r told 17 0 (omega arith)) (demand-3 P N image t path text bytes pb db));
-      }
+      let d = edit-done P N image t f h r told in
+      let k = put-stated P N image t bytes path text pb db in
+      rw left (leaves-said d (k .0), demand-said P N image t path text d (edit-told P N image t f h r told 17 0 (omega arith)) (k .1))

@@ -1,2 +1,2 @@
 pub mod Answers
-pub mod Trees
+pub mod Small

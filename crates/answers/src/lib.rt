@@ -4,11 +4,10 @@ use query::Listed;
 use volume::Edited;
 use walk::Walk;
 ghost use mathlib.Core.Path.{_≡_};
-ghost use Rattle.volume.specs.Scans.{told};
-ghost use Rattle.volume.specs.Edits.{editTold};
-ghost use Rattle.query.specs.Questions.{lineTold, lengthTold};
+ghost use Rattle.volume.specs.Told.{told, editTold};
+ghost use Rattle.query.specs.Told.{lineTold, lengthTold};
 ghost use Rattle.answers.specs.Answers.{totalsFor, entryFor, lengthFor, answerFor};
-ghost use Rattle.answers.specs.Trees.{Small, TotalsSmall, LineSmall, LengthSmall, DoneSmall};
+ghost use Rattle.answers.specs.Small.{Small, TotalsSmall, LineSmall, LengthSmall, DoneSmall};
 
 // What check answers: 0 and the totals, or a fault's number and the page told.
 #[repr(C)]

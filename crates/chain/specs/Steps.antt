@@ -1,4 +1,4 @@
--- Document 01, "Packet and chain": the chain walk is a position that steps from page to page and carries its count.
+-- For contracts: the chain walk of document 01, "Packet and chain": a position that steps from page to page and carries its count.
 use Prim.Native.Nat.{ℕ, _+_}
 use lib.Dec.{ltb}
 use lib.ListN.{length}

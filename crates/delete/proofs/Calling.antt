@@ -1,5 +1,5 @@
 -- The call: the check's fault first, and what a delete that is done leaves.
-use mathlib.Core.Path.{_≡_, ap, sym, _∙_}
+use mathlib.Core.Path.{_≡_, ap}
 use mathlib.Core.List.{List, _++_}
 use Prim.Native.Nat.{ℕ, _<_}
 use lib.ListN.{length, getD, drop}
@@ -8,17 +8,17 @@ use Rattle.geometry.specs.declared.Shape.the-variants.{Fits}
 use Rattle.geometry.specs.Geometry.{geometryOf}
 use Rattle.geometry.specs.NumberLaws.{bytes-from}
 use Rattle.packet.specs.Packet.{viewOf}
-use Rattle.rules.specs.Result.{Res, err}
+use Rattle.rules.specs.Result.{Res, ok, err}
 use Rattle.rules.specs.ResultLaws.{then-err}
 use Rattle.rules.specs.Check.{check}
 use Rattle.rules.specs.Delete.{delete}
 use Rattle.rules.specs.Calls.{deleteCall}
-use Rattle.rules.specs.CallLaws.{delete-refused}
-use Rattle.editing.specs.CallEdits.{delete-call}
+use Rattle.rules.specs.Promises.{Deletes}
+use Rattle.editing.specs.Promised.{delete-stated}
 use Rattle.volume.specs.declared.Edited.{Edited}
-use Rattle.volume.specs.Edits.{editTold, EditLeaves}
+use Rattle.volume.specs.Told.{editTold}
+use Rattle.volume.specs.Edits.{EditLeaves}
 use Rattle.volume.proofs.EditLaws.{changed-leaves}
-use Rattle.delete.specs.Deletes.{DeleteDone}
 
 pub delete-fault : (g : Geometry) (path image : List ℕ) (n p : ℕ) → check g (viewOf g image) ≡ err n p → delete g path image ≡ err n p
 unfolding delete
@@ -30,11 +30,9 @@ module _ (P N : ℕ) (image table path : List ℕ) where
   unfolding deleteCall
   deleted g e r after u k = changed-leaves P N image table g e (λ g. delete g path image) r after u k
 
-  pub delete-is : (h : (i : ℕ) → getD image i 0 < 256) (r : Edited) (after t : List ℕ) → (editTold r, after, t) ≡ deleteCall P N image table path → DeleteDone P N image table path r after
+  pub delete-is : (h : (i : ℕ) → getD image i 0 < 256) (r : Edited) (after t : List ℕ) → (editTold r, after, t) ≡ deleteCall P N image table path
+      → Deletes P N image table path (editTold r ≡ ok tt) after
   delete-is h r after t e =
       let q : editTold r ≡ deleteCall P N image table path .0 = ap (λ (x : Res (Unit {0}) × List ℕ × List ℕ). x .0) e in
       let a : after ≡ deleteCall P N image table path .1 = ap (λ (x : Res (Unit {0}) × List ℕ × List ℕ). x .1) e in
-      record {
-        done = λ g f k. rw a (delete-call P N image table g f (bytes-from image h) path (sym q ∙ k));
-        refused = λ n p k. a ∙ delete-refused P N image table path n p (sym q ∙ k);
-      }
+      rw (q, a) (delete-stated P N image table (bytes-from image h) path)

@@ -10,9 +10,12 @@ ghost use mathlib.Core.Path.{_≡_};
 ghost use lib.ListN.{length};
 ghost use Rattle.geometry.specs.Geometry.{Fit};
 ghost use Rattle.rules.specs.Delete.{delete as deleted};
+ghost use Rattle.rules.specs.Result.{ok};
 ghost use Rattle.rules.specs.Calls.{deleteCall};
-ghost use Rattle.volume.specs.Edits.{editTold, TableOf, EditLeaves};
-ghost use Rattle.delete.specs.Deletes.{HasFile, Unlinks, PathDeleted, DeleteDone};
+ghost use Rattle.rules.specs.Promises.{Deletes};
+ghost use Rattle.volume.specs.Told.{editTold};
+ghost use Rattle.volume.specs.Edits.{TableOf, EditLeaves};
+ghost use Rattle.delete.specs.Deletes.{HasFile, Unlinks, PathDeleted};
 
 // Deletes the file of an entry: its pages are released in the table, its directory's page is written without it, then the bitmap.
 fn unlink(image: &mut [u8], g: Geometry, slot: Slot, e: Entry, owners: &mut [u16])
@@ -64,7 +67,7 @@ fn delete_in(image: &mut [u8], g: Geometry, path: &[u8], owners: &mut [u16]) -> 
 // Deletes the file at a path. Fills the owner table as a check of the image as it then stands.
 pub fn delete(image: &mut [u8], size: u32, pages: u32, path: &[u8], owners: &mut [u16]) -> Edited
     ensures { λ r. ⌜ (editTold r, now (image .exit), now (owners .exit)) ≡ deleteCall size pages (now (image .entry)) (now (owners .entry)) (now (path .entry)) ⌝ }
-    ensures { λ r. ⌜ DeleteDone size pages (now (image .entry)) (now (owners .entry)) (now (path .entry)) r (now (image .exit)) ⌝ }
+    ensures { λ r. ⌜ Deletes size pages (now (image .entry)) (now (owners .entry)) (now (path .entry)) (editTold r ≡ ok tt) (now (image .exit)) ⌝ }
 {
     match Geometry::new(size, pages, image.len(), owners.len()) {
         Shape::Wrong => Edited::Refused(1, 0),

@@ -31,7 +31,8 @@ use Rattle.dump.specs.declared.Printed.{Printed}
 use Rattle.dump.specs.declared.Printed.the-variants as printed
 use Rattle.dump.specs.declared.Checked.{Checked}
 use Rattle.dump.specs.declared.Checked.the-variants as checked
-use Rattle.dump.specs.Prints.{told, linesIn, AcceptedWith, IsChecked, Checks, answerText, Prints}
+use Rattle.dump.specs.Told.{told}
+use Rattle.dump.specs.Prints.{linesIn, AcceptedWith, IsChecked, Checks, answerText, Prints}
 use Rattle.dump.specs.LineLaws.{lines-are, lines-few, line-below, line-next, lines-end, lines-short}
 use Rattle.dump.specs.DumpLaws.{listed-wrong, listed-right}
 

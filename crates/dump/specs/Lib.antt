@@ -1,3 +1,4 @@
+pub mod Told
 pub mod Prints
 pub mod LineLaws
 pub mod DumpLaws

@@ -24,11 +24,6 @@ use Rattle.dump.specs.declared.Place.the-variants as place
 use Rattle.dump.specs.declared.Checked.{Checked}
 use Rattle.dump.specs.declared.Checked.the-variants as checked
 
--- an answer as the rule has it
-abbrev pub told : Printed → Res ℕ
-told (printed.Text n) = ok n
-told printed.TooShort = err 18 0
-
 -- where the image stands in a dump that is right
 unfoldable pub placeOf : List ℕ → Place
 placeOf dump = choose (dumpRight dump) (place.At (dumpOffset dump)) place.Malformed

@@ -11,7 +11,8 @@ ghost use Rattle.packet.specs.Packet.{viewOf};
 ghost use Rattle.rules.specs.ListText.{linesText, textCall};
 ghost use Rattle.listing.specs.Standing.{Accepted};
 ghost use Rattle.text.specs.Placed.{Written};
-ghost use Rattle.dump.specs.Prints.{placeOf, linesIn, IsChecked, Checks, answerText, Prints, told};
+ghost use Rattle.dump.specs.Told.{told};
+ghost use Rattle.dump.specs.Prints.{placeOf, linesIn, IsChecked, Checks, answerText, Prints};
 
 // What is printed: so many bytes of the output, or none because it is too short.
 pub enum Printed {

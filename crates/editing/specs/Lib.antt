@@ -25,4 +25,5 @@ pub mod LowerBound
 pub mod PutCandidate
 pub mod CallEdits
 pub mod Demand3
+pub mod Promised
 pub mod ReadLaws

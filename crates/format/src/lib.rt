@@ -13,10 +13,13 @@ ghost use Rattle.rules.specs.Control.{placeBytes, localAllowed};
 ghost use Rattle.rules.specs.PageSets.{count};
 ghost use Rattle.rules.specs.OwnerLaws.{nonzero, Represents};
 ghost use Rattle.rules.specs.Format.{upward, format as formatted};
+ghost use Rattle.rules.specs.Result.{ok};
 ghost use Rattle.rules.specs.Calls.{formatCall};
+ghost use Rattle.rules.specs.Promises.{Formats};
 ghost use Rattle.marks.specs.Marks.{marksFrom};
-ghost use Rattle.volume.specs.Edits.{editTold, EditLeaves};
-ghost use Rattle.format.specs.Formats.{controlField, bitsWrites, emptied, FormatDone};
+ghost use Rattle.volume.specs.Told.{editTold};
+ghost use Rattle.volume.specs.Edits.{EditLeaves};
+ghost use Rattle.format.specs.Formats.{controlField, bitsWrites, emptied};
 
 // The least page count that needs a bitmap file.
 const FILE_PAGES: usize = 32;
@@ -185,7 +188,7 @@ fn format_in(image: &mut [u8], g: Geometry, owners: &mut [u16], local: bool) -> 
 // Fills the owner table as a check of the image as it then stands.
 pub fn format(image: &mut [u8], size: u32, pages: u32, owners: &mut [u16], local: bool) -> Edited
     ensures { λ r. ⌜ (editTold r, now (image .exit), now (owners .exit)) ≡ formatCall size pages (now (image .entry)) (now (owners .entry)) local ⌝ }
-    ensures { λ r. ⌜ FormatDone size pages (now (image .entry)) (now (owners .entry)) local r (now (image .exit)) ⌝ }
+    ensures { λ r. ⌜ Formats size pages (now (image .entry)) (now (owners .entry)) local (editTold r ≡ ok tt) (λ x. editTold r ≡ x) (now (image .exit)) ⌝ }
 {
     match Geometry::new(size, pages, image.len(), owners.len()) {
         Shape::Wrong => Edited::Refused(1, 0),

@@ -11,7 +11,7 @@ use Rattle.rules.specs.ResultLaws.{clash, ok-inj}
 use Rattle.rules.specs.ListText.{listText, textCall}
 use Rattle.dump.specs.declared.Printed.{Printed}
 use Rattle.dump.specs.declared.Printed.the-variants as printed
-use Rattle.dump.specs.Prints.{told}
+use Rattle.dump.specs.Told.{told}
 use Rattle.dump.specs.TextFits.{room-enough}
 
 module _ (dump out after : List ℕ) (r : Printed) (h : 102600 ≤ length out) (e : (told r, after) ≡ textCall dump out) where

@@ -1,29 +1,25 @@
--- For contracts: a file to be put, where its entry goes, and what a put that is done leaves.
+-- For contracts: a file to be put, and where its entry goes.
 use mathlib.Core.Path.{_≡_}
 use mathlib.Core.List.{List, [], _∷_, _++_}
 use Prim.Native.Nat.{ℕ, _+_, _<_}
 use lib.ListN.{length}
 use Rattle.geometry.specs.declared.Geometry.{Geometry}
-use Rattle.geometry.specs.declared.Shape.the-variants.{Fits}
-use Rattle.geometry.specs.Geometry.{controlSize, geometryOf}
+use Rattle.geometry.specs.Geometry.{controlSize}
 use Rattle.packet.specs.Packet.{good, viewOf}
 use Rattle.rules.specs.declared.Entry.{Entry}
-use Rattle.rules.specs.Result.{ok, err}
 use Rattle.rules.specs.Chain.{Link}
 use Rattle.rules.specs.Tree.{Label, Items, fileEntry, Token, newPage, entry, tokens}
 use Rattle.rules.specs.Owners.{owners}
 use Rattle.rules.specs.OwnerLaws.{Represents}
 use Rattle.rules.specs.Paths.{fileKey, nothing, aFile, find}
 use Rattle.rules.specs.Put.{keptPages, put, extraPages, itemsAfter}
-use Rattle.rules.specs.Candidate.{Demand3}
-use Rattle.rules.specs.Demand2.{PutDone}
 use Rattle.editing.specs.PageChange.{entryTokens, controlOn}
 use Rattle.editing.specs.PutLaws.{Asked, label}
 use Rattle.chain.specs.KnownChain.{ChainStands}
 use Rattle.entries.specs.declared.Slot.{Slot}
 use Rattle.lookup.specs.Searches.{TreeAt, PlaceOf}
 use Rattle.volume.specs.declared.Edited.{Edited}
-use Rattle.volume.specs.Edits.{editTold, Answered}
+use Rattle.volume.specs.Edits.{Answered}
 
 -- a put that nothing but room could refuse, and a table that tells of the pages that stay in use
 pub record Putting (g : Geometry) (image table bytes : List ℕ) (name extension : ℕ) : Type 0 where
@@ -102,9 +98,3 @@ pub record Replacing (g : Geometry) (image table bytes : List ℕ) (s : Slot) (e
 
 abbrev pub Replaces : Geometry → List ℕ → List ℕ → List ℕ → Slot → Entry → Edited → List ℕ → Type 0
 Replaces g image table bytes s e r after = (l : Replacing g image table bytes s e) → Answered image (put g (l .path) bytes image) r after
-
--- a put that is done leaves an accepted image that reads the bytes at the path, all else as it was; a refusal changes no byte; and demand 3
-pub record PutDoneAt (P N : ℕ) (image table path bytes : List ℕ) (r : Edited) (after : List ℕ) : Type 0 where
-  pub done : (g : Geometry) → geometryOf P N (length image) (length table) ≡ Fits g → editTold r ≡ ok tt → PutDone g path bytes image after
-  pub refused : (n p : ℕ) → editTold r ≡ err n p → after ≡ image
-  pub demand : Demand3 P N image table path bytes (editTold r ≡ ok tt) (editTold r ≡ err 17 0) after

@@ -11,9 +11,12 @@ ghost use mathlib.Core.Path.{_≡_};
 ghost use lib.ListN.{length};
 ghost use Rattle.geometry.specs.Geometry.{Fit};
 ghost use Rattle.rules.specs.Put.{put as putRule};
+ghost use Rattle.rules.specs.Result.{ok};
 ghost use Rattle.rules.specs.Calls.{putCall};
-ghost use Rattle.volume.specs.Edits.{editTold, Answered, TableOf, EditLeaves};
-ghost use Rattle.put.specs.Puts.{Laying, Lays, Growing, Grows, Inserting, Inserts, Replacing, Replaces, PutDoneAt};
+ghost use Rattle.rules.specs.Promises.{Puts};
+ghost use Rattle.volume.specs.Told.{editTold};
+ghost use Rattle.volume.specs.Edits.{Answered, TableOf, EditLeaves};
+ghost use Rattle.put.specs.Puts.{Laying, Lays, Growing, Grows, Inserting, Inserts, Replacing, Replaces};
 
 // What marks a page that joins a directory; a check makes the table anew afterwards.
 const TAKEN: u16 = 3;
@@ -189,7 +192,7 @@ pub fn put(
     owners: &mut [u16],
 ) -> Edited
     ensures { λ r. ⌜ (editTold r, now (image .exit), now (owners .exit)) ≡ putCall size pages (now (image .entry)) (now (owners .entry)) (now (path .entry)) (now (bytes .entry)) ⌝ }
-    ensures { λ r. ⌜ PutDoneAt size pages (now (image .entry)) (now (owners .entry)) (now (path .entry)) (now (bytes .entry)) r (now (image .exit)) ⌝ }
+    ensures { λ r. ⌜ Puts size pages (now (image .entry)) (now (owners .entry)) (now (path .entry)) (now (bytes .entry)) (editTold r ≡ ok tt) (λ x. editTold r ≡ x) (now (image .exit)) ⌝ }
 {
     match Geometry::new(size, pages, image.len(), owners.len()) {
         Shape::Wrong => Edited::Refused(1, 0),

@@ -10,12 +10,12 @@ use Rattle.geometry.specs.NumberLaws.{bytes-from}
 use Rattle.packet.specs.Packet.{viewOf}
 use Rattle.rules.specs.declared.Totals.{Totals}
 use Rattle.rules.specs.declared.Line.{Line}
-use Rattle.rules.specs.Result.{Res, ok, err}
+use Rattle.rules.specs.Result.{Res, ok, err, IsOk}
 use Rattle.rules.specs.ResultLaws.{clash}
-use Rattle.rules.specs.Tree.{Image}
 use Rattle.rules.specs.Listing.{linesOf, lineAt}
 use Rattle.rules.specs.Calls.{readBytes, lengthOf, filled, asked, listCall, readCall}
-use Rattle.reading.specs.CheckCall.{asked-formed, asked-answered}
+use Rattle.rules.specs.Promises.{TellsTree}
+use Rattle.reading.specs.CheckCall.{asked-tells, tells-said}
 use Rattle.listing.specs.Standing.{Accepted}
 use Rattle.walk.specs.declared.Walk.{Walk}
 use Rattle.walk.specs.declared.Walk.the-variants as w
@@ -25,10 +25,11 @@ use Rattle.query.specs.declared.Listed.{Listed}
 use Rattle.query.specs.declared.Listed.the-variants as listed
 use Rattle.query.specs.declared.Length.{Length}
 use Rattle.query.specs.declared.Length.the-variants as length′
-use Rattle.query.specs.Questions.{lineTold, lengthTold, Gives, LineOf, PathRead, ListsTree, ReadsTree}
+use Rattle.query.specs.Told.{lineTold, lengthTold}
+use Rattle.query.specs.Questions.{LineOf, PathRead}
 
 -- what the length told and the output come from
-length-ok : (r : Res (List ℕ)) (n : ℕ) → lengthOf r ≡ ok n → (bytes : List ℕ) × (r ≡ ok bytes)
+length-ok : (r : Res (List ℕ)) (n : ℕ) → lengthOf r ≡ ok n → IsOk r
 length-ok (ok bytes) n e = (bytes, refl)
 length-ok (err m p) n e = clash e
 
@@ -64,19 +65,18 @@ module _ (P N : ℕ) (image table : List ℕ) (g : Geometry) (e : geometryOf P N
 
 -- ---- the tree of the well-formed image
 module _ (P N : ℕ) (image table : List ℕ) (h : (i : ℕ) → getD image i 0 < 256) where
-  pub lists-tree : (k : ℕ) (r : Listed) (u : List ℕ) → (lineTold r, u) ≡ listCall P N image table k → ListsTree P N image table k r
+  pub lists-tree : (k : ℕ) (r : Listed) (u : List ℕ) → (lineTold r, u) ≡ listCall P N image table k
+      → TellsTree P N image table (λ i. lineAt k (linesOf 0 (i .tree))) (λ x. lineTold r ≡ x) (IsOk (lineTold r))
   unfolding listCall
   lists-tree k r u e =
       let q = ap (λ (x : Res Line × List ℕ). x .0) e in
-      let f : Image → Res Line = λ i. lineAt k (linesOf 0 (i .tree)) in
-      record { lists = λ x. q ∙ asked-formed P N image table (bytes-from image h) f x; formed = λ x y. asked-answered P N image table (bytes-from image h) f x (sym q ∙ y) }
+      tells-said (λ x t. q ∙ t) (λ d. (d .0, sym q ∙ d .1)) (asked-tells P N image table (bytes-from image h) (λ i. lineAt k (linesOf 0 (i .tree))))
 
-  pub reads-tree : (path out : List ℕ) (r : Length) (after u : List ℕ) → (lengthTold r, after, u) ≡ readCall P N image table path out → ReadsTree P N image table path out r after
+  pub reads-tree : (path out : List ℕ) (r : Length) (after u : List ℕ) → (lengthTold r, after, u) ≡ readCall P N image table path out
+      → TellsTree P N image table (readBytes path out) (λ x. (lengthTold r ≡ lengthOf x) × (after ≡ filled out x)) (IsOk (lengthTold r))
   unfolding readCall
   reads-tree path out r after u e =
-      let b = bytes-from image h in
-      let q : Gives out (asked P N image table (readBytes path out) .0) r after = ap (λ (x : Res ℕ × List ℕ × List ℕ). (x .0, x .1)) e in
-      record {
-        reads = λ x. q ∙ ap (λ (y : Res (List ℕ)). (lengthOf y, filled out y)) (asked-formed P N image table b (readBytes path out) x);
-        formed = λ n y. let l = length-ok (asked P N image table (readBytes path out) .0) n (sym (ap (λ (x : Res ℕ × List ℕ). x .0) q) ∙ y) in asked-answered P N image table b (readBytes path out) (l .0) (l .1);
-      }
+      let q : lengthTold r ≡ lengthOf (asked P N image table (readBytes path out) .0) = ap (λ (x : Res ℕ × List ℕ × List ℕ). x .0) e in
+      let o : after ≡ filled out (asked P N image table (readBytes path out) .0) = ap (λ (x : Res ℕ × List ℕ × List ℕ). x .1) e in
+      tells-said (λ x t. (q ∙ ap lengthOf t, o ∙ ap (filled out) t)) (λ d. length-ok (asked P N image table (readBytes path out) .0) (d .0) (sym q ∙ d .1))
+      (asked-tells P N image table (bytes-from image h) (readBytes path out))

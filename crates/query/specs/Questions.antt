@@ -1,4 +1,4 @@
--- For contracts: what list and read answer, and that it is what the tree of the well-formed image gives.
+-- For contracts: what is listed and read of an accepted image.
 use mathlib.Core.Path.{_≡_}
 use mathlib.Core.List.{List}
 use Prim.Native.Nat.{ℕ}
@@ -6,28 +6,16 @@ use lib.Dec.{leb}
 use lib.ListN.{length}
 use Rattle.geometry.specs.declared.Geometry.{Geometry}
 use Rattle.packet.specs.Packet.{View}
-use Rattle.rules.specs.declared.Line.{Line}
-use Rattle.rules.specs.Result.{Res, ok, err, andAfter as _>>_, refuse-unless}
+use Rattle.rules.specs.Result.{Res, ok, andAfter as _>>_, refuse-unless}
 use Rattle.rules.specs.Chain.{Link, content}
 use Rattle.rules.specs.Tree.{Image}
 use Rattle.rules.specs.Check.{check}
 use Rattle.rules.specs.Listing.{linesOf, lineAt}
 use Rattle.rules.specs.Calls.{readBytes, lengthOf, filled}
-use Rattle.rules.specs.Demand2.{WellFormedAt}
 use Rattle.chain.specs.KnownChain.{ChainStands}
 use Rattle.query.specs.declared.Listed.{Listed}
-use Rattle.query.specs.declared.Listed.the-variants as listed
 use Rattle.query.specs.declared.Length.{Length}
-use Rattle.query.specs.declared.Length.the-variants as length′
-
--- answers as the rules have them
-abbrev pub lineTold : Listed → Res Line
-lineTold (listed.Entry x) = ok x
-lineTold (listed.Refused n p) = err n p
-
-abbrev pub lengthTold : Length → Res ℕ
-lengthTold (length′.Done n) = ok n
-lengthTold (length′.Refused n p) = err n p
+use Rattle.query.specs.Told.{lineTold, lengthTold}
 
 -- the length told and the output after it, for the bytes or the refusal of the rules
 abbrev pub Gives : List ℕ → Res (List ℕ) → Length → List ℕ → Type 0
@@ -48,12 +36,3 @@ module _ (g : Geometry) (v : View) where
 
   abbrev pub PathRead : List ℕ → List ℕ → Length → List ℕ → Type 0
   PathRead path out r after = (i : Image) → check g v ≡ ok i → Gives out (readBytes path out i) r after
-
--- of a well-formed image the answer is what its tree gives; and an answer is given of well-formed images alone
-pub record ListsTree (P N : ℕ) (image table : List ℕ) (k : ℕ) (r : Listed) : Type 0 where
-  pub lists : (w : WellFormedAt P N image table) → lineTold r ≡ lineAt k (linesOf 0 (w .reading .tree))
-  pub formed : (x : Line) → lineTold r ≡ ok x → WellFormedAt P N image table
-
-pub record ReadsTree (P N : ℕ) (image table path out : List ℕ) (r : Length) (after : List ℕ) : Type 0 where
-  pub reads : (w : WellFormedAt P N image table) → Gives out (readBytes path out (w .reading)) r after
-  pub formed : (n : ℕ) → lengthTold r ≡ ok n → WellFormedAt P N image table

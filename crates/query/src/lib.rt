@@ -10,8 +10,12 @@ ghost use Rattle.geometry.specs.Geometry.{Fit};
 ghost use Rattle.packet.specs.Packet.{viewOf};
 ghost use Rattle.chain.specs.KnownChain.{KnownChain};
 ghost use Rattle.listing.specs.Standing.{Accepted};
-ghost use Rattle.rules.specs.Calls.{listCall, readCall};
-ghost use Rattle.query.specs.Questions.{lineTold, lengthTold, LineOf, ChainRead, PathRead, ListsTree, ReadsTree};
+ghost use Rattle.rules.specs.Result.{IsOk};
+ghost use Rattle.rules.specs.Listing.{lineAt, linesOf};
+ghost use Rattle.rules.specs.Calls.{readBytes, lengthOf, filled, listCall, readCall};
+ghost use Rattle.rules.specs.Promises.{TellsTree};
+ghost use Rattle.query.specs.Told.{lineTold, lengthTold};
+ghost use Rattle.query.specs.Questions.{LineOf, ChainRead, PathRead};
 
 // What listing answers: a line, or a number of document 01 and the page told.
 pub enum Listed {
@@ -40,7 +44,7 @@ fn entry_of(image: &[u8], g: Geometry, position: usize) -> Listed
 // Lists the entry at a walk position from 0: 15 at or past the end. Fills the owner table as a check does.
 pub fn list(image: &[u8], size: u32, pages: u32, owners: &mut [u16], position: usize) -> Listed
     ensures { λ r. ⌜ (lineTold r, now (owners .exit)) ≡ listCall size pages (now (image .entry)) (now (owners .entry)) position ⌝ }
-    ensures { λ r. ⌜ ListsTree size pages (now (image .entry)) (now (owners .entry)) position r ⌝ }
+    ensures { λ r. ⌜ TellsTree size pages (now (image .entry)) (now (owners .entry)) (λ i. lineAt position (linesOf 0 (i .tree))) (λ x. lineTold r ≡ x) (IsOk (lineTold r)) ⌝ }
 {
     match Geometry::new(size, pages, image.len(), owners.len()) {
         Shape::Wrong => Listed::Refused(1, 0),
@@ -92,7 +96,7 @@ pub fn read(
     owners: &mut [u16],
 ) -> Length
     ensures { λ r. ⌜ (lengthTold r, now (out .exit), now (owners .exit)) ≡ readCall size pages (now (image .entry)) (now (owners .entry)) (now (path .entry)) (now (out .entry)) ⌝ }
-    ensures { λ r. ⌜ ReadsTree size pages (now (image .entry)) (now (owners .entry)) (now (path .entry)) (now (out .entry)) r (now (out .exit)) ⌝ }
+    ensures { λ r. ⌜ TellsTree size pages (now (image .entry)) (now (owners .entry)) (readBytes (now (path .entry)) (now (out .entry))) (λ x. (lengthTold r ≡ lengthOf x) × (now (out .exit) ≡ filled (now (out .entry)) x)) (IsOk (lengthTold r)) ⌝ }
 {
     match Geometry::new(size, pages, image.len(), owners.len()) {
         Shape::Wrong => Length::Refused(1, 0),

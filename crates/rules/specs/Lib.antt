@@ -18,6 +18,7 @@ pub mod ListText
 pub mod WellFormed
 pub mod Candidate
 pub mod Demand2
+pub mod Promises
 pub mod ResultLaws
 pub mod PageSetLaws
 pub mod ChainLaws

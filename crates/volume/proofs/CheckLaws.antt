@@ -12,7 +12,8 @@ use Rattle.geometry.specs.PageLaws.{page-length}
 use Rattle.geometry.specs.NumberLaws.{bytes-from}
 use Rattle.packet.specs.Packet.{View, viewOf}
 use Rattle.rules.specs.declared.Totals.{Totals}
-use Rattle.rules.specs.Result.{Res, ok, err, andThen}
+use Rattle.rules.specs.Result.{Res, ok, err, IsOk, andThen}
+use Rattle.rules.specs.Promises.{Accepts}
 use Rattle.rules.specs.ResultLaws.{clash, then-ok, then-err}
 use Rattle.rules.specs.Tree.{Image, used}
 use Rattle.rules.specs.Owners.{owners, totals, tableAfter}
@@ -27,7 +28,8 @@ use Rattle.bitmap.specs.declared.Bits.the-variants as bits
 use Rattle.bitmap.specs.Bits.{Compares}
 use Rattle.walk.specs.declared.Walk.{Walk}
 use Rattle.walk.specs.declared.Walk.the-variants as w
-use Rattle.volume.specs.Scans.{rootOf, Scanned, BitsCompared, TableChecked, told, Accepts}
+use Rattle.volume.specs.Told.{told}
+use Rattle.volume.specs.Scans.{rootOf, Scanned, BitsCompared, TableChecked}
 use Rattle.volume.proofs.ScanLaws.{scan-refused, scan-local, scan-remote, raw-local, RawFile, raw-file, check-refused, check-differs, check-same, scan-table}
 use Rattle.chain.specs.KnownChain.{KnownChain}
 
@@ -99,7 +101,7 @@ checked P N image table g e (w.Done d) u k =
 checked P N image table g e (w.Refused n p) u k = sym (asked-refused P N image table g e (λ i. ok (totals i)) n p u k)
 
 -- what a call that answers so accepts
-pub accepts : (P N : ℕ) (image table : List ℕ) → ((i : ℕ) → getD image i 0 < 256) → (r : Walk) (u : List ℕ) → (told r, u) ≡ checkCall P N image table → Accepts P N image table r
+pub accepts : (P N : ℕ) (image table : List ℕ) → ((i : ℕ) → getD image i 0 < 256) → (r : Walk) (u : List ℕ) → (told r, u) ≡ checkCall P N image table → Accepts P N image table (IsOk (told r))
 accepts P N image table h r u e =
     let k = check-accepts P N image table (bytes-from image h) in
     let q : told r ≡ checkCall P N image table .0 = ap (λ (x : Res Totals × List ℕ). x .0) e in

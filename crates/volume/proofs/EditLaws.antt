@@ -20,7 +20,8 @@ use Rattle.walk.specs.declared.Walk.the-variants as w
 use Rattle.volume.specs.declared.Edited.{Edited}
 use Rattle.volume.specs.declared.Edited.the-variants as edited
 use Rattle.volume.specs.Scans.{TableChecked}
-use Rattle.volume.specs.Edits.{editTold, leaves, TableOf, EditLeaves}
+use Rattle.volume.specs.Told.{editTold}
+use Rattle.volume.specs.Edits.{leaves, TableOf, EditLeaves}
 
 -- the table that a check fills, and what stands past it
 table-told : (g : Geometry) (v : View) (r : Walk) (u table : List ℕ) → TableChecked g v r u → u ++ drop (g .pages) table ≡ tableAfter (g .pages) (check g v) table

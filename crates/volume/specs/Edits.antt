@@ -11,13 +11,8 @@ use Rattle.rules.specs.Check.{check}
 use Rattle.rules.specs.Owners.{owners}
 use Rattle.walk.specs.declared.Walk.{Walk}
 use Rattle.volume.specs.declared.Edited.{Edited}
-use Rattle.volume.specs.declared.Edited.the-variants as edited
+use Rattle.volume.specs.Told.{editTold}
 use Rattle.volume.specs.Scans.{TableChecked}
-
--- an answer as the rules have it
-abbrev pub editTold : Edited → Res (Unit {0})
-editTold edited.Done = ok tt
-editTold (edited.Refused n p) = err n p
 
 -- the answer of an edit and the image that it leaves
 abbrev pub leaves : List ℕ → Res (List ℕ) → Res (Unit {0}) × List ℕ

@@ -1,6 +1,5 @@
 -- For contracts: the two halves of the check over an owner table.
 use mathlib.Core.Path.{_≡_}
-use mathlib.Core.Logic.{_↔_}
 use mathlib.Core.List.{List, []}
 use Prim.Native.Nat.{ℕ, suc}
 use lib.Dec.{ltb, eqb}
@@ -16,7 +15,6 @@ use Rattle.rules.specs.Control.{theRoot, headOf, rootPage}
 use Rattle.rules.specs.Owners.{own, owners, totals}
 use Rattle.rules.specs.OwnerLaws.{Represents}
 use Rattle.rules.specs.Check.{Scan, judgeBits, judgeDirectory, judgeSub, scan, check}
-use Rattle.rules.specs.Demand2.{WellFormedAt}
 use Rattle.directory.specs.declared.control.Root.{Root}
 use Rattle.directory.specs.declared.control.Root.the-variants as root
 use Rattle.directory.specs.Faults.{control}
@@ -67,12 +65,3 @@ BitsCompared g v table r = (s : Scan) → scan g v ≡ ok s → (used : List ℕ
 abbrev pub TableChecked : Geometry → View → Walk → List ℕ → Type 0
 TableChecked g v (w.Done d) u = (i : Image) × (check g v ≡ ok i) × (d ≡ totals i) × (u ≡ owners (g .pages) i)
 TableChecked g v (w.Refused n p) u = (check g v ≡ err n p) × (u ≡ replicate (g .pages) 0)
-
--- an answer as the rules have it
-abbrev pub told : Walk → Res Totals
-told (w.Done d) = ok d
-told (w.Refused n p) = err n p
-
--- accepted exactly when the image is well formed in the geometry that the sizes give
-abbrev pub Accepts : ℕ → ℕ → List ℕ → List ℕ → Walk → Type 0
-Accepts P N image table r = ((t : Totals) × (told r ≡ ok t)) ↔ WellFormedAt P N image table

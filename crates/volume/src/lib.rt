@@ -14,7 +14,10 @@ ghost use lib.ListN.{length, replicate};
 ghost use Rattle.geometry.specs.Geometry.{Fit};
 ghost use Rattle.packet.specs.Packet.{viewOf};
 ghost use Rattle.rules.specs.OwnerLaws.{inUse};
-ghost use Rattle.volume.specs.Scans.{rootOf, MapClaimed, RootWalked, Scanned, IsScanned, BitsCompared, TableChecked, told, Accepts};
+ghost use Rattle.rules.specs.Result.{IsOk};
+ghost use Rattle.rules.specs.Promises.{Accepts};
+ghost use Rattle.volume.specs.Told.{told};
+ghost use Rattle.volume.specs.Scans.{rootOf, MapClaimed, RootWalked, Scanned, IsScanned, BitsCompared, TableChecked};
 ghost use Rattle.rules.specs.Calls.{checkCall};
 
 // What an edit answers: done, or a number of document 01 and the page told.
@@ -152,7 +155,7 @@ pub fn check_table(image: &[u8], g: Geometry, owners: &mut [u16]) -> Walk
 // Checks an image in its geometry: pages in use, files and directories, or the first fault. Fills the owner table.
 pub fn check(image: &[u8], size: u32, pages: u32, owners: &mut [u16]) -> Walk
     ensures { λ r. ⌜ (told r, now (owners .exit)) ≡ checkCall size pages (now (image .entry)) (now (owners .entry)) ⌝ }
-    ensures { λ r. ⌜ Accepts size pages (now (image .entry)) (now (owners .entry)) r ⌝ }
+    ensures { λ r. ⌜ Accepts size pages (now (image .entry)) (now (owners .entry)) (IsOk (told r)) ⌝ }
 {
     match Geometry::new(size, pages, image.len(), owners.len()) {
         Shape::Wrong => Walk::Refused(1, 0),

@@ -40,7 +40,7 @@ returns-2 : tie.Need-returns-2
 returns-2 c =
     let a = c .before .before .before .before .before .before .before .before .before .before .before .before .before .args in
     let e = list-fault (a .size) (a .pages) (a .image .now) (a .owners .now) _ (sym (c .before .before .before .before .before .before .before .before .before .before .new .ensures) ∙ c .before .before .before .before .before .before .before .before .g .given .1) (c .before .before .before .before .before .check-table .result) (c .before .before .before .before .before .check-table .last .1 .1 .0) (c .before .before .before .before .before .check-table .ensures) _ _ (c .before .number .given .1) (a .position) in
-    (e, lists-tree (a .size) (a .pages) (a .image .now) (a .owners .now) (λ i. c .before .before .before .before .before .before .before .before .before .before .before .before .shared-slice-known .given i .fits) (a .position) _ _ e)
+    (e, lists-tree (a .size) (a .pages) (a .image .now) (a .owners .now) (λ i. c .before .before .before .before .before .before .before .before .before .before .before .before .shared-slice-known .given i .fits) (a .position) (listed.Refused (c .before .number .given .0 .0) (c .before .number .given .0 .1 .0)) _ e)
 
 returns-3 : tie.Need-returns-3
 returns-3 c =

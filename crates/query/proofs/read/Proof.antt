@@ -40,7 +40,7 @@ returns-2 : tie.Need-returns-2
 returns-2 c =
     let a = c .before .before .before .before .before .before .before .before .before .before .before .before .before .before .before .args in
     let e = read-fault (a .size) (a .pages) (a .image .now) (a .owners .now) _ (sym (c .before .before .before .before .before .before .before .before .before .before .new .ensures) ∙ c .before .before .before .before .before .before .before .before .g .given .1) (c .before .before .before .before .before .check-table .result) (c .before .before .before .before .before .check-table .last .1 .1 .0) (c .before .before .before .before .before .check-table .ensures) _ _ (c .before .number .given .1) (a .path .now) (a .out .now) in
-    (e, reads-tree (a .size) (a .pages) (a .image .now) (a .owners .now) (λ i. c .before .before .before .before .before .before .before .before .before .before .before .before .before .before .shared-slice-known .given i .fits) (a .path .now) (a .out .now) _ _ _ e)
+    (e, reads-tree (a .size) (a .pages) (a .image .now) (a .owners .now) (λ i. c .before .before .before .before .before .before .before .before .before .before .before .before .before .before .shared-slice-known .given i .fits) (a .path .now) (a .out .now) (length′.Refused (c .before .number .given .0 .0) (c .before .number .given .0 .1 .0)) _ _ e)
 
 returns-3 : tie.Need-returns-3
 returns-3 c =

@@ -1,0 +1,29 @@
+use mathlib.Core.List.{List}
+use mathlib.Core.Path.{ap, _∙_}
+use Prim.Native.Nat.{ℕ}
+use native.Mathlib.Omega.{arith}
+use lib.ListN.{length}
+use Rattle.rules.specs.Calls.{putCall}
+use Rattle.volume.specs.Told.{editTold}
+use Rattle.answers.proofs.SmallLaws.{put-small}
+use Rattle.answers.proofs.CallLaws.{putted}
+use borrow.Author.Needs.{needs}
+use Rattle.calls.proofs.put_over.Statement.{statement}
+use Rattle.calls.proofs.put_over.Tie as tie
+
+tell-answer-requires : tie.Need-tell-answer-requires
+tell-answer-requires c κs =
+    let a = c .before .before .before .before .before .before .before .before .before .before .before .before .before .before .before .before .before .before .before .before .before .before .args in
+    put-small (a .size) (a .pages) (a .image .now) (c .before .before .before .before .before .before .before .before .before .before .before .before .before .before .load .last .1 .0) (a .path .now) (a .bytes .now) (editTold (c .before .before .before .before .before .before .before .before .before .put .result)) (c .before .before .before .before .before .before .before .before .before .put .last .0) (c .before .before .before .before .before .before .before .before .before .put .last .1 .1 .1 .1 .1 .0) (c .before .before .before .before .before .before .before .before .before .put .ensures .0)
+
+returns : tie.Need-returns
+returns c =
+    let a = c .before .before .before .before .before .before .before .before .before .before .before .before .before .before .before .before .before .before .before .before .before .before .before .args in
+    putted (a .size) (a .pages) (a .image .now) (a .owners .now) (length (a .table .now)) (c .before .before .before .before .before .before .before .before .before .before .before .before .before .before .before .before .before .before .before .before .before .before .before .pre) (λ i. omega (arith, c .before .before .before .before .before .before .before .before .before .before .before .before .before .before .before .before .before .before .slice-known3 .given i)) (c .before .before .before .before .before .before .before .before .before .before .put .last .1 .1 .1 .1 .1 .0) _
+    (c .before .before .before .before .before .before .before .before .before .before .put .kept .1 .1 .1 .1 .1 .0 ∙ c .before .before .before .before .before .before .before .before .before .before .before .before .before .before .before .load .kept .1 .0) (c .before .before .before .store .ensures) (a .path .now) (a .bytes .now) (c .before .before .before .before .before .before .before .before .before .before .put .last .0) (editTold (c .before .before .before .before .before .before .before .before .before .before .put .result)) _
+    (c .before .before .before .before .before .before .before .before .before .before .put .ensures .0 ∙ ap (λ (t : List ℕ). putCall (a .size) (a .pages) (a .image .now) t (a .path .now) (a .bytes .now)) (c .before .before .before .before .before .before .before .before .before .before .before .before .before .before .before .load .ensures)) (c .tell-answer .ensures)
+
+pub put-over-spec : {M : Type 1} → statement M
+put-over-spec =
+    tie.close
+    (tie.spec (λ c κs. search needs) (λ c κs. search needs) (λ c κs. search needs) tell-answer-requires (λ c. search needs) (λ c. search needs) (λ c. search needs) returns)

@@ -1,0 +1,118 @@
+// The calls over a table of numbers for an owner table of bytes: the table loaded, the call, the table stored, its answer as numbers.
+use answers::OwfsAnswer;
+use answers::OwfsEntry;
+use answers::OwfsLength;
+use answers::OwfsTotals;
+ghost use mathlib.Core.Path.{_≡_};
+ghost use Prim.Native.Nat.{_/_, min};
+ghost use lib.ListN.{length};
+ghost use Rattle.answers.specs.Answers.{checkAnswer, listAnswer, readAnswer, formatAnswer, putAnswer, deleteAnswer};
+
+// Checks an image over a table for the numbers of its owner bytes.
+pub fn check_over(
+    size: u32,
+    pages: u32,
+    image: &[u8],
+    table: &mut [u16],
+    owners: &mut [u8],
+) -> OwfsTotals
+    requires { ⌜ length (now table) ≡ min (length (now owners) / 2) 65535 ⌝ }
+    ensures { λ r. ⌜ (r, now (owners .exit)) ≡ checkAnswer size pages (now (image .entry)) (now (owners .entry)) ⌝ }
+{
+    table::load(owners, table);
+    let answer = volume::check(image, size, pages, table);
+    table::store(table, owners);
+    answers::tell(answer)
+}
+
+// Lists the entry at a walk position over such a table.
+pub fn list_over(
+    size: u32,
+    pages: u32,
+    image: &[u8],
+    table: &mut [u16],
+    owners: &mut [u8],
+    position: u32,
+) -> OwfsEntry
+    requires { ⌜ length (now table) ≡ min (length (now owners) / 2) 65535 ⌝ }
+    ensures { λ r. ⌜ (r, now (owners .exit)) ≡ listAnswer size pages (now (image .entry)) (now (owners .entry)) position ⌝ }
+{
+    table::load(owners, table);
+    let answer = query::list(image, size, pages, table, position as usize);
+    table::store(table, owners);
+    answers::tell_entry(answer)
+}
+
+// Reads the file at a path over such a table.
+pub fn read_over(
+    size: u32,
+    pages: u32,
+    image: &[u8],
+    path: &[u8],
+    out: &mut [u8],
+    table: &mut [u16],
+    owners: &mut [u8],
+) -> OwfsLength
+    requires { ⌜ length (now table) ≡ min (length (now owners) / 2) 65535 ⌝ }
+    ensures { λ r. ⌜ (r, now (out .exit), now (owners .exit)) ≡ readAnswer size pages (now (image .entry)) (now (owners .entry)) (now (path .entry)) (now (out .entry)) ⌝ }
+{
+    table::load(owners, table);
+    let answer = query::read(image, size, pages, path, out, table);
+    table::store(table, owners);
+    answers::tell_length(answer)
+}
+
+// Formats an image over such a table.
+pub fn format_over(
+    size: u32,
+    pages: u32,
+    image: &mut [u8],
+    table: &mut [u16],
+    owners: &mut [u8],
+    local: u32,
+) -> OwfsAnswer
+    requires { ⌜ length (now table) ≡ min (length (now owners) / 2) 65535 ⌝ }
+    ensures { λ r. ⌜ (r, now (image .exit), now (owners .exit)) ≡ formatAnswer size pages (now (image .entry)) (now (owners .entry)) local ⌝ }
+{
+    table::load(owners, table);
+    let answer = format::format(image, size, pages, table, local != 0);
+    table::store(table, owners);
+    answers::tell_answer(answer)
+}
+
+// Puts bytes at a path over such a table.
+pub fn put_over(
+    size: u32,
+    pages: u32,
+    image: &mut [u8],
+    path: &[u8],
+    bytes: &[u8],
+    table: &mut [u16],
+    owners: &mut [u8],
+) -> OwfsAnswer
+    requires { ⌜ length (now table) ≡ min (length (now owners) / 2) 65535 ⌝ }
+    ensures { λ r. ⌜ (r, now (image .exit), now (owners .exit)) ≡ putAnswer size pages (now (image .entry)) (now (owners .entry)) (now (path .entry)) (now (bytes .entry)) ⌝ }
+{
+    table::load(owners, table);
+    let answer = put::put(image, size, pages, path, bytes, table);
+    table::store(table, owners);
+    answers::tell_answer(answer)
+}
+
+// Deletes the file at a path over such a table.
+pub fn delete_over(
+    size: u32,
+    pages: u32,
+    image: &mut [u8],
+    path: &[u8],
+    table: &mut [u16],
+    owners: &mut [u8],
+) -> OwfsAnswer
+    requires { ⌜ length (now table) ≡ min (length (now owners) / 2) 65535 ⌝ }
+    ensures { λ r. ⌜ (r, now (image .exit), now (owners .exit)) ≡ deleteAnswer size pages (now (image .entry)) (now (owners .entry)) (now (path .entry)) ⌝ }
+{
+    table::load(owners, table);
+    let answer = delete::delete(image, size, pages, path, table);
+    table::store(table, owners);
+    answers::tell_answer(answer)
+}
