@@ -29,7 +29,8 @@ use Rattle.marks.specs.MapPages.{Releases}
 use Rattle.marks.specs.ReleaseLaws.{represents-release}
 use Rattle.volume.specs.declared.Edited.{Edited}
 use Rattle.volume.specs.Edits.{Answered}
-use Rattle.put.specs.Puts.{Putting, Laying, Lays, Growing, Grows, Inserting, Replacing}
+use Rattle.laying.specs.Layings.{Putting, Laying, Lays, Growing, Grows}
+use Rattle.put.specs.Puts.{Inserting, Replacing}
 
 -- the owner table of an accepted image tells of the pages in use
 table-used : (g : Geometry) (image path bytes table : List ℕ) (a : Asked g image path bytes) → table ≡ owners (g .pages) (a .tree) → Represents table (used (a .tree))

@@ -16,77 +16,7 @@ ghost use Rattle.rules.specs.Calls.{putCall};
 ghost use Rattle.rules.specs.Promises.{Puts};
 ghost use Rattle.volume.specs.Told.{editTold};
 ghost use Rattle.volume.specs.Edits.{Answered, TableOf, EditLeaves};
-ghost use Rattle.put.specs.Puts.{Laying, Lays, Growing, Grows, Inserting, Inserts, Replacing, Replaces};
-
-// What marks a page that joins a directory; a check makes the table anew afterwards.
-const TAKEN: u16 = 3;
-
-// Stores a file in the lowest free pages and writes its entry in a page of its directory, in the place of those from one number to another. 17.
-fn lay_file(
-    image: &mut [u8],
-    g: Geometry,
-    slot: Slot,
-    first: usize,
-    last: usize,
-    name: u32,
-    extension: u8,
-    bytes: &[u8],
-    owners: &mut [u16],
-) -> Edited
-    requires { ⌜ Fit g (now image) ⌝ }
-    requires { ⌜ (length (now owners) ≡ g .pages) × Laying g (now image) (now owners) (now bytes) name extension slot first last ⌝ }
-    ensures { λ r. ⌜ Lays g (now (image .entry)) (now (owners .entry)) (now (bytes .entry)) name extension slot first last r (now (image .exit)) ⌝ }
-{
-    let pages = storing::pages_for(bytes.len(), g.data_capacity());
-    if storing::count_free(owners) < pages {
-        return Edited::Refused(17, 0);
-    }
-    let start = storing::next_free(owners, 0);
-    storing::store(image, g, owners, 0, bytes);
-    let e = Entry {
-        name,
-        extension,
-        start,
-        pages,
-    };
-    slots::place_entry(image, g, slot, first, last, e);
-    marks::write_map(image, g, owners);
-    Edited::Done
-}
-
-// Stores a file in a directory without space: the lowest free page joins the directory's end with its entry. 17.
-fn grow(
-    image: &mut [u8],
-    g: Geometry,
-    slot: Slot,
-    name: u32,
-    extension: u8,
-    bytes: &[u8],
-    owners: &mut [u16],
-) -> Edited
-    requires { ⌜ Fit g (now image) ⌝ }
-    requires { ⌜ (length (now owners) ≡ g .pages) × Growing g (now image) (now owners) (now bytes) name extension slot ⌝ }
-    ensures { λ r. ⌜ Grows g (now (image .entry)) (now (owners .entry)) (now (bytes .entry)) name extension slot r (now (image .exit)) ⌝ }
-{
-    let pages = storing::pages_for(bytes.len(), g.data_capacity());
-    if storing::count_free(owners) <= pages {
-        return Edited::Refused(17, 0);
-    }
-    let joins = storing::next_free(owners, 0);
-    let start = storing::next_free(owners, joins + 1);
-    storing::store(image, g, owners, joins + 1, bytes);
-    owners[joins] = TAKEN;
-    let e = Entry {
-        name,
-        extension,
-        start,
-        pages,
-    };
-    slots::write_entry(image, g, joins, e);
-    slots::rewrite(image, g, slot.page, 0, 0, b"", joins);
-    marks::write_map(image, g, owners);
-    Edited::Done
-}
+ghost use Rattle.put.specs.Puts.{Inserting, Inserts, Replacing, Replaces};
 
 // Puts a file that its directory does not have.
 fn insert_file(
@@ -103,7 +33,7 @@ fn insert_file(
     ensures { λ r. ⌜ Inserts g (now (image .entry)) (now (owners .entry)) (now (bytes .entry)) name extension start r (now (image .exit)) ⌝ }
 {
     match space::find_space(image, g, start) {
-        Space::At(slot) => lay_file(
+        Space::At(slot) => laying::lay_file(
             image,
             g,
             slot,
@@ -114,7 +44,7 @@ fn insert_file(
             bytes,
             owners,
         ),
-        Space::Full(slot) => grow(image, g, slot, name, extension, bytes, owners),
+        Space::Full(slot) => laying::grow(image, g, slot, name, extension, bytes, owners),
     }
 }
 
@@ -132,7 +62,7 @@ fn replace_file(
     ensures { λ r. ⌜ Replaces g (now (image .entry)) (now (owners .entry)) (now (bytes .entry)) slot e r (now (image .exit)) ⌝ }
 {
     marks::release(image, g, e.start, owners);
-    lay_file(
+    laying::lay_file(
         image,
         g,
         slot,

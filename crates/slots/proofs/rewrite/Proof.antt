@@ -44,15 +44,20 @@ slice-aggregate-write-page c = sym (length-take-le _ (c .before .before .before 
 
 write-page-requires : tie.Need-write-page-requires
 write-page-requires c κs =
-    let k = parts _ _ (c .before .before .before .before .before .before .before .before .before .before .before .before .before .before .before .before .pre .0) _ _ _ _ (c .before .before .before .before .before .before .before .before .before .before .before .before .before .before .before .before .pre .1 .0) (c .before .before .before .before .before .before .before .before .before .before .before .before .before .before .before .before .pre .1 .1) _ (c .before .before .before .before .before .before .before .before .before .before .before .before .before .new .ensures) _ _ _ (c .before .before .before .before .before .before .before .before .before .size .given .1) (c .before .before .before .before .before .before .before .before .before .before .before .step .ensures) in
     let a = c .before .before .before .before .before .before .before .before .before .before .before .before .before .before .before .before .args in
+    let p = c .before .before .before .before .before .before .before .before .before .before .before .before .before .before .before .before .pre in
+    let k = parts _ _ (p .0) _ _ _ _ (p .1 .0) (p .1 .1) _ (c .before .before .before .before .before .before .before .before .before .before .before .before .before .new .ensures) _ _ _ (c .before .before .before .before .before .before .before .before .before .size .given .1) (c .before .before .before .before .before .before .before .before .before .before .before .step .ensures) in
+    let a = a in
     let z = length-take-le (a .from + length (a .new .now) + (c .before .before .before .before .before .before .before .before .before .size .given .0 .0 - a .to)) (c .before .before .before .splice .last .1 .1 .1 .1 .0) (omega (arith, k, c .before .before .before .splice .kept .1 .1 .1 .1 .0, length-replicate {A = ℕ} 256 0)) in
-    (c .before .before .before .before .before .before .before .before .before .before .before .before .before .before .before .before .pre .0, (c .before .before .before .before .before .before .before .before .before .before .before .before .before .before .before .before .pre .1 .0, omega (arith, k, z)))
+    (p .0, (p .1 .0, omega (arith, k, z)))
 
 returns-2 : tie.Need-returns-2
-returns-2 c = λ b n E.
+returns-2 c =
     let a = c .before .before .before .before .before .before .before .before .before .before .before .before .before .before .before .before .before .before .before .args in
-    rewritten (a .g) (a .image .now) _ _ (a .page) (a .next) (c .before .before .write-page .ensures) _ (spliced-data _ _ (c .before .before .before .before .before .before .before .before .before .before .before .before .before .before .before .before .before .before .before .pre .0) _ _ _ _ (c .before .before .before .before .before .before .before .before .before .before .before .before .before .before .before .before .before .before .before .pre .1 .0) (c .before .before .before .before .before .before .before .before .before .before .before .before .before .before .before .before .before .before .before .pre .1 .1) _ (c .before .before .before .before .before .before .before .before .before .before .before .before .before .before .before .before .new .ensures) _ _ _ (c .before .before .before .before .before .before .before .before .before .before .before .before .size .given .1) (c .before .before .before .before .before .before .before .before .before .before .before .before .before .before .step .ensures) _ (c .before .before .before .before .before .before .before .before .before .page-of .ensures) (a .new .now) refl _ _ _ (c .before .before .before .before .before .before .before .before .data-of .ensures) (c .before .before .before .before .before .before .splice .ensures) b n E)
+    let p = c .before .before .before .before .before .before .before .before .before .before .before .before .before .before .before .before .before .before .before .pre in
+    λ b n E.
+    let a = a in
+    rewritten (a .g) (a .image .now) _ _ (a .page) (a .next) (c .before .before .write-page .ensures) _ (spliced-data _ _ (p .0) _ _ _ _ (p .1 .0) (p .1 .1) _ (c .before .before .before .before .before .before .before .before .before .before .before .before .before .before .before .before .new .ensures) _ _ _ (c .before .before .before .before .before .before .before .before .before .before .before .before .size .given .1) (c .before .before .before .before .before .before .before .before .before .before .before .before .before .before .step .ensures) _ (c .before .before .before .before .before .before .before .before .before .page-of .ensures) (a .new .now) refl _ _ _ (c .before .before .before .before .before .before .before .before .data-of .ensures) (c .before .before .before .before .before .before .splice .ensures) b n E)
 
 pub rewrite-spec : {M : Type 1} → statement M
 rewrite-spec =

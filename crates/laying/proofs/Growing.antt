@@ -29,8 +29,8 @@ use Rattle.volume.specs.Edits.{Answered}
 use Rattle.editing.specs.PutLaws as laws
 use Rattle.stages.specs.OneEdit as one
 use Rattle.stages.specs.GrownStage as stage
-use Rattle.put.specs.Puts.{Putting, newLabel, itemsOf, Growing}
-use Rattle.put.proofs.Storing as storing
+use Rattle.laying.specs.Layings.{Putting, newLabel, itemsOf, Growing}
+use Rattle.laying.proofs.Storing as storing
 
 -- the pages of a directory by its tokens
 abbrev tokenPages : List Token → List ℕ

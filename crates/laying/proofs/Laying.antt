@@ -23,8 +23,8 @@ use Rattle.volume.specs.declared.Edited.the-variants as edited
 use Rattle.volume.specs.Edits.{Answered}
 use Rattle.stages.specs.OneEdit as one
 use Rattle.stages.specs.PageStage as stage
-use Rattle.put.specs.Puts.{Putting, newLabel, Laying}
-use Rattle.put.proofs.Storing as storing
+use Rattle.laying.specs.Layings.{Putting, newLabel, Laying}
+use Rattle.laying.proofs.Storing as storing
 
 module _ (g : Geometry) (image table bytes : List ℕ) (sized : length table ≡ g .pages) (name extension : ℕ) (s : Slot) (first last : ℕ)
     (L : Laying g image table bytes name extension s first last) where

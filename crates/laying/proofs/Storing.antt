@@ -24,7 +24,7 @@ use Rattle.storing.specs.Free.{freeFrom, Next, found, none, NextFree, CountsFre
 use Rattle.volume.specs.declared.Edited.the-variants as edited
 use Rattle.volume.specs.Edits.{leaves, Answered}
 use Rattle.stages.specs.OneEdit as one
-use Rattle.put.specs.Puts.{Putting, newLabel}
+use Rattle.laying.specs.Layings.{Putting, newLabel}
 
 module _ (g : Geometry) (image table bytes : List ℕ) (sized : length table ≡ g .pages) (name extension : ℕ) (p : Putting g image table bytes name extension) where
   abbrev a : Asked g image (p .path) bytes
