@@ -1,4 +1,4 @@
-pub mod ToldLaws
+pub mod EditFaults
 pub mod SmallLaws
 pub mod CallLaws
 pub mod TreeLaws

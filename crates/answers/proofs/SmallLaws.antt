@@ -25,8 +25,11 @@ use Rattle.rules.specs.Soundness.{check-sound}
 use Rattle.rules.specs.Owners.{totals}
 use Rattle.rules.specs.Listing.{linesOf, lineAt}
 use Rattle.rules.specs.Paths.{fileKey, Found, nothing, aFile, aDirectory, find, atRoot}
+use Rattle.rules.specs.TargetLaws.{reached}
 use Rattle.rules.specs.Calls.{bytesOf, fileAt, readBytes, lengthOf, asked, inGeometry, shape, done, changed, checkCall, listCall, readCall, formatCall, putCall, deleteCall}
-use Rattle.rules.specs.CallLaws.{asked-fits, asked-wrong}
+use Rattle.rules.specs.RefusalLaws.{Refuses}
+use Rattle.rules.specs.FuelLaws.{check-faults}
+use Rattle.rules.specs.CallLaws.{asked-fits, asked-wrong, read-faults}
 use Rattle.rules.specs.Format.{format}
 use Rattle.rules.specs.Put.{put}
 use Rattle.rules.specs.Delete.{delete}
@@ -35,8 +38,8 @@ use Rattle.chain.proofs.Following.{first-stands, small-view}
 use Rattle.listing.specs.Standing.{Below}
 use Rattle.listing.proofs.Accepting.{accepted-stands}
 use Rattle.lookup.proofs.Resolving.{FoundStands, find-stands, place-below}
+use Rattle.answers.proofs.EditFaults.{some-pages, EditFaults, format-told, delete-told, put-told}
 use Rattle.answers.specs.Small.{Small, TotalsSmall, LineSmall, LengthSmall, DoneSmall}
-use Rattle.answers.proofs.ToldLaws.{Tells, check-tells, read-tells, format-tells, put-tells, delete-tells}
 
 -- an answer is small if it is for every accepted image
 module _ {A : Type 0} (P N : ℕ) (image t : List ℕ) (few : A → Type 0) (question : Image → Res A)
@@ -46,7 +49,7 @@ module _ {A : Type 0} (P N : ℕ) (image t : List ℕ) (few : A → Type 0) (que
     where
       one : (g : Geometry) → Fit g image → (r : Res Image) → check g (viewOf g image) ≡ r → Small few (andThen r question)
       one g f (ok i) e = unfold andThen in h g f i e
-      one g f (err n p) e = unfold andThen in check-tells g (f .valid .few) (viewOf g image) .page n p e
+      one g f (err n p) e = unfold andThen in omega (arith, check-faults g (viewOf g image) (some-pages f) .page n p e, f .valid .few)
 
       go : (s : Shape) → geometryOf P N (length image) (length t) ≡ s → Small few (asked P N image t question .0)
       go Wrong e = subst (λ (x : Res A × List ℕ). Small few (x .0)) (sym (asked-wrong P N image t e question)) (omega arith)
@@ -104,9 +107,11 @@ module _ (g : Geometry) (image : List ℕ) (fit : Fit g image) where
   -- the file at a path
   file-small : (path : List ℕ) (i : Image) → check g v ≡ ok i → (bytes : List ℕ) → fileAt path i ≡ ok bytes → length bytes < 16777216
   unfolding fileAt
-  file-small path i a bytes e = on-then _ _ _ e λ q _ e. on-then _ _ _ e λ d w e.
-      let b = place-below g v (q .directories) atRoot theRoot (i .tree) 8 (accepted-stands g v i a .below) d w in
-      go (b .0) (fileKey q) (find (fileKey q) (d .items)) (find-stands g v (b .0) (fileKey q) (d .items) (b .1)) e
+  file-small path i a bytes e = on-then _ _ _ e λ x w e.
+      let r = reached path (i .tree) x w in
+      let b = place-below g v (x .to .directories) atRoot theRoot (i .tree) 8 (accepted-stands g v i a .below) (x .place) (r .there) in
+      let k = fileKey (x .to) in
+      go (b .0) k (find k (x .place .items)) (find-stands g v (b .0) k (x .place .items) (b .1)) e
     where
       go : (n k : ℕ) (f : Found) → FoundStands g v n k f → bytesOf f ≡ ok bytes → length bytes < 16777216
       go n k nothing s e = unfold bytesOf in clash e
@@ -114,9 +119,9 @@ module _ (g : Geometry) (image : List ℕ) (fit : Fit g image) where
       go n k (aDirectory l d) s e = unfold bytesOf in clash e
 
 -- ---- the answers of the calls
-small-of : {A : Type 0} (few : A → Type 0) (r : Res A) → Tells r → ((a : A) → r ≡ ok a → few a) → Small few r
-small-of few (ok a) h k = k a refl
-small-of few (err n p) h k = h .page n p refl
+small-of : {A : Type 0} (few : A → Type 0) (r : Res A) (low high most : ℕ) → most ≤ 131072 → Refuses low high most r → ((a : A) → r ≡ ok a → few a) → Small few r
+small-of few (ok a) low high most m h k = k a refl
+small-of few (err n p) low high most m h k = omega (arith, h .page n p refl)
 
 length-small : (r : Res (List ℕ)) → Small (λ bytes. length bytes < 16777216) r → Small LengthSmall (lengthOf r)
 length-small (ok bytes) h = h
@@ -137,32 +142,32 @@ module _ (P N : ℕ) (image t : List ℕ) where
   unfolding readCall
   read-small path out after q x e = subst (Small LengthSmall) (sym (ap (λ (y : Res ℕ × List ℕ × List ℕ). y .0) e))
       (length-small (asked P N image t (readBytes path out) .0)
-      (small-asked P N image t (λ bytes. length bytes < 16777216) (readBytes path out) (λ g f i a. small-of _ (readBytes path out i) (read-tells path out i) (λ bytes z. read-file g f i a bytes z))))
+      (small-asked P N image t (λ bytes. length bytes < 16777216) (readBytes path out) (λ g f i a. small-of _ (readBytes path out i) 14 18 1 (omega arith) (read-faults path out i) (λ bytes z. read-file g f i a bytes z))))
     where
       read-file : (g : Geometry) → Fit g image → (i : Image) → check g (viewOf g image) ≡ ok i → (bytes : List ℕ) → readBytes path out i ≡ ok bytes → length bytes < 16777216
       read-file g f i a bytes z = unfold readBytes in on-then _ _ _ z λ b w z. on-refuse _ _ _ _ _ z λ _ z. subst (λ (y : List ℕ). length y < 16777216) (ok-inj z) (file-small g image f path i a b w)
 
 -- ---- an edit
 module _ (P N : ℕ) (image t : List ℕ) where
-  done-small : (g : Geometry) (r : Res (List ℕ)) → Tells r → Small DoneSmall (done P N image t g r .0)
-  done-small g (ok after) h = tt
-  done-small g (err n p) h = h .page n p refl
+  done-small : (g : Geometry) → g .pages ≤ 65535 → (r : Res (List ℕ)) → Refuses 1 18 (g .pages + 33) r → Small DoneSmall (done P N image t g r .0)
+  done-small g few (ok after) h = tt
+  done-small g few (err n p) h = omega (arith, h .page n p refl)
 
-  pub small-changed : (edit : Geometry → Res (List ℕ)) → ((g : Geometry) → Fit g image → Tells (edit g)) → Small DoneSmall (changed P N image t edit .0)
+  pub small-changed : (edit : Geometry → Res (List ℕ)) → EditFaults image edit → Small DoneSmall (changed P N image t edit .0)
   small-changed edit h = go (shape P N image t) refl
     where
       go : (s : Shape) → shape P N image t ≡ s → Small DoneSmall (inGeometry s (err 1 0, image, t) (λ g. done P N image t g (edit g)) .0)
       go Wrong e = omega arith
-      go (Fits g) e = done-small g (edit g) (h g (fit-of P N image t g e))
+      go (Fits g) e = let f = fit-of P N image t g e in done-small g (f .valid .few) (edit g) (h g f)
 
   pub format-small : (local : Bool) (q : Res (Unit {0})) (after x : List ℕ) → (q, after, x) ≡ formatCall P N image t local → Small DoneSmall q
   unfolding formatCall
-  format-small local q after x e = subst (Small DoneSmall) (sym (ap (λ (y : Res (Unit {0}) × List ℕ × List ℕ). y .0) e)) (small-changed (λ g. format g local image) (λ g f. format-tells g local image))
+  format-small local q after x e = subst (Small DoneSmall) (sym (ap (λ (y : Res (Unit {0}) × List ℕ × List ℕ). y .0) e)) (small-changed (λ g. format g local image) (format-told image local))
 
   pub delete-small : (path : List ℕ) (q : Res (Unit {0})) (after x : List ℕ) → (q, after, x) ≡ deleteCall P N image t path → Small DoneSmall q
   unfolding deleteCall
-  delete-small path q after x e = subst (Small DoneSmall) (sym (ap (λ (y : Res (Unit {0}) × List ℕ × List ℕ). y .0) e)) (small-changed (λ g. delete g path image) (λ g f. delete-tells g (f .valid .few) path image))
+  delete-small path q after x e = subst (Small DoneSmall) (sym (ap (λ (y : Res (Unit {0}) × List ℕ × List ℕ). y .0) e)) (small-changed (λ g. delete g path image) (delete-told image path))
 
   pub put-small : (path bytes : List ℕ) (q : Res (Unit {0})) (after x : List ℕ) → (q, after, x) ≡ putCall P N image t path bytes → Small DoneSmall q
   unfolding putCall
-  put-small path bytes q after x e = subst (Small DoneSmall) (sym (ap (λ (y : Res (Unit {0}) × List ℕ × List ℕ). y .0) e)) (small-changed (λ g. put g path bytes image) (λ g f. put-tells g (f .valid .few) path bytes image))
+  put-small path bytes q after x e = subst (Small DoneSmall) (sym (ap (λ (y : Res (Unit {0}) × List ℕ × List ℕ). y .0) e)) (small-changed (λ g. put g path bytes image) (put-told image path bytes))

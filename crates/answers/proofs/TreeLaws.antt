@@ -1,5 +1,5 @@
 -- An answer has the number 0 exactly when the call is done, so what the calls state of the tree holds of the exported answers.
-use mathlib.Core.Path.{_≡_, refl, ap, ap₂, sym, _∙_, subst}
+use mathlib.Core.Path.{_≡_, refl, ap, ap₂, sym, _∙_}
 use mathlib.Core.Logic.{_↔_, inl, inr}
 use mathlib.Core.List.{List}
 use Prim.Native.Nat.{ℕ, _≤_}
@@ -9,26 +9,30 @@ use Rattle.geometry.specs.Number.{Bytes}
 use Rattle.geometry.specs.declared.Geometry.{Geometry}
 use Rattle.geometry.specs.declared.Shape.{Shape}
 use Rattle.geometry.specs.declared.Shape.the-variants.{Fits, Wrong}
-use Rattle.geometry.specs.Geometry.{geometryOf}
+use Rattle.geometry.specs.Geometry.{geometryOf, Fit}
+use Rattle.geometry.specs.ShapeLaws.{fit-of}
 use Rattle.packet.specs.Packet.{viewOf}
 use Rattle.rules.specs.declared.Totals.{Totals}
 use Rattle.rules.specs.declared.Line.{Line}
-use Rattle.rules.specs.Result.{Res, ok, err, IsOk}
-use Rattle.rules.specs.ResultLaws.{clash}
-use Rattle.rules.specs.RefusalLaws.{Between, between-ok, between-then, between-wider, between-err, check-faults, line-faults, read-faults, format-faults, put-faults, delete-faults}
+use Rattle.rules.specs.Result.{Res, ok, err, andThen, IsOk}
+use Rattle.rules.specs.ResultLaws.{clash, on-refused}
+use Rattle.rules.specs.RefusalLaws.{Refuses, refuses-ok, refuses-within, line-faults}
+use Rattle.rules.specs.FuelLaws.{check-faults}
 use Rattle.rules.specs.Tree.{Image}
+use Rattle.rules.specs.Check.{check}
 use Rattle.rules.specs.Owners.{totals}
 use Rattle.rules.specs.Listing.{linesOf, lineAt}
 use Rattle.rules.specs.Format.{format}
 use Rattle.rules.specs.Put.{put}
 use Rattle.rules.specs.Delete.{delete}
 use Rattle.rules.specs.Calls.{readBytes, lengthOf, filled, inGeometry, asked, done as doneCall, changed, checkCall, listCall, readCall, formatCall, putCall, deleteCall}
-use Rattle.rules.specs.CallLaws.{asked-fits, asked-wrong}
+use Rattle.rules.specs.CallLaws.{asked-fits, asked-wrong, read-faults}
 use Rattle.rules.specs.Promises.{Accepts, TellsTree, Formats, Deletes, Puts}
 use Rattle.reading.specs.CheckCall.{asked-tells, tells-said}
 use Rattle.editing.specs.Demand3.{demand-said}
 use Rattle.editing.specs.Promised.{format-stated, delete-stated, put-stated, leaves-said}
 use Rattle.table.specs.Table.{numbersOf}
+use Rattle.answers.proofs.EditFaults.{some-pages, EditFaults, format-told, delete-told, put-told}
 use Rattle.answers.specs.declared.OwfsTotals.{OwfsTotals}
 use Rattle.answers.specs.declared.OwfsEntry.{OwfsEntry}
 use Rattle.answers.specs.declared.OwfsLength.{OwfsLength}
@@ -36,14 +40,15 @@ use Rattle.answers.specs.declared.OwfsAnswer.{OwfsAnswer}
 use Rattle.answers.specs.Answers.{totalsFor, entryFor, lengthFor, answerFor, asksLocal, checkAnswer, listAnswer, readAnswer, formatAnswer, putAnswer, deleteAnswer}
 
 -- no refusal has the number 0
-module _ {A : Type 0} (P N : ℕ) (image t : List ℕ) (question : Image → Res A) (h : (i : Image) → Between 1 18 (question i)) where
-  asked-faults : Between 1 18 (asked P N image t question .0)
-  asked-faults = go (geometryOf P N (length image) (length t)) refl
+module _ {A : Type 0} (P N : ℕ) (image t : List ℕ) (question : Image → Res A) (h : (i : Image) → Refuses 14 18 1 (question i)) where
+  asked-number : (n p : ℕ) → asked P N image t question .0 ≡ err n p → 1 ≤ n
+  asked-number n p k = go (geometryOf P N (length image) (length t)) refl
     where
-      go : (s : Shape) → geometryOf P N (length image) (length t) ≡ s → Between 1 18 (asked P N image t question .0)
-      go Wrong e = subst (λ (x : Res A × List ℕ). Between 1 18 (x .0)) (sym (asked-wrong P N image t e question)) (between-err tt)
-      go (Fits g) e = subst (λ (x : Res A × List ℕ). Between 1 18 (x .0)) (sym (asked-fits P N image t g e question))
-          (between-then (between-wider 1 18 (omega arith) (omega arith) (check-faults g (viewOf g image))) h)
+      go : (s : Shape) → geometryOf P N (length image) (length t) ≡ s → 1 ≤ n
+      go Wrong e = let z : err 1 0 ≡ err n p = sym (ap (λ (x : Res A × List ℕ). x .0) (asked-wrong P N image t e question)) ∙ k in let i : 1 ≡ n = cc in omega arith
+      go (Fits g) e =
+          let z : andThen (check g (viewOf g image)) question ≡ err n p = sym (ap (λ (x : Res A × List ℕ). x .0) (asked-fits P N image t g e question)) ∙ k in
+          on-refused _ _ _ _ z (λ c. omega (arith, check-faults g (viewOf g image) (some-pages (fit-of P N image t g e)) .number n p c .0)) (λ i _ c. omega (arith, h i .number n p c .0))
 
   -- so an answer is there where the number told is 0
   pub done : (number : Res A → ℕ) → ((n p : ℕ) → number (err n p) ≡ n) → number (asked P N image t question .0) ≡ 0 → IsOk (asked P N image t question .0)
@@ -51,7 +56,7 @@ module _ {A : Type 0} (P N : ℕ) (image t : List ℕ) (question : Image → Res
     where
       go : (r : Res A) → asked P N image t question .0 ≡ r → IsOk (asked P N image t question .0)
       go (ok a) e = (a, e)
-      go (err n p) e = absurd (omega (arith, asked-faults .number n p e .0, sym (ap number e) ∙ z, k n p))
+      go (err n p) e = absurd (omega (arith, asked-number n p e, sym (ap number e) ∙ z, k n p))
 
 module _ (P N : ℕ) (image owners : List ℕ) (bytes : Bytes image) where
   abbrev table : List ℕ
@@ -63,7 +68,7 @@ module _ (P N : ℕ) (image owners : List ℕ) (bytes : Bytes image) where
       let f : Image → Res Totals = λ i. ok (totals i) in
       let n : r .number ≡ totalsFor (asked P N image table f .0) .number = ap (λ (x : OwfsTotals × List ℕ). x .0 .number) e in
       let k = asked-tells P N image table bytes f in
-      (λ z. k .formed (done P N image table f (λ i. between-ok) (λ x. totalsFor x .number) (λ n p. refl) (sym n ∙ z)), λ w. n ∙ ap (λ (x : Res Totals). totalsFor x .number) (k .tells w))
+      (λ z. k .formed (done P N image table f (λ i. refuses-ok) (λ x. totalsFor x .number) (λ n p. refl) (sym n ∙ z)), λ w. n ∙ ap (λ (x : Res Totals). totalsFor x .number) (k .tells w))
 
   pub lists-tree : (k : ℕ) (r : OwfsEntry) (b : List ℕ) → (r, b) ≡ listAnswer P N image owners k
       → TellsTree P N image table (λ i. lineAt k (linesOf 0 (i .tree))) (λ x. r ≡ entryFor x) (r .number ≡ 0)
@@ -71,7 +76,7 @@ module _ (P N : ℕ) (image owners : List ℕ) (bytes : Bytes image) where
   lists-tree k r b e =
       let f : Image → Res Line = λ i. lineAt k (linesOf 0 (i .tree)) in
       let q : r ≡ entryFor (asked P N image table f .0) = ap (λ (x : OwfsEntry × List ℕ). x .0) e in
-      let h : (i : Image) → Between 1 18 (f i) = λ i. between-wider 1 18 (omega arith) (omega arith) (line-faults k (linesOf 0 (i .tree))) in
+      let h : (i : Image) → Refuses 14 18 1 (f i) = λ i. refuses-within 14 18 1 (omega arith) (omega arith) (omega arith) (line-faults k (linesOf 0 (i .tree))) in
       tells-said (λ x t. q ∙ ap entryFor t) (λ z. done P N image table f h (λ x. entryFor x .number) (λ n p. refl) (sym (ap (λ (x : OwfsEntry). x .number) q) ∙ z)) (asked-tells P N image table bytes f)
 
   pub reads-tree : (path out : List ℕ) (r : OwfsLength) (after b : List ℕ) → (r, after, b) ≡ readAnswer P N image owners path out
@@ -81,25 +86,24 @@ module _ (P N : ℕ) (image owners : List ℕ) (bytes : Bytes image) where
       let f = readBytes path out in
       let q : r ≡ lengthFor (lengthOf (asked P N image table f .0)) = ap (λ (x : OwfsLength × List ℕ × List ℕ). x .0) e in
       let o : after ≡ filled out (asked P N image table f .0) = ap (λ (x : OwfsLength × List ℕ × List ℕ). x .1) e in
-      let h : (i : Image) → Between 1 18 (f i) = λ i. between-wider 1 18 (omega arith) (omega arith) (read-faults path out i) in
       tells-said (λ x t. (q ∙ ap (λ (y : Res (List ℕ)). lengthFor (lengthOf y)) t, o ∙ ap (filled out) t))
-      (λ z. done P N image table f h (λ x. lengthFor (lengthOf x) .number) (λ n p. refl) (sym (ap (λ (x : OwfsLength). x .number) q) ∙ z)) (asked-tells P N image table bytes f)
+      (λ z. done P N image table f (read-faults path out) (λ x. lengthFor (lengthOf x) .number) (λ n p. refl) (sym (ap (λ (x : OwfsLength). x .number) q) ∙ z)) (asked-tells P N image table bytes f)
 
 -- ---- an edit: the number told is 0 exactly when it is done
-module _ (P N : ℕ) (image table : List ℕ) (edit : Geometry → Res (List ℕ)) (h : (g : Geometry) → Between 1 18 (edit g)) where
+module _ (P N : ℕ) (image table : List ℕ) (edit : Geometry → Res (List ℕ)) (h : EditFaults image edit) where
   abbrev call : Res (Unit {0}) × List ℕ × List ℕ
   call = changed P N image table edit
 
   edit-number : (n p : ℕ) → call .0 ≡ err n p → 1 ≤ n
-  edit-number n p e = go (geometryOf P N (length image) (length table)) e
+  edit-number n p e = go (geometryOf P N (length image) (length table)) refl e
     where
-      left : (g : Geometry) (r : Res (List ℕ)) → edit g ≡ r → doneCall P N image table g r .0 ≡ err n p → 1 ≤ n
-      left g (ok after) q e = clash (sym e)
-      left g (err m o) q e = let i : m ≡ n = cc in omega (arith, h g .number m o q .0)
+      left : (g : Geometry) → Fit g image → (r : Res (List ℕ)) → edit g ≡ r → doneCall P N image table g r .0 ≡ err n p → 1 ≤ n
+      left g f (ok after) q e = clash (sym e)
+      left g f (err m o) q e = let i : m ≡ n = cc in omega (arith, h g f .number m o q .0)
 
-      go : (s : Shape) → inGeometry s (err 1 0, image, table) (λ g. doneCall P N image table g (edit g)) .0 ≡ err n p → 1 ≤ n
-      go Wrong e = let i : 1 ≡ n = cc in omega arith
-      go (Fits g) e = left g (edit g) refl e
+      go : (s : Shape) → geometryOf P N (length image) (length table) ≡ s → inGeometry s (err 1 0, image, table) (λ g. doneCall P N image table g (edit g)) .0 ≡ err n p → 1 ≤ n
+      go Wrong q e = let i : 1 ≡ n = cc in omega arith
+      go (Fits g) q e = left g (fit-of P N image table g q) (edit g) refl e
 
   module _ (r : OwfsAnswer) (told : r ≡ answerFor (call .0)) where
     told-as : (q : Res (Unit {0})) → call .0 ≡ q → r ≡ answerFor q
@@ -121,30 +125,29 @@ module _ (P N : ℕ) (image table : List ℕ) (edit : Geometry → Res (List ℕ
             let e = sym (told-as (err n p) k) ∙ z in
             k ∙ ap₂ (λ (x y : ℕ). err x y) (ap (λ (x : OwfsAnswer). x .number) e) (ap (λ (x : OwfsAnswer). x .page) e)
 
-module _ (P N : ℕ) (image owners : List ℕ) where
+module _ (P N : ℕ) (image owners : List ℕ) (bytes : Bytes image) where
   pub formats : (local : ℕ) (r : OwfsAnswer) (after b : List ℕ) → (r, after, b) ≡ formatAnswer P N image owners local
       → Formats P N image (numbersOf owners) (asksLocal local) (r .number ≡ 0) (λ x. r ≡ answerFor x) after
   unfolding formatAnswer formatCall
   formats local r after b e =
       let t = numbersOf owners in
       let f : Geometry → Res (List ℕ) = λ g. format g (asksLocal local) image in
-      let h : (g : Geometry) → Between 1 18 (f g) = λ g. between-wider 1 18 (omega arith) (omega arith) (format-faults g (asksLocal local) image) in
+      let h : EditFaults image f = format-told image (asksLocal local) in
       let told : r ≡ answerFor (changed P N image t f .0) = ap (λ (x : OwfsAnswer × List ℕ × List ℕ). x .0) e in
       let left : after ≡ changed P N image t f .1 = ap (λ (x : OwfsAnswer × List ℕ × List ℕ). x .1) e in
       let d = edit-done P N image t f h r told in
-      let k = format-stated P N image t (asksLocal local) in (
+      let k = format-stated P N image t bytes (asksLocal local) in (
         rw left (leaves-said d (k .0)),
         λ z. elim (k .1 (λ y. z (d .1 y))) [ inl i ↦ inl (told-as P N image t f h r told (err 1 0) i) | inr i ↦ inr (told-as P N image t f h r told (err 4 0) i) ],
       )
 
-module _ (P N : ℕ) (image owners : List ℕ) (bytes : Bytes image) where
   pub deletes : (path : List ℕ) (r : OwfsAnswer) (after b : List ℕ) → (r, after, b) ≡ deleteAnswer P N image owners path
       → Deletes P N image (numbersOf owners) path (r .number ≡ 0) after
   unfolding deleteAnswer deleteCall
   deletes path r after b e =
       let t = numbersOf owners in
       let f : Geometry → Res (List ℕ) = λ g. delete g path image in
-      let h : (g : Geometry) → Between 1 18 (f g) = λ g. between-wider 1 18 (omega arith) (omega arith) (delete-faults g path image) in
+      let h : EditFaults image f = delete-told image path in
       let told : r ≡ answerFor (changed P N image t f .0) = ap (λ (x : OwfsAnswer × List ℕ × List ℕ). x .0) e in
       let left : after ≡ changed P N image t f .1 = ap (λ (x : OwfsAnswer × List ℕ × List ℕ). x .1) e in
       rw left (leaves-said (edit-done P N image t f h r told) (delete-stated P N image t bytes path))
@@ -155,7 +158,7 @@ module _ (P N : ℕ) (image owners : List ℕ) (bytes : Bytes image) where
   puts path text pb db r after b e =
       let t = numbersOf owners in
       let f : Geometry → Res (List ℕ) = λ g. put g path text image in
-      let h : (g : Geometry) → Between 1 18 (f g) = λ g. between-wider 1 18 (omega arith) (omega arith) (put-faults g path text image) in
+      let h : EditFaults image f = put-told image path text in
       let told : r ≡ answerFor (changed P N image t f .0) = ap (λ (x : OwfsAnswer × List ℕ × List ℕ). x .0) e in
       let left : after ≡ changed P N image t f .1 = ap (λ (x : OwfsAnswer × List ℕ × List ℕ). x .1) e in
       let d = edit-done P N image t f h r told in

@@ -17,41 +17,41 @@ use Rattle.rules.specs.Chain.{packetAt, anyPage, walk}
 use Rattle.rules.specs.Names.{nameByte, validName, fileNumber, directoryNumber}
 use Rattle.rules.specs.Control.{marker, rootControl, subControl, headOf, wholeEntries, rootPage, subPage}
 use Rattle.rules.specs.Bitmap.{bitAt, lowestDifference, bitmapFrom}
-use Rattle.rules.specs.Check.{judgeBits, judgeLabel, judgeFile, judgeEntry, judgeEntries, judgeDirectory, judgeSub, judgeMap, scan, check}
+use Rattle.rules.specs.Check.{judgeBits, judgeLabel, judgeFile, judgeEntry, judgeEntries, judgeDirectory, judgeSub, judgeMap, scan, check, scanWith, judgeMapFile}
 use Rattle.rules.specs.Owners.{totals}
 use Rattle.rules.specs.Listing.{linesOf, lineAt}
-use Rattle.rules.specs.Paths.{pathOf, directoryAt}
+use Rattle.rules.specs.Paths.{pathOf, directoryAt, targetOf}
 use Rattle.rules.specs.Writes.{edited, editWrites}
 use Rattle.rules.specs.Format.{emptyImage, formatWrites, format}
 use Rattle.rules.specs.Put.{writable, keptPages, extraPages, itemsAfter, putEdit, plainEdit, put}
 use Rattle.rules.specs.Delete.{present, deleteEdit, delete}
 
 -- P 32 and N pages
-abbrev sizes : ℕ → Geometry
+abbrev pub sizes : ℕ → Geometry
 sizes N = record { size = 32; pages = N; width = 1 }
 
-abbrev g : Geometry
+abbrev pub g : Geometry
 g = sizes 16
 
 -- format, P 32, N 16, local, over bytes FF
-formatted : Res (List ℕ)
+unfoldable pub formatted : Res (List ℕ)
 formatted = format g true (replicate 512 0xFF)
 
 -- a one-letter file with extension 0
 abbrev letter : ℕ → List ℕ
 letter c = c ∷ 32 ∷ 32 ∷ 32 ∷ 0 ∷ []
 
-abbrev DEMO : List ℕ
+abbrev pub DEMO : List ℕ
 DEMO = 0x44 ∷ 0x45 ∷ 0x4D ∷ 0x4F ∷ 12 ∷ []
 
-withDemo : Res (List ℕ)
+unfoldable pub withDemo : Res (List ℕ)
 withDemo = andThen formatted (put g DEMO (0x54 ∷ 0x45 ∷ 0x53 ∷ 0x54 ∷ []))
 
 without : Res (List ℕ)
 without = andThen withDemo (delete g DEMO)
 
 -- n bytes of an image from a place on, or the number of the refusal
-abbrev shown : ℕ → ℕ → Res (List ℕ) → List ℕ
+abbrev pub shown : ℕ → ℕ → Res (List ℕ) → List ℕ
 shown at n (ok image) = take n (drop at image)
 shown at n (err number p) = number ∷ []
 
@@ -123,5 +123,5 @@ cases =
     ∷ []
 
 pub all-as-printed : map (λ (c : Case). c .given) cases ≡ map (λ (c : Case). c .printed) cases
-unfolding cases formatted withDemo without usedIn entryPages fileOf threeFiles fourFiles flipBit bitStep bitSteps byteStep crc16 choose widthFor right geometryOf dataCapacity entrySize controlSize firstEntries laterEntries bitmapSize pageOf withPage checkOf pointerOf isPacket packetOf viewOf packetBytes written writePage play andThen refuse-unless hit freePages packetAt anyPage walk nameByte validName fileNumber directoryNumber marker rootControl subControl headOf wholeEntries rootPage subPage bitAt lowestDifference bitmapFrom judgeBits judgeLabel judgeFile judgeEntry judgeEntries judgeDirectory judgeSub judgeMap scan check lineAt pathOf directoryAt edited editWrites emptyImage formatWrites format writable keptPages extraPages itemsAfter putEdit plainEdit put present deleteEdit delete
+unfolding cases formatted withDemo without usedIn entryPages fileOf threeFiles fourFiles flipBit bitStep bitSteps byteStep crc16 choose widthFor right geometryOf dataCapacity entrySize controlSize firstEntries laterEntries bitmapSize pageOf withPage checkOf pointerOf isPacket packetOf viewOf packetBytes written writePage play andThen refuse-unless hit freePages packetAt anyPage walk nameByte validName fileNumber directoryNumber marker rootControl subControl headOf wholeEntries rootPage subPage bitAt lowestDifference bitmapFrom judgeBits judgeLabel judgeFile judgeEntry judgeEntries judgeDirectory judgeSub judgeMap judgeMapFile scan scanWith check lineAt pathOf directoryAt targetOf edited editWrites emptyImage formatWrites format writable keptPages extraPages itemsAfter putEdit plainEdit put present deleteEdit delete
 all-as-printed = refl

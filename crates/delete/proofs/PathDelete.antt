@@ -10,69 +10,66 @@ use Rattle.rules.specs.declared.Entry.{Entry}
 use Rattle.rules.specs.Result.{Res, ok, err, andThen}
 use Rattle.rules.specs.ResultLaws.{then-ok, then-err, refuse-true, refuse-false}
 use Rattle.rules.specs.Names.{attribute}
-use Rattle.rules.specs.Control.{theRoot}
-use Rattle.rules.specs.Paths.{Path, pathOf, fileKey, Found, nothing, aFile, find, atRoot, Place, directoryAt}
+use Rattle.rules.specs.Paths.{fileKey, Found, nothing, aFile, find, Target, targetOf}
 use Rattle.rules.specs.Put.{writable, plainEdit}
 use Rattle.rules.specs.Delete.{present, deleteEdit, delete}
 use Rattle.entries.specs.declared.Slot.{Slot}
-use Rattle.lookup.specs.declared.Target.{Target}
-use Rattle.lookup.specs.declared.Target.the-variants as target
-use Rattle.lookup.specs.Targets.{Nowhere, FileAbsent, FileAt, IsTarget, Targets}
+use Rattle.lookup.specs.declared.PathLookup.{PathLookup}
+use Rattle.lookup.specs.declared.PathLookup.the-variants as lookup
+use Rattle.lookup.specs.Targets.{FileAbsent, FileAt, Stands, Looks}
 use Rattle.volume.specs.declared.Edited.the-variants as edited
 use Rattle.volume.specs.Edits.{leaves, TableOf}
 use Rattle.delete.specs.Deletes.{HasFile, Unlinks, PathDeleted}
 
-module _ (g : Geometry) (image table path : List ℕ) (T : TableOf g image table) (r : Target) (h : Targets g (viewOf g image) path r) where
+module _ (g : Geometry) (image table path : List ℕ) (T : TableOf g image table) (r : PathLookup) (h : Looks g (viewOf g image) path r) where
   open TableOf T using (tree, accepted)
 
   abbrev v : View
   v = viewOf g image
 
-  is : (x : Target) → r ≡ x → IsTarget g v path tree x
-  is x e = subst (IsTarget g v path tree) e (h tree accepted)
+  is : (x : PathLookup) → r ≡ x → Stands g v path tree x
+  is x e = subst (Stands g v path tree) e (h tree accepted)
 
   refused : (n p : ℕ) → delete g path image ≡ err n p → PathDeleted g image path (edited.Refused n p) image
   refused n p e = sym (ap (leaves image) e)
 
-  pub malformed : r ≡ target.Malformed → PathDeleted g image path (edited.Refused 14 0) image
-  malformed e = refused 14 0 (at (is target.Malformed e))
-    where
-      at : pathOf path ≡ err 14 0 → delete g path image ≡ err 14 0
-      at m = unfold delete in simp (accepted, then-ok, m, then-err)
+  no-target : (n p : ℕ) → targetOf path (tree .tree) ≡ err n p → delete g path image ≡ err n p
+  unfolding delete
+  no-target n p e = simp (accepted, then-ok, e, then-err)
 
-  pub nowhere : r ≡ target.Nowhere → PathDeleted g image path (edited.Refused 15 0) image
-  nowhere e = refused 15 0 (at (is target.Nowhere e))
-    where
-      at : Nowhere g v path tree → delete g path image ≡ err 15 0
-      at m = unfold delete in simp (accepted, then-ok, m .formed, m .missing, then-err)
+  pub malformed : r ≡ lookup.Malformed → PathDeleted g image path (edited.Refused 14 0) image
+  malformed e = refused 14 0 (no-target 14 0 (is lookup.Malformed e))
+
+  pub nowhere : r ≡ lookup.Nowhere → PathDeleted g image path (edited.Refused 15 0) image
+  nowhere e = refused 15 0 (no-target 15 0 (is lookup.Nowhere e))
 
   -- the last tests of the rule, of what is found in the directory
-  abbrev last : Path → Place → Found → Res (List ℕ)
-  last q d f = andThen (present f) (λ _. andThen (writable f) (λ _. ok (plainEdit g (q .directories) (deleteEdit q d) tree image)))
+  abbrev last : Target → Found → Res (List ℕ)
+  last x f = andThen (present f) (λ _. andThen (writable f) (λ _. ok (plainEdit g (x .to .directories) (deleteEdit (x .to) (x .place)) tree image)))
 
-  found : (q : Path) → pathOf path ≡ ok q → (d : Place) → directoryAt (q .directories) atRoot theRoot (tree .tree) ≡ ok d → (f : Found) → find (fileKey q) (d .items) ≡ f → delete g path image ≡ last q d f
+  found : (x : Target) → targetOf path (tree .tree) ≡ ok x → (f : Found) → find (fileKey (x .to)) (x .place .items) ≡ f → delete g path image ≡ last x f
   unfolding delete
-  found q a d b f e = simp (accepted, then-ok, a, b, e)
+  found x a f e = simp (accepted, then-ok, a, e)
 
-  pub absent : (start name extension : ℕ) → r ≡ target.Absent start name extension → PathDeleted g image path (edited.Refused 15 0) image
+  pub absent : (start name extension : ℕ) → r ≡ lookup.Absent start name extension → PathDeleted g image path (edited.Refused 15 0) image
   absent start name extension e =
-      let m : FileAbsent g v path tree start name extension = is (target.Absent start name extension) e in
-      refused 15 0 (found (m .to) (m .formed) (m .place) (m .there) nothing (m .absent) ∙ gone (m .to) (m .place))
+      let m : FileAbsent g v path tree start name extension = is (lookup.Absent start name extension) e in
+      refused 15 0 (found (m .target) (m .reached) nothing (m .absent) ∙ gone (m .target))
     where
-      gone : (q : Path) (d : Place) → last q d nothing ≡ err 15 0
-      gone q d = unfold present in simp then-err
+      gone : (x : Target) → last x nothing ≡ err 15 0
+      gone x = unfold present in simp then-err
 
-  module _ (s : Slot) (e : Entry) (q : r ≡ target.At s e) where
+  module _ (s : Slot) (e : Entry) (q : r ≡ lookup.At s e) where
     there : FileAt g v path tree s e
-    there = is (target.At s e) q
+    there = is (lookup.At s e) q
 
     same-extension : e .extension ≡ there .label .extension
     same-extension = ap (λ (x : Entry). x .extension) (there .entry-is)
 
-    found-there : delete g path image ≡ last (there .to) (there .place) (aFile (there .label) (there .links))
-    found-there = found (there .to) (there .formed) (there .place) (there .there) (aFile (there .label) (there .links)) (there .found)
+    found-there : delete g path image ≡ last (there .target) (aFile (there .label) (there .links))
+    found-there = found (there .target) (there .reached) (aFile (there .label) (there .links)) (there .found)
 
-    not-writable : 127 < e .extension → last (there .to) (there .place) (aFile (there .label) (there .links)) ≡ err 16 0
+    not-writable : 127 < e .extension → last (there .target) (aFile (there .label) (there .links)) ≡ err 16 0
     unfolding present writable
     not-writable h =
         let a : attribute (there .label .extension) ≡ 0 → ⊥ = λ z. omega (arith, same-extension, z, h) in
@@ -84,7 +81,7 @@ module _ (g : Geometry) (image table path : List ℕ) (T : TableOf g image table
     pub has-file : HasFile g image table s e
     has-file = record { known = T; path = path; file = there }
 
-    writes : e .extension ≤ 127 → last (there .to) (there .place) (aFile (there .label) (there .links)) ≡ ok (plainEdit g (there .to .directories) (deleteEdit (there .to) (there .place)) tree image)
+    writes : e .extension ≤ 127 → last (there .target) (aFile (there .label) (there .links)) ≡ ok (plainEdit g (there .target .to .directories) (deleteEdit (there .target .to) (there .target .place)) tree image)
     unfolding present writable
     writes h =
         let a : attribute (there .label .extension) ≡ 0 = omega (arith, same-extension, h) in

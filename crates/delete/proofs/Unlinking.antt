@@ -8,12 +8,14 @@ use Rattle.geometry.specs.declared.Geometry.{Geometry}
 use Rattle.geometry.specs.Geometry.{Fit}
 use Rattle.packet.specs.Packet.{viewOf, play}
 use Rattle.rules.specs.declared.Entry.{Entry}
+use Rattle.rules.specs.Result.{ok}
 use Rattle.rules.specs.Chain.{pages}
 use Rattle.rules.specs.Tree.{innerPages, used}
 use Rattle.rules.specs.Control.{theRoot}
 use Rattle.rules.specs.WellFormed.{WellFormed}
 use Rattle.rules.specs.OwnerLaws.{Represents, represents-owners}
-use Rattle.rules.specs.Paths.{Path, fileKey, atRoot}
+use Rattle.rules.specs.Paths.{Path, pathOf, fileKey, atRoot, Place, directoryAt}
+use Rattle.rules.specs.TargetLaws.{reached}
 use Rattle.rules.specs.Put.{plainEdit}
 use Rattle.rules.specs.Delete.{remove, deleteEdit}
 use Rattle.reading.specs.Accepted.{accepted-iff}
@@ -33,10 +35,19 @@ use Rattle.delete.specs.Deletes.{HasFile}
 module _ (g : Geometry) (image table : List ℕ) (fit : Fit g image) (s : Slot) (e : Entry) (H : HasFile g image table s e) where
   open HasFile H using (known, path, file)
   open TableOf known using (bytes, tree, accepted, table-is)
-  open FileAt file using (formed, place, there, label, links, found, chain, at)
+  open FileAt file using (target, label, links, found, chain, at)
 
   abbrev q : Path
-  q = file .to
+  q = target .to
+
+  abbrev place : Place
+  place = target .place
+
+  formed : pathOf path ≡ ok q
+  formed = reached path (tree .tree) target (file .reached) .formed
+
+  there : directoryAt (q .directories) atRoot theRoot (tree .tree) ≡ ok place
+  there = reached path (tree .tree) target (file .reached) .there
 
   abbrev k : ℕ
   k = fileKey q

@@ -20,7 +20,7 @@ pub record HasFile (g : Geometry) (image table : List ℕ) (s : Slot) (e : Entry
 
 -- the image after a delete is the rule's
 unfoldable pub Unlinks : Geometry → List ℕ → List ℕ → Slot → Entry → List ℕ → Type 0
-Unlinks g image table s e after = (h : HasFile g image table s e) → after ≡ plainEdit g (h .file .to .directories) (deleteEdit (h .file .to) (h .file .place)) (h .known .tree) image
+Unlinks g image table s e after = (h : HasFile g image table s e) → after ≡ plainEdit g (h .file .target .to .directories) (deleteEdit (h .file .target .to) (h .file .target .place)) (h .known .tree) image
 
 -- the answer and the image after it are the rule's
 abbrev pub PathDeleted : Geometry → List ℕ → List ℕ → Edited → List ℕ → Type 0

@@ -2,7 +2,7 @@
 use entries::Slot;
 use geometry::Geometry;
 use geometry::Shape;
-use lookup::Target;
+use lookup::PathLookup;
 use rules::Entry;
 use volume::Edited;
 use walk::Walk;
@@ -35,10 +35,10 @@ fn delete_path(image: &mut [u8], g: Geometry, path: &[u8], owners: &mut [u16]) -
     ensures { λ r. ⌜ PathDeleted g (now (image .entry)) (now (path .entry)) r (now (image .exit)) ⌝ }
 {
     match lookup::find_file(image, g, path) {
-        Target::Malformed => Edited::Refused(14, 0),
-        Target::Nowhere => Edited::Refused(15, 0),
-        Target::Absent(_, _, _) => Edited::Refused(15, 0),
-        Target::At(slot, e) => {
+        PathLookup::Malformed => Edited::Refused(14, 0),
+        PathLookup::Nowhere => Edited::Refused(15, 0),
+        PathLookup::Absent(_, _, _) => Edited::Refused(15, 0),
+        PathLookup::At(slot, e) => {
             if 127 < e.extension {
                 return Edited::Refused(16, 0);
             }

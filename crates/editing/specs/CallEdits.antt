@@ -24,13 +24,13 @@ done-ok P N image table g (ok after) e = refl
 done-ok P N image table g (err n p) e = clash e
 
 module _ (P N : ℕ) (image table : List ℕ) (g : Geometry) (fits : shape P N image table ≡ Fits g) where
-  pub format-call : (local : Bool) → formatCall P N image table local .0 ≡ ok tt → Formatted g local image (formatCall P N image table local .1)
-  unfolding formatCall
-  format-call local e =
-      let q : formatCall P N image table local ≡ done P N image table g (format g local image) = rw fits refl in
-      rw q (format-done g local image _ (fit-of P N image table g fits) (done-ok P N image table g (format g local image) (rw q at e)))
-
   module _ (imageBytes : Bytes image) where
+    pub format-call : (local : Bool) → formatCall P N image table local .0 ≡ ok tt → Formatted g local image (formatCall P N image table local .1)
+    unfolding formatCall
+    format-call local e =
+        let q : formatCall P N image table local ≡ done P N image table g (format g local image) = rw fits refl in
+        rw q (format-done g local image _ (fit-of P N image table g fits) imageBytes (done-ok P N image table g (format g local image) (rw q at e)))
+
     pub delete-call : (path : List ℕ) → deleteCall P N image table path .0 ≡ ok tt → Deleted g path image (deleteCall P N image table path .1)
     unfolding deleteCall
     delete-call path e =

@@ -17,6 +17,7 @@ use Rattle.rules.specs.Chain.{Link, pages, linked}
 use Rattle.rules.specs.Tree.{Label, keyOf, Items, end, page, file, dir, startOf, directoryLinks, ownPages, innerPages, allPages, mapPages, Image, used}
 use Rattle.rules.specs.Control.{Above, theRoot, subControl}
 use Rattle.rules.specs.WellFormed.{packetsBelow, IsDirectory, Entries, WellFormed}
+use Rattle.rules.specs.TargetLaws.{reached}
 use Rattle.rules.specs.Paths.{Path, pathOf, fileKey, Found, nothing, aFile, aDirectory, find, atRoot, Place, directoryAt, changeAt}
 use Rattle.rules.specs.Writes.{edited}
 use Rattle.rules.specs.Put.{replace, plainEdit}
@@ -170,6 +171,7 @@ module _ (g : Geometry) (path image : List ℕ) (bytes : Bytes image) (i : Image
 
 pub delete-done : (g : Geometry) (path image after : List ℕ) → Fit g image → Bytes image → delete g path image ≡ ok after → Deleted g path image after
 unfolding delete
-delete-done g path image after fit bytes e = on-then _ _ _ e λ i c e. on-then _ _ _ e λ q p e. on-then _ _ _ e λ d n e. on-then _ _ _ e λ u a e. on-then _ _ _ e λ u₂ b e.
-    present-file (find (fileKey q) (d .items)) u a λ l ls f.
-    subst (Deleted g path image) (ok-inj e) (delete-leaves g path image bytes i (accepted-iff g image fit bytes i .0 c) q p d n l ls f)
+delete-done g path image after fit bytes e = on-then _ _ _ e λ i c e. on-then _ _ _ e λ x t e. on-then _ _ _ e λ u a e. on-then _ _ _ e λ u₂ b e.
+    let r = reached path (i .tree) x t in
+    present-file (find (fileKey (x .to)) (x .place .items)) u a λ l ls f.
+    subst (Deleted g path image) (ok-inj e) (delete-leaves g path image bytes i (accepted-iff g image fit bytes i .0 c) (x .to) (r .formed) (x .place) (r .there) l ls f)

@@ -23,9 +23,10 @@ use Rattle.rules.specs.Demand2.{EditDone}
 use Rattle.reading.specs.PacketLaws.{byte-view}
 use Rattle.reading.specs.Directory.{all-split}
 use Rattle.editing.specs.Capacity.{PagesHold, first-holds, holds-first}
-use Rattle.editing.specs.Plays.{writePages, WritesFit, play-append, length-play, play-fit, bytes-play, view-stays, play-stands, play-same, rest-of-page}
+use Rattle.editing.specs.Plays.{writePages, WritesFit, play-append, length-play, play-fit, bytes-play, view-stays, play-stands, play-same}
 use Rattle.editing.specs.Standing.{pages-linked, count-directory, count-map, stand-same, fits-join, image-stands}
 use Rattle.editing.specs.DirectoryWrites.{stand-holds, directory-fits, changes-less, changes-fit, changes-stand, count-backwards, backwards-fit, backwards-stand}
+use Rattle.editing.specs.MadeWrites.{made-rest}
 use Rattle.editing.specs.MapWrites.{remap-same, map-standing, map-size, control-length, control-bytes, PartsStand, parts-of, parts-join, map-fits, map-pages, map-holds, map-written}
 use Rattle.editing.specs.Contexts.{Context, filledAll, aroundAll, siteAt, aboveAt, all-filled-all, start-filled-all, Located}
 use Rattle.editing.specs.ContextStands.{DirectoryStands, place-stands, place-changed, Shaped, shaped-at, shaped-changed}
@@ -292,5 +293,5 @@ module _ (g : Geometry) (image : List ℕ) (i : Image) (well : WellFormed g imag
       areBytes = rw after-is (bytes-play g ws₃ fits₃ image₂ fit₂ bytes₂);
       sized = unfold plainEdit in length-play g theWrites all-fit image fit;
       mapPages-same = rw edited-is (pages-remap bits (i .map));
-      rest = unfold plainEdit in rest-of-page g theWrites all-fit image fit;
+      rest = unfold plainEdit in made-rest g theWrites all-fit image fit bytes;
     }

@@ -32,7 +32,8 @@ use Rattle.rules.specs.Demand2.{Formatted}
 use Rattle.reading.specs.ControlLaws.{control-size}
 use Rattle.reading.specs.DirectoryComplete.{pages-fit}
 use Rattle.editing.specs.Capacity.{capacity-least}
-use Rattle.editing.specs.Plays.{writePages, WritesFit, play-append, length-play, play-fit, bytes-play, play-stands, rest-of-page}
+use Rattle.editing.specs.Plays.{writePages, WritesFit, play-append, length-play, play-fit, bytes-play, play-stands}
+use Rattle.editing.specs.MadeWrites.{made-rest}
 use Rattle.editing.specs.Standing.{pages-linked, image-stands, fits-join}
 use Rattle.editing.specs.MapWrites.{root-bytes, root-length, parts-join}
 use Rattle.editing.specs.NewChains.{spread-fits, upward-within, length-upward}
@@ -132,17 +133,17 @@ module _ (g : Geometry) (valid : Valid g) where
     leaves false e = rw choose-false map-leaves
 
 -- ---- format
-pub format-done : (g : Geometry) (local : Bool) (image after : List ℕ) → Fit g image → format g local image ≡ ok after → Formatted g local image after
+pub format-done : (g : Geometry) (local : Bool) (image after : List ℕ) → Fit g image → Bytes image → format g local image ≡ ok after → Formatted g local image after
 unfolding format emptyImage
-format-done g local image after fit e = on-refuse _ _ _ _ _ e λ t e.
+format-done g local image after fit bytes e = on-refuse _ _ _ _ _ e λ t e.
     let l = leaves g (fit .valid) image fit local t in
     let ws = formatWrites g (emptyImage g local) in
     subst (Formatted g local image) (ok-inj e) (record {
       wellFormed = l .1;
       noEntries = refl;
       sized = length-play g ws (l .0) image fit;
-      areBytes = bytes-play g ws (l .0) image fit;
-      rest = rest-of-page g ws (l .0) image fit;
+      areBytes = bytes-play g ws (l .0) image fit bytes;
+      rest = made-rest g ws (l .0) image fit bytes;
     })
 
 -- no key leads to anything
@@ -156,10 +157,10 @@ pub format-refuses : (g : Geometry) (image : List ℕ) → 32 ≤ g .pages → f
 unfolding format
 format-refuses g image h = simp (le-ltb (g .pages) 32 h, refuse-false, then-err)
 
-pub format-refused : (g : Geometry) (local : Bool) (image : List ℕ) (n p : ℕ) → format g local image ≡ err n p → (n ≡ 4) × (p ≡ 0) × (local ≡ true) × (32 ≤ g .pages)
+pub format-fault : (g : Geometry) (local : Bool) (image : List ℕ) (n p : ℕ) → format g local image ≡ err n p → (n ≡ 4) × (p ≡ 0) × (local ≡ true) × (32 ≤ g .pages)
 unfolding format
-format-refused g false image n p e = clash (sym (simp (refuse-true, then-ok) at e))
-format-refused g true image n p e = go (ltb (g .pages) 32) refl e
+format-fault g false image n p e = clash (sym (simp (refuse-true, then-ok) at e))
+format-fault g true image n p e = go (ltb (g .pages) 32) refl e
   where
     go : (t : Bool) → ltb (g .pages) 32 ≡ t → andAfter (refuse-unless t 4 0) (ok (play g (formatWrites g (emptyImage g true)) image)) ≡ err n p
         → (n ≡ 4) × (p ≡ 0) × (true ≡ true) × (32 ≤ g .pages)

@@ -3,6 +3,7 @@ pub mod Plays
 pub mod Capacity
 pub mod Standing
 pub mod DirectoryWrites
+pub mod MadeWrites
 pub mod PageChange
 pub mod MapWrites
 pub mod NewChains

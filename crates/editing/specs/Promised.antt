@@ -1,21 +1,19 @@
 -- What the public edits state, of the rules' calls; and as another answer says it.
-use mathlib.Core.Path.{_≡_, refl, sym}
+use mathlib.Core.Path.{_≡_, refl, ap₂}
 use mathlib.Core.Logic.{_↔_, _⊎_, inl, inr}
-use mathlib.Core.Bool.{Bool, true, false, not, _||_}
+use mathlib.Core.Bool.{Bool}
 use mathlib.Core.List.{List}
 use Prim.Native.Nat.{ℕ}
 use Rattle.geometry.specs.declared.Geometry.{Geometry}
 use Rattle.geometry.specs.declared.Shape.{Shape}
 use Rattle.geometry.specs.declared.Shape.the-variants.{Fits, Wrong}
 use Rattle.geometry.specs.Number.{Bytes}
-use Rattle.packet.specs.Packet.{play}
-use Rattle.rules.specs.Result.{Res, ok, err, andThen, andAfter, refuse-unless}
-use Rattle.rules.specs.ResultLaws.{clash}
-use Rattle.rules.specs.Control.{localAllowed}
-use Rattle.rules.specs.Format.{emptyImage, formatWrites, format}
+use Rattle.rules.specs.Result.{Res, ok, err}
+use Rattle.rules.specs.Format.{format}
 use Rattle.rules.specs.Calls.{inGeometry, shape, done, formatCall, putCall, deleteCall}
 use Rattle.rules.specs.CallLaws.{format-refused, put-refused, delete-refused}
 use Rattle.rules.specs.Promises.{Leaves, Formats, Deletes, Puts}
+use Rattle.editing.specs.FormatLaws.{format-fault}
 use Rattle.editing.specs.CallEdits.{format-call, put-call, delete-call}
 use Rattle.editing.specs.Demand3.{demand-3}
 
@@ -29,18 +27,11 @@ pub refusal-of : (r : Res (Unit {0})) → (r ≡ ok tt → ⊥) → Refusal r
 refusal-of (ok tt) h = absurd (h refl)
 refusal-of (err n p) h = record { number = n; page = p; is = refl }
 
--- a rule of a single test refuses with its fault
-test-fault : {A : Type 0} (b : Bool) (n p : ℕ) (a : A) (m o : ℕ) → andAfter (refuse-unless b n p) (ok a) ≡ err m o → _≡_ {A = Res (Unit {0})} (err m o) (err n p)
-unfolding refuse-unless andThen
-test-fault true n p a m o e = clash (sym e)
-test-fault false n p a m o e = cc
-
 module _ (P N : ℕ) (image table : List ℕ) where
   -- ---- format
   fault-4 : (g : Geometry) (local : Bool) (r : Res (List ℕ)) → format g local image ≡ r → (done P N image table g r .0 ≡ ok tt → ⊥) → done P N image table g r .0 ≡ err 4 0
-  unfolding format
   fault-4 g local (ok after) q h = absurd (h refl)
-  fault-4 g local (err n p) q h = test-fault (not local || localAllowed g) 4 0 (play g (formatWrites g (emptyImage g local)) image) n p q
+  fault-4 g local (err n p) q h = let f = format-fault g local image n p q in ap₂ (λ (m o : ℕ). err m o) (f .0) (f .1)
 
   only-1-or-4 : (local : Bool) → (formatCall P N image table local .0 ≡ ok tt → ⊥) → (formatCall P N image table local .0 ≡ err 1 0) ⊎ (formatCall P N image table local .0 ≡ err 4 0)
   unfolding formatCall
@@ -53,16 +44,16 @@ module _ (P N : ℕ) (image table : List ℕ) where
       go Wrong h = inl refl
       go (Fits g) h = inr (fault-4 g local (format g local image) refl h)
 
-  pub format-stated : (local : Bool) → Formats P N image table local (formatCall P N image table local .0 ≡ ok tt) (λ r. formatCall P N image table local .0 ≡ r) (formatCall P N image table local .1)
-  format-stated local = (
-    record {
-      done = λ g f k. format-call P N image table g f local k;
-      refused = λ k. let r = refusal-of (formatCall P N image table local .0) k in format-refused P N image table local (r .number) (r .page) (r .is);
-    },
-    only-1-or-4 local,
-  )
-
   module _ (imageBytes : Bytes image) where
+    pub format-stated : (local : Bool) → Formats P N image table local (formatCall P N image table local .0 ≡ ok tt) (λ r. formatCall P N image table local .0 ≡ r) (formatCall P N image table local .1)
+    format-stated local = (
+      record {
+        done = λ g f k. format-call P N image table g f imageBytes local k;
+        refused = λ k. let r = refusal-of (formatCall P N image table local .0) k in format-refused P N image table local (r .number) (r .page) (r .is);
+      },
+      only-1-or-4 local,
+    )
+
     -- ---- delete
     pub delete-stated : (path : List ℕ) → Deletes P N image table path (deleteCall P N image table path .0 ≡ ok tt) (deleteCall P N image table path .1)
     delete-stated path = record {

@@ -18,9 +18,9 @@ use Rattle.rules.specs.PageSets.{count, range, freePages}
 use Rattle.rules.specs.Chain.{Link, pages}
 use Rattle.rules.specs.Names.{attribute}
 use Rattle.rules.specs.Tree.{Label, used}
-use Rattle.rules.specs.Control.{theRoot}
 use Rattle.rules.specs.Check.{check}
-use Rattle.rules.specs.Paths.{pathOf, fileKey, Found, nothing, aFile, aDirectory, find, atRoot, directoryAt}
+use Rattle.rules.specs.TargetLaws.{reached, target-is}
+use Rattle.rules.specs.Paths.{targetOf, fileKey, Found, nothing, aFile, aDirectory, find}
 use Rattle.rules.specs.Writes.{Edit}
 use Rattle.rules.specs.Put.{writable, keptPages, putEdit, plainEdit, put}
 use Rattle.rules.specs.Candidate.{targetPath, foundEntry, chainPages}
@@ -37,7 +37,7 @@ writable-ok nothing h = refl
 writable-ok (aFile l ls) h = simp (eq-eqb (attribute (l .extension)) 0 (h l ls refl), refuse-true)
 writable-ok (aDirectory l d) h = refl
 
-writable-inv : (f : Found) (u : Unit {0}) → writable f ≡ ok u → (l : Label) (ls : List Link) → f ≡ aFile l ls → attribute (l .extension) ≡ 0
+pub writable-inv : (f : Found) (u : Unit {0}) → writable f ≡ ok u → (l : Label) (ls : List Link) → f ≡ aFile l ls → attribute (l .extension) ≡ 0
 unfolding writable
 writable-inv nothing u e l ls q = absurd (let z : _≡_ {A = ℕ} 0 1 = cc in omega arith)
 writable-inv (aFile m ms) u e l ls q = let i : m ≡ l = cc in ap (λ (n : Label). attribute (n .extension)) (sym i) ∙ eqb-true _ _ (refuse-inv _ _ _ _ e)
@@ -65,10 +65,11 @@ module _ (g : Geometry) (image path bytes : List ℕ) (a : Asked g image path by
       let c = accepted g image (a .tree) (a .well) in
       let w = writable-ok (find (fileKey (a .to)) (a .place .items)) (a .writable) in
       let t = leb (more + need) (length spare) in
-      let s : andThen (check g (viewOf g image)) (λ i. andThen (pathOf path) λ q. andThen (directoryAt (q .directories) atRoot theRoot (i .tree)) λ d.
-      andThen (writable (find (fileKey q) (d .items))) λ _. andThen (putEdit g (freePages (keptPages q i) (g .pages)) q bytes d) λ e. ok (plainEdit g (q .directories) e i image))
+      let k = target-is path (a .tree .tree) (a .to) (a .formed) (a .place) (a .there) in
+      let s : andThen (check g (viewOf g image)) (λ i. andThen (targetOf path (i .tree)) λ x. andThen (writable (find (fileKey (x .to)) (x .place .items))) λ _.
+      andThen (putEdit g (freePages (keptPages (x .to) i) (g .pages)) (x .to) bytes (x .place)) λ e. ok (plainEdit g (x .to .directories) e i image))
       ≡ andThen (putEdit g spare (a .to) bytes (a .place)) (λ e. ok (plainEdit g (a .to .directories) e (a .tree) image))
-      = simp (c, a .formed, a .there, w, then-ok) in
+      = simp (c, k, w, then-ok) in
       s ∙ ap (λ (r : Res Edit). andThen r (λ e. ok (plainEdit g (a .to .directories) e (a .tree) image))) (edit-is g image path bytes a spare) ∙ join t
     where
       join : (t : Bool) → andThen (andAfter (refuse-unless t 17 0) (ok (theEdit g image path bytes a spare))) (λ e. ok (plainEdit g (a .to .directories) e (a .tree) image))
@@ -122,18 +123,20 @@ module _ (g : Geometry) (image path bytes : List ℕ) (a : Asked g image path by
 -- what a put that is done has met
 pub asked-of : (g : Geometry) (path bytes image now : List ℕ) → Fit g image → Bytes image → Bytes path → Bytes bytes → put g path bytes image ≡ ok now → Asked g image path bytes
 unfolding put
-asked-of g path bytes image now fit b p c e = on-then _ _ _ e λ i h e. on-then _ _ _ e λ q f e. on-then _ _ _ e λ d n e. on-then _ _ _ e λ u w e. record {
-  tree = i;
-  well = accepted-iff g image fit b i .0 h;
-  imageBytes = b;
-  pathBytes = p;
-  areBytes = c;
-  to = q;
-  formed = f;
-  place = d;
-  there = n;
-  writable = writable-inv (find (fileKey q) (d .items)) u w;
-}
+asked-of g path bytes image now fit b p c e = on-then _ _ _ e λ i h e. on-then _ _ _ e λ x f e. on-then _ _ _ e λ u w e.
+    let r = reached path (i .tree) x f in
+    record {
+      tree = i;
+      well = accepted-iff g image fit b i .0 h;
+      imageBytes = b;
+      pathBytes = p;
+      areBytes = c;
+      to = x .to;
+      formed = r .formed;
+      place = x .place;
+      there = r .there;
+      writable = writable-inv (find (fileKey (x .to)) (x .place .items)) u w;
+    }
 
 pub put-gives : (g : Geometry) (path bytes image now : List ℕ) → Fit g image → Bytes image → Bytes path → Bytes bytes → put g path bytes image ≡ ok now → PutDone g path bytes image now
 put-gives g path bytes image now fit b p c e =

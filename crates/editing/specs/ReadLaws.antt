@@ -7,6 +7,7 @@ use Rattle.rules.specs.Result.{Res, ok, err, andThen}
 use Rattle.rules.specs.ResultLaws.{then-ok, then-err, then-cong}
 use Rattle.rules.specs.Tree.{Label, Items, startOf, Image}
 use Rattle.rules.specs.Control.{Above, theRoot}
+use Rattle.rules.specs.TargetLaws.{target-then}
 use Rattle.rules.specs.Paths.{Path, pathOf, directoryKey, fileKey, fileLabel, Found, nothing, aFile, aDirectory, find, Site, atRoot, below, Place, directoryAt}
 use Rattle.rules.specs.Candidate.{lookUp, rootLabel, atPath, directoryKeys, targetPath, filePath}
 use Rattle.rules.specs.Calls.{bytesOf, fileAt}
@@ -42,8 +43,7 @@ read-down (x ∷ xs) k site here l t = go (find (directoryKey x) t) refl (λ m d
 -- what a read answers: 14 for a malformed path, else what stands there
 pub read-at : (path : List ℕ) (i : Image) → fileAt path i ≡ andThen (pathOf path) (λ q. bytesOf (atPath (filePath q) i))
 unfolding fileAt atPath
-read-at path i = then-cong (pathOf path) _ _ (λ q e.
-    read-down (q .directories) (fileKey q) atRoot theRoot rootLabel (i .tree))
+read-at path i = target-then path (i .tree) _ ∙ then-cong (pathOf path) _ _ (λ q e. read-down (q .directories) (fileKey q) atRoot theRoot rootLabel (i .tree))
 
 -- two images that show the same at a path read the same there
 read-same : (g : Geometry) (path : List ℕ) (i j : Image) → ((q : Path) → pathOf path ≡ ok q → shown g (atPath (filePath q) i) ≡ shown g (atPath (filePath q) j))

@@ -2,11 +2,12 @@
 use mathlib.Core.Path.{_≡_, ap}
 use mathlib.Core.Bool.{Bool}
 use mathlib.Core.List.{List, _++_}
-use Prim.Native.Nat.{ℕ}
-use lib.ListN.{length, drop}
+use Prim.Native.Nat.{ℕ, _<_}
+use lib.ListN.{length, getD, drop}
 use Rattle.geometry.specs.declared.Geometry.{Geometry}
 use Rattle.geometry.specs.declared.Shape.the-variants.{Fits}
 use Rattle.geometry.specs.Geometry.{geometryOf}
+use Rattle.geometry.specs.NumberLaws.{bytes-from}
 use Rattle.rules.specs.Result.{Res, ok}
 use Rattle.rules.specs.Format.{format}
 use Rattle.rules.specs.Calls.{formatCall}
@@ -24,9 +25,9 @@ module _ (P N : ℕ) (image table : List ℕ) where
   unfolding formatCall
   format-leaves g e local r after u k = changed-leaves P N image table g e (λ g. format g local image) r after u k
 
-  pub format-is : (local : Bool) (r : Edited) (after t : List ℕ) → (editTold r, after, t) ≡ formatCall P N image table local
+  pub format-is : ((i : ℕ) → getD image i 0 < 256) → (local : Bool) (r : Edited) (after t : List ℕ) → (editTold r, after, t) ≡ formatCall P N image table local
       → Formats P N image table local (editTold r ≡ ok tt) (λ x. editTold r ≡ x) after
-  format-is local r after t e =
+  format-is h local r after t e =
       let q : editTold r ≡ formatCall P N image table local .0 = ap (λ (x : Res (Unit {0}) × List ℕ × List ℕ). x .0) e in
       let a : after ≡ formatCall P N image table local .1 = ap (λ (x : Res (Unit {0}) × List ℕ × List ℕ). x .1) e in
-      rw (q, a) (format-stated P N image table local)
+      rw (q, a) (format-stated P N image table (bytes-from image h) local)

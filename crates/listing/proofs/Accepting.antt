@@ -21,7 +21,7 @@ use Rattle.rules.specs.Names.{key, directoryNumber}
 use Rattle.rules.specs.Tree.{Items, end, page, file, dir, startOf, Token, newPage, entry, tokens, linkTokens, mapPages, Image}
 use Rattle.rules.specs.Control.{Above, theRoot, rootPage, subPage}
 use Rattle.rules.specs.WellFormed.{Under}
-use Rattle.rules.specs.Check.{Part, chain, directory, partPages, add, Judge, Scan, judgeFile, judgeEntry, judgeEntries, judgeDirectory, judgeSub, scan, check}
+use Rattle.rules.specs.Check.{Part, chain, directory, partPages, add, Judge, Scan, judgeFile, judgeEntry, judgeEntries, judgeDirectory, judgeSub, scan, check, scanWith}
 use Rattle.rules.specs.Soundness.{JudgeSound, entry-sound, sub-sound, map-sound}
 use Rattle.listing.specs.Standing.{Chained, Below, Stands, PartStands}
 use Rattle.chain.specs.KnownChain.{ChainStands}
@@ -52,14 +52,14 @@ module _ (g : Geometry) (v : View) where
 
   -- ---- one entry
   module _ (levels : ℕ) (e : Entry) where
-    file-stands : (claimed : List ℕ) (p : ℕ) (x : Part) → Within (g .pages) claimed → directoryNumber (e .extension) ≡ false → judgeFile g v claimed p e ≡ ok x → PartStands g v levels e x
+    file-stands : (claimed : List ℕ) (p : ℕ) (x : Part) → Within (g .pages) claimed → directoryNumber (e .extension) ≡ false → judgeFile g v (suc (g .pages)) claimed p e ≡ ok x → PartStands g v levels e x
     unfolding judgeFile
     file-stands claimed p x fit k q = on-refuse _ _ _ _ _ q λ g₁ q. on-then _ _ _ q λ ls w q. on-refuse _ _ _ _ _ q λ g₂ q.
         let c = walk-sound (g .pages) v anyPage (suc (g .pages)) 0 claimed p (e .start) ls fit w in
         subst (PartStands g v levels e) (ok-inj q) (chain-stands g v anyPage claimed (e .start) ls c, eqb-true _ _ g₂, k)
 
     entry-stands : (sub : Judge) → SubStands levels sub → (here : Above) (claimed : List ℕ) (p : ℕ) (seen : List ℕ) (x : Part) → Within (g .pages) claimed
-        → judgeEntry g v sub here claimed p seen e ≡ ok x → PartStands g v levels e x
+        → judgeEntry g v (suc (g .pages)) sub here claimed p seen e ≡ ok x → PartStands g v levels e x
     unfolding judgeEntry
     entry-stands sub h here claimed p seen x fit q =
         on-then _ _ _ q λ u g₁ q. on-refuse _ _ _ _ _ q λ g₂ q. on-choose _ _ _ _ q
@@ -87,7 +87,7 @@ module _ (g : Geometry) (v : View) where
 
   -- ---- a directory's entries, a directory, a subdirectory
   module _ (levels : ℕ) (sub : Judge) (s : JudgeSound g sub) (h : SubStands levels sub) (here : Above) where
-    entries-stand : (ts : List Token) (claimed : List ℕ) (p : ℕ) (seen : List ℕ) (t : Items) → Within (g .pages) claimed → judgeEntries g v sub here claimed p seen ts ≡ ok t
+    entries-stand : (ts : List Token) (claimed : List ℕ) (p : ℕ) (seen : List ℕ) (t : Items) → Within (g .pages) claimed → judgeEntries g v (suc (g .pages)) sub here claimed p seen ts ≡ ok t
         → (tokens t ≡ ts) × Below g v levels t
     unfolding judgeEntries
     entries-stand [] claimed p seen t fit q = subst (λ (t : Items). (tokens t ≡ []) × Below g v levels t) (ok-inj q) (refl, tt)
@@ -100,25 +100,25 @@ module _ (g : Geometry) (v : View) where
         let i = entries-stand ts (partPages x ++ claimed) p (key (e .name) (e .extension) ∷ seen) u (λ z. simp count-append (k .clear z)) w in
         subst (λ (t : Items). (tokens t ≡ entry e ∷ ts) × Below g v levels t) (ok-inj q) (add-stands levels e x ts u j (i .0) (i .1))
 
-    directory-stands : (test : Test) (claimed : List ℕ) (p : ℕ) (t : Items) → Within (g .pages) claimed → judgeDirectory g v sub test here claimed p ≡ ok t → Stands g v levels (here .start) t
+    directory-stands : (test : Test) (claimed : List ℕ) (p : ℕ) (t : Items) → Within (g .pages) claimed → judgeDirectory g v (suc (g .pages)) sub test here claimed p ≡ ok t → Stands g v levels (here .start) t
     unfolding judgeDirectory
     directory-stands test claimed p t fit q = on-then _ _ _ q λ ls w q.
         let c = walk-sound (g .pages) v test (suc (g .pages)) 0 claimed p (here .start) ls fit w in
         let i = entries-stand (linkTokens g (controlSize g) ls) (pages ls ++ claimed) (here .start) [] t (λ z. simp count-append (c .clear z)) q in
         record { chained = record { links = ls; chain = chain-stands g v test claimed (here .start) ls c; shape = sym (i .0) }; below = i .1 }
 
-  sub-stands : (levels : ℕ) → SubStands levels (judgeSub g v levels)
+  sub-stands : (levels : ℕ) → SubStands levels (judgeSub g v (suc (g .pages)) levels)
   unfolding judgeSub
   sub-stands zero here claimed p e d fit q = clash q
   sub-stands (suc levels) here claimed p e d fit q = on-refuse _ _ _ _ _ q λ g₁ q. on-refuse _ _ _ _ _ q λ g₂ q.
-      let i = directory-stands levels (judgeSub g v levels) (sub-sound g v levels) (sub-stands levels) (record { name = e .name; start = e .start }) (subPage g here) claimed p d fit q in
+      let i = directory-stands levels (judgeSub g v (suc (g .pages)) levels) (sub-sound g v levels) (sub-stands levels) (record { name = e .name; start = e .start }) (subPage g here) claimed p d fit q in
       (starts (e .start) d (i .chained), eqb-true _ _ g₁, i)
 
   scan-stands : (s : Scan) → scan g v ≡ ok s → Stands g v 8 0 (s .image .tree)
-  unfolding scan
+  unfolding scan scanWith
   scan-stands s q = on-then _ _ _ q λ x a q. on-then _ _ _ q λ h b q. on-then _ _ _ q λ m c q. on-then _ _ _ q λ t d q.
       subst (λ (s : Scan). Stands g v 8 0 (s .image .tree)) (ok-inj q)
-      (directory-stands 8 (judgeSub g v 8) (sub-sound g v 8) (sub-stands 8) theRoot (rootPage g) (mapPages m) 0 t (map-sound g v h m c) d)
+      (directory-stands 8 (judgeSub g v (suc (g .pages)) 8) (sub-sound g v 8) (sub-stands 8) theRoot (rootPage g) (mapPages m) 0 t (map-sound g v h m c) d)
 
   -- an accepted image's tree stands from page 0 on
   pub accepted-stands : (i : Image) → check g v ≡ ok i → Stands g v 8 0 (i .tree)

@@ -13,7 +13,8 @@ use Rattle.rules.specs.Names.{key}
 use Rattle.rules.specs.Tree.{Label, Items, fileEntry, Image}
 use Rattle.rules.specs.Control.{theRoot}
 use Rattle.rules.specs.Check.{check}
-use Rattle.rules.specs.Paths.{namesIn, fileKey, Found, nothing, aFile, aDirectory, find, atRoot, Place, directoryAt}
+use Rattle.rules.specs.Paths.{namesIn, fileKey, Found, nothing, aFile, aDirectory, find, atRoot, Place, directoryAt, targetOf}
+use Rattle.rules.specs.TargetLaws.{target-nowhere, target-is}
 use Rattle.chain.specs.KnownChain.{ChainStands}
 use Rattle.path.proofs.Parts.{Parts}
 use Rattle.listing.proofs.Accepting.{accepted-stands}
@@ -24,7 +25,7 @@ use Rattle.lookup.specs.declared.Search.the-variants as search
 use Rattle.lookup.specs.declared.Resolved.{Resolved}
 use Rattle.lookup.specs.declared.Resolved.the-variants as resolved
 use Rattle.lookup.specs.Searches.{entryOf, TreeAt, HasTree, Leads, PlaceOf, IsPlace}
-use Rattle.lookup.specs.Targets.{Nowhere, FileAbsent, FileAt}
+use Rattle.lookup.specs.Targets.{FileAbsent, FileAt}
 use Rattle.lookup.proofs.Resolving.{FoundStands, find-stands, no-directory}
 
 pub root-tree : (g : Geometry) (v : View) (i : Image) → check g v ≡ ok i → TreeAt g v 0 (i .tree)
@@ -74,8 +75,8 @@ found-file g v start t T k name extension k-is low e q = go (find k t) refl (fin
 -- ---- what stands at the path
 module _ (g : Geometry) (v : View) (path : List ℕ) (i : Image) (names name extension : ℕ) (P : Parts path names name extension) (r : Resolved)
     (h : Leads g v (directoryAt (namesIn names (drop 0 path)) atRoot theRoot (i .tree)) r) where
-  pub nowhere : r ≡ resolved.Absent → Nowhere g v path i
-  nowhere e = record { to = P .path; formed = P .is; missing = no-directory-at g v path i names name extension P r h e }
+  pub nowhere : r ≡ resolved.Absent → targetOf path (i .tree) ≡ err 15 0
+  nowhere e = target-nowhere path (i .tree) (P .path) (P .is) 15 0 (no-directory-at g v path i names name extension P r h e)
 
   module _ (start : ℕ) (r-is : r ≡ resolved.Directory start) (k : ℕ) (k-is : k ≡ key name extension) (s : Spot) (f : (t : Items) → TreeAt g v start t → IsPlace g v k t s) where
     abbrev there : PlaceAt g v path i names name extension P start
@@ -86,12 +87,10 @@ module _ (g : Geometry) (v : View) (path : List ℕ) (i : Image) (names name ext
 
     pub file-absent : s ≡ spot.Absent → FileAbsent g v path i start name extension
     file-absent q = record {
-      to = P .path;
-      formed = P .is;
+      target = record { to = P .path; place = there .place };
+      reached = target-is path (i .tree) (P .path) (P .is) (there .place) (there .is);
       name-is = P .name-is;
       extension-is = P .extension-is;
-      place = there .place;
-      there = there .is;
       tree = there .tree;
       absent = go (find (fileKey (P .path)) (there .place .items)) refl (subst (λ (n : ℕ). search.Absent ≡ entryOf (find n (there .place .items))) same-key (subst (IsPlace g v k (there .place .items)) q (f (there .place .items) (there .tree))));
     }
@@ -106,10 +105,8 @@ module _ (g : Geometry) (v : View) (path : List ℕ) (i : Image) (names name ext
         let at : PlaceOf g v k (there .place .items) p e = subst (IsPlace g v k (there .place .items)) q (f (there .place .items) (there .tree)) in
         let x = found-file g v start (there .place .items) (there .tree) k name extension k-is (P .low) e (at .found) in
         record {
-          to = P .path;
-          formed = P .is;
-          place = there .place;
-          there = there .is;
+          target = record { to = P .path; place = there .place };
+          reached = target-is path (i .tree) (P .path) (P .is) (there .place) (there .is);
           label = x .label;
           links = x .links;
           found = ap (λ (n : ℕ). find n (there .place .items)) (sym same-key) ∙ x .is;

@@ -9,7 +9,7 @@ ghost use Rattle.geometry.specs.Geometry.{Fit};
 ghost use Rattle.packet.specs.Packet.{viewOf};
 ghost use Rattle.listing.specs.Standing.{Accepted};
 ghost use Rattle.lookup.specs.Searches.{HasTree, Places, Finds, Resolves};
-ghost use Rattle.lookup.specs.Targets.{Targets};
+ghost use Rattle.lookup.specs.Targets.{Looks};
 
 // The entry that was looked for and its place.
 pub enum Spot {
@@ -30,10 +30,10 @@ pub enum Resolved {
 }
 
 // What stands at a path.
-pub enum Target {
-    // the path is malformed
+pub enum PathLookup {
+    // the path is malformed: 14
     Malformed,
-    // one of its directories is absent
+    // one of its directories is absent: 15
     Nowhere,
     // the file is absent: its directory's start page, its name and extension
     Absent(usize, u32, u8),
@@ -101,20 +101,20 @@ pub fn resolve(
 }
 
 // What stands at a path of an image that is known to be accepted.
-pub fn find_file(image: &[u8], g: Geometry, path: &[u8]) -> Target
+pub fn find_file(image: &[u8], g: Geometry, path: &[u8]) -> PathLookup
     requires { ⌜ Fit g (now image) ⌝ }
     requires { ⌜ Accepted g (viewOf g (now image)) ⌝ }
-    ensures { λ r. ⌜ Targets g (viewOf g (now (image .entry))) (now (path .entry)) r ⌝ }
+    ensures { λ r. ⌜ Looks g (viewOf g (now (image .entry))) (now (path .entry)) r ⌝ }
 {
     match path::parse(path) {
-        Parsed::Malformed => Target::Malformed,
+        Parsed::Malformed => PathLookup::Malformed,
         Parsed::Path(names, name, extension) => match resolve(image, g, 0, path, 0, names) {
-            Resolved::Absent => Target::Nowhere,
+            Resolved::Absent => PathLookup::Nowhere,
             Resolved::Directory(start) => {
                 let key = entries::key_of(name, extension);
                 match find_place(image, g, start, key) {
-                    Spot::Absent => Target::Absent(start, name, extension),
-                    Spot::At(slot, e) => Target::At(slot, e),
+                    Spot::Absent => PathLookup::Absent(start, name, extension),
+                    Spot::At(slot, e) => PathLookup::At(slot, e),
                 }
             }
         },

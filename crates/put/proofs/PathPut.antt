@@ -15,15 +15,15 @@ use Rattle.rules.specs.ResultLaws.{then-ok, then-err, refuse-false}
 use Rattle.rules.specs.Chain.{Link}
 use Rattle.rules.specs.Names.{attribute}
 use Rattle.rules.specs.Tree.{Label}
-use Rattle.rules.specs.Control.{theRoot}
-use Rattle.rules.specs.Paths.{Path, pathOf, fileKey, aFile, find, atRoot, Place, directoryAt}
+use Rattle.rules.specs.Paths.{fileKey, aFile, find, Target, targetOf}
+use Rattle.rules.specs.TargetLaws.{reached}
 use Rattle.rules.specs.Put.{writable, put}
 use Rattle.reading.specs.Accepted.{accepted-iff}
 use Rattle.editing.specs.PutLaws.{Asked}
 use Rattle.entries.specs.declared.Slot.{Slot}
-use Rattle.lookup.specs.declared.Target.{Target}
-use Rattle.lookup.specs.declared.Target.the-variants as target
-use Rattle.lookup.specs.Targets.{Nowhere, FileAbsent, FileAt, IsTarget, Targets}
+use Rattle.lookup.specs.declared.PathLookup.{PathLookup}
+use Rattle.lookup.specs.declared.PathLookup.the-variants as lookup
+use Rattle.lookup.specs.Targets.{FileAbsent, FileAt, Stands, Looks}
 use Rattle.volume.specs.declared.Edited.{Edited}
 use Rattle.volume.specs.declared.Edited.the-variants as edited
 use Rattle.volume.specs.Edits.{leaves, Answered, TableOf}
@@ -39,47 +39,45 @@ module _ (g : Geometry) (image table path bytes : List ℕ) (fit : Fit g image) 
   refused n p e = sym (ap (leaves image) e)
 
   -- a put that nothing but room could refuse
-  asked : (q : Path) → pathOf path ≡ ok q → (d : Place) → directoryAt (q .directories) atRoot theRoot (tree .tree) ≡ ok d
-      → ((l : Label) (ls : List Link) → find (fileKey q) (d .items) ≡ aFile l ls → attribute (l .extension) ≡ 0) → Asked g image path bytes
-  asked q f d t w = record {
+  asked : (x : Target) → targetOf path (tree .tree) ≡ ok x → ((l : Label) (ls : List Link) → find (fileKey (x .to)) (x .place .items) ≡ aFile l ls → attribute (l .extension) ≡ 0)
+      → Asked g image path bytes
+  asked x t w = record {
     tree = tree;
     well = accepted-iff g image fit (T .bytes) tree .0 accepted;
     imageBytes = T .bytes;
     pathBytes = bytes-from path pathFits;
     areBytes = bytes-from bytes bytesFit;
-    to = q;
-    formed = f;
-    place = d;
-    there = t;
+    to = x .to;
+    formed = reached path (tree .tree) x t .formed;
+    place = x .place;
+    there = reached path (tree .tree) x t .there;
     writable = w;
   }
 
-  module _ (r : Target) (h : Targets g v path r) where
-    is : (x : Target) → r ≡ x → IsTarget g v path tree x
-    is x e = subst (IsTarget g v path tree) e (h tree accepted)
+  no-target : (n p : ℕ) → targetOf path (tree .tree) ≡ err n p → put g path bytes image ≡ err n p
+  unfolding put
+  no-target n p e = simp (accepted, then-ok, e, then-err)
 
-    pub malformed : r ≡ target.Malformed → Answered image (put g path bytes image) (edited.Refused 14 0) image
-    malformed e = refused 14 0 (at (is target.Malformed e))
-      where
-        at : pathOf path ≡ err 14 0 → put g path bytes image ≡ err 14 0
-        at m = unfold put in simp (accepted, then-ok, m, then-err)
+  module _ (r : PathLookup) (h : Looks g v path r) where
+    is : (x : PathLookup) → r ≡ x → Stands g v path tree x
+    is x e = subst (Stands g v path tree) e (h tree accepted)
 
-    pub nowhere : r ≡ target.Nowhere → Answered image (put g path bytes image) (edited.Refused 15 0) image
-    nowhere e = refused 15 0 (at (is target.Nowhere e))
-      where
-        at : Nowhere g v path tree → put g path bytes image ≡ err 15 0
-        at m = unfold put in simp (accepted, then-ok, m .formed, m .missing, then-err)
+    pub malformed : r ≡ lookup.Malformed → Answered image (put g path bytes image) (edited.Refused 14 0) image
+    malformed e = refused 14 0 (no-target 14 0 (is lookup.Malformed e))
+
+    pub nowhere : r ≡ lookup.Nowhere → Answered image (put g path bytes image) (edited.Refused 15 0) image
+    nowhere e = refused 15 0 (no-target 15 0 (is lookup.Nowhere e))
 
     -- the file is absent
-    module _ (start name extension : ℕ) (e : r ≡ target.Absent start name extension) where
+    module _ (start name extension : ℕ) (e : r ≡ lookup.Absent start name extension) where
       gap : FileAbsent g v path tree start name extension
-      gap = is (target.Absent start name extension) e
+      gap = is (lookup.Absent start name extension) e
 
       pub to-insert : Inserting g image table bytes name extension start
       unfolding asked
       to-insert = record {
         path = path;
-        asked = asked (gap .to) (gap .formed) (gap .place) (gap .there) (λ l ls f. absurd (let n = gap .absent in let z : _≡_ {A = ℕ} 0 1 = cc in omega arith));
+        asked = asked (gap .target) (gap .reached) (λ l ls f. absurd (let n = gap .absent in let z : _≡_ {A = ℕ} 0 1 = cc in omega arith));
         name-is = gap .name-is;
         extension-is = gap .extension-is;
         table-is = table-is;
@@ -92,9 +90,9 @@ module _ (g : Geometry) (image table path bytes : List ℕ) (fit : Fit g image) 
       insert-answer t after i = i to-insert
 
     -- the file is there
-    module _ (s : Slot) (e : Entry) (q : r ≡ target.At s e) where
+    module _ (s : Slot) (e : Entry) (q : r ≡ lookup.At s e) where
       there : FileAt g v path tree s e
-      there = is (target.At s e) q
+      there = is (lookup.At s e) q
 
       same-extension : e .extension ≡ there .label .extension
       same-extension = ap (λ (x : Entry). x .extension) (there .entry-is)
@@ -104,13 +102,13 @@ module _ (g : Geometry) (image table path bytes : List ℕ) (fit : Fit g image) 
       not-writable h = let a : attribute (there .label .extension) ≡ 0 → ⊥ = λ z. omega (arith, same-extension, z, h) in simp (ne-eqb (attribute (there .label .extension)) 0 a, refuse-false)
 
       pub read-only : 127 < e .extension → Answered image (put g path bytes image) (edited.Refused 16 0) image
-      read-only h = refused 16 0 (unfold put in simp (accepted, then-ok, there .formed, there .there, there .found, not-writable h, then-err))
+      read-only h = refused 16 0 (unfold put in simp (accepted, then-ok, there .reached, there .found, not-writable h, then-err))
 
       pub to-replace : e .extension ≤ 127 → Replacing g image table bytes s e
       unfolding asked
       to-replace h = record {
         path = path;
-        asked = asked (there .to) (there .formed) (there .place) (there .there)
+        asked = asked (there .target) (there .reached)
             (λ l ls f. let i = there .found in let j : there .label ≡ l = cc in omega (arith, same-extension, ap (λ (x : Label). x .extension) j, h));
         table-is = table-is;
         old = there .label;

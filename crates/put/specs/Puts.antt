@@ -6,7 +6,7 @@ use Rattle.geometry.specs.declared.Geometry.{Geometry}
 use Rattle.packet.specs.Packet.{viewOf}
 use Rattle.rules.specs.declared.Entry.{Entry}
 use Rattle.rules.specs.Chain.{Link}
-use Rattle.rules.specs.Tree.{Label, fileEntry, entry}
+use Rattle.rules.specs.Tree.{Label, fileEntry}
 use Rattle.rules.specs.Owners.{owners}
 use Rattle.rules.specs.Paths.{fileKey, nothing, aFile, find}
 use Rattle.rules.specs.Put.{put}

@@ -2,7 +2,7 @@
 use entries::Slot;
 use geometry::Geometry;
 use geometry::Shape;
-use lookup::Target;
+use lookup::PathLookup;
 use rules::Entry;
 use space::Space;
 use volume::Edited;
@@ -82,12 +82,12 @@ fn put_path(image: &mut [u8], g: Geometry, path: &[u8], bytes: &[u8], owners: &m
     ensures { λ r. ⌜ Answered (now (image .entry)) (putRule g (now (path .entry)) (now (bytes .entry)) (now (image .entry))) r (now (image .exit)) ⌝ }
 {
     match lookup::find_file(image, g, path) {
-        Target::Malformed => Edited::Refused(14, 0),
-        Target::Nowhere => Edited::Refused(15, 0),
-        Target::Absent(start, name, extension) => {
+        PathLookup::Malformed => Edited::Refused(14, 0),
+        PathLookup::Nowhere => Edited::Refused(15, 0),
+        PathLookup::Absent(start, name, extension) => {
             insert_file(image, g, start, name, extension, bytes, owners)
         }
-        Target::At(slot, e) => {
+        PathLookup::At(slot, e) => {
             if 127 < e.extension {
                 return Edited::Refused(16, 0);
             }

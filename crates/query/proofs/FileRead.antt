@@ -11,14 +11,13 @@ use Rattle.rules.specs.Result.{Res, ok, err}
 use Rattle.rules.specs.ResultLaws.{then-ok, then-err, refuse-true, refuse-false}
 use Rattle.rules.specs.Chain.{content}
 use Rattle.rules.specs.Tree.{Image}
-use Rattle.rules.specs.Control.{theRoot}
 use Rattle.rules.specs.Check.{check}
-use Rattle.rules.specs.Paths.{Path, pathOf, fileKey, Found, nothing, aFile, find, atRoot, Place, directoryAt}
+use Rattle.rules.specs.Paths.{fileKey, Found, nothing, aFile, find, Target, targetOf}
 use Rattle.rules.specs.Calls.{bytesOf, fileAt, readBytes, lengthOf, filled}
 use Rattle.entries.specs.declared.Slot.{Slot}
-use Rattle.lookup.specs.declared.Target.{Target}
-use Rattle.lookup.specs.declared.Target.the-variants as target
-use Rattle.lookup.specs.Targets.{Nowhere, FileAbsent, FileAt, IsTarget, Targets}
+use Rattle.lookup.specs.declared.PathLookup.{PathLookup}
+use Rattle.lookup.specs.declared.PathLookup.the-variants as lookup
+use Rattle.lookup.specs.Targets.{FileAbsent, FileAt, Stands, Looks}
 use Rattle.query.specs.declared.Length.{Length}
 use Rattle.query.specs.declared.Length.the-variants as length′
 use Rattle.query.specs.Questions.{Gives, fitting, ChainRead}
@@ -35,46 +34,44 @@ long-enough out bytes after n h e q =
     ap₂ (λ (m : ℕ) (l : List ℕ). (ok m, l)) e q ∙ ap (λ (r : Res (List ℕ)). (lengthOf r, filled out r)) (sym f)
 
 -- ---- the file at a path
-module _ (g : Geometry) (v : View) (path out : List ℕ) (r : Target) (h : Targets g v path r) (i : Image) (accepted : check g v ≡ ok i) where
-  is : (x : Target) → r ≡ x → IsTarget g v path i x
-  is x e = subst (IsTarget g v path i) e (h i accepted)
+module _ (g : Geometry) (v : View) (path out : List ℕ) (r : PathLookup) (h : Looks g v path r) (i : Image) (accepted : check g v ≡ ok i) where
+  is : (x : PathLookup) → r ≡ x → Stands g v path i x
+  is x e = subst (Stands g v path i) e (h i accepted)
 
   refused : (n p : ℕ) → fileAt path i ≡ err n p → Gives out (readBytes path out i) (length′.Refused n p) out
   unfolding readBytes
   refused n p e = let f : readBytes path out i ≡ err n p = simp (e, then-err) in ap (λ (r : Res (List ℕ)). (lengthOf r, filled out r)) (sym f)
 
-  pub malformed : r ≡ target.Malformed → Gives out (readBytes path out i) (length′.Refused 14 0) out
-  malformed e = refused 14 0 (at (is target.Malformed e))
-    where
-      at : pathOf path ≡ err 14 0 → fileAt path i ≡ err 14 0
-      at m = unfold fileAt in simp (m, then-err)
-
-  pub nowhere : r ≡ target.Nowhere → Gives out (readBytes path out i) (length′.Refused 15 0) out
-  nowhere e = refused 15 0 (at (is target.Nowhere e))
-    where
-      at : Nowhere g v path i → fileAt path i ≡ err 15 0
-      at m = unfold fileAt in simp (m .formed, then-ok, m .missing, then-err)
-
-  found : (q : Path) → pathOf path ≡ ok q → (d : Place) → directoryAt (q .directories) atRoot theRoot (i .tree) ≡ ok d → (f : Found) → find (fileKey q) (d .items) ≡ f → fileAt path i ≡ bytesOf f
+  no-target : (n p : ℕ) → targetOf path (i .tree) ≡ err n p → fileAt path i ≡ err n p
   unfolding fileAt
-  found q a d b f e = simp (a, then-ok, b, e)
+  no-target n p e = simp (e, then-err)
 
-  pub absent : (start name extension : ℕ) → r ≡ target.Absent start name extension → Gives out (readBytes path out i) (length′.Refused 15 0) out
+  pub malformed : r ≡ lookup.Malformed → Gives out (readBytes path out i) (length′.Refused 14 0) out
+  malformed e = refused 14 0 (no-target 14 0 (is lookup.Malformed e))
+
+  pub nowhere : r ≡ lookup.Nowhere → Gives out (readBytes path out i) (length′.Refused 15 0) out
+  nowhere e = refused 15 0 (no-target 15 0 (is lookup.Nowhere e))
+
+  found : (x : Target) → targetOf path (i .tree) ≡ ok x → (f : Found) → find (fileKey (x .to)) (x .place .items) ≡ f → fileAt path i ≡ bytesOf f
+  unfolding fileAt
+  found x a f e = simp (a, then-ok, e)
+
+  pub absent : (start name extension : ℕ) → r ≡ lookup.Absent start name extension → Gives out (readBytes path out i) (length′.Refused 15 0) out
   absent start name extension e =
-      let m : FileAbsent g v path i start name extension = is (target.Absent start name extension) e in
-      refused 15 0 (found (m .to) (m .formed) (m .place) (m .there) nothing (m .absent) ∙ gone)
+      let m : FileAbsent g v path i start name extension = is (lookup.Absent start name extension) e in
+      refused 15 0 (found (m .target) (m .reached) nothing (m .absent) ∙ gone)
     where
       gone : bytesOf nothing ≡ err 15 0
       gone = unfold bytesOf in refl
 
-  module _ (s : Slot) (e : Entry) (q : r ≡ target.At s e) where
+  module _ (s : Slot) (e : Entry) (q : r ≡ lookup.At s e) where
     pub there : FileAt g v path i s e
-    there = is (target.At s e) q
+    there = is (lookup.At s e) q
 
     fits-file : readBytes path out i ≡ fitting out (content (there .links))
     unfolding readBytes fitting bytesOf
     fits-file =
-        let y : fileAt path i ≡ ok (content (there .links)) = found (there .to) (there .formed) (there .place) (there .there) (aFile (there .label) (there .links)) (there .found) in
+        let y : fileAt path i ≡ ok (content (there .links)) = found (there .target) (there .reached) (aFile (there .label) (there .links)) (there .found) in
         simp (y, then-ok)
 
     pub read-file : (a : Length) (after : List ℕ) → ChainRead g v (e .start) out a after → Gives out (readBytes path out i) a after

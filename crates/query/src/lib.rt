@@ -2,7 +2,7 @@
 use geometry::Geometry;
 use geometry::Shape;
 use listing::Look;
-use lookup::Target;
+use lookup::PathLookup;
 use rules::Line;
 use walk::Walk;
 ghost use mathlib.Core.Path.{_≡_};
@@ -79,10 +79,10 @@ fn read_path(image: &[u8], g: Geometry, path: &[u8], out: &mut [u8]) -> Length
     ensures { λ r. ⌜ PathRead g (viewOf g (now (image .entry))) (now (path .entry)) (now (out .entry)) r (now (out .exit)) ⌝ }
 {
     match lookup::find_file(image, g, path) {
-        Target::Malformed => Length::Refused(14, 0),
-        Target::Nowhere => Length::Refused(15, 0),
-        Target::Absent(_, _, _) => Length::Refused(15, 0),
-        Target::At(_, e) => read_chain(image, g, e.start, out),
+        PathLookup::Malformed => Length::Refused(14, 0),
+        PathLookup::Nowhere => Length::Refused(15, 0),
+        PathLookup::Absent(_, _, _) => Length::Refused(15, 0),
+        PathLookup::At(_, e) => read_chain(image, g, e.start, out),
     }
 }
 

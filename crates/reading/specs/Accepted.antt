@@ -1,18 +1,14 @@
--- An image is accepted exactly when it is well formed, its tree is unique, and fuel never decides.
-use mathlib.Core.Path.{_≡_, ap, sym, _∙_}
+-- An image is accepted exactly when it is well formed, and its tree is unique.
+use mathlib.Core.Path.{_≡_, sym, _∙_}
 use mathlib.Core.Logic.{_↔_}
 use mathlib.Core.List.{List}
-use Prim.Native.Nat.{ℕ, zero, suc, _+_}
-use native.Mathlib.Omega.{arith}
+use Prim.Native.Nat.{ℕ}
 use Rattle.geometry.specs.declared.Geometry.{Geometry}
 use Rattle.geometry.specs.Geometry.{Fit}
 use Rattle.geometry.specs.Number.{Bytes}
-use Rattle.packet.specs.Packet.{View, viewOf}
+use Rattle.packet.specs.Packet.{viewOf}
 use Rattle.rules.specs.Result.{ok, err}
 use Rattle.rules.specs.ResultLaws.{ok-inj, clash}
-use Rattle.rules.specs.PageSets.{Within}
-use Rattle.rules.specs.Chain.{Test, walk}
-use Rattle.rules.specs.ChainLaws.{walk-fuel}
 use Rattle.rules.specs.Tree.{Image}
 use Rattle.rules.specs.WellFormed.{WellFormedWith, WellFormed}
 use Rattle.rules.specs.Check.{Scan, scan, check}
@@ -40,12 +36,3 @@ tree-unique g image i j w u = ok-inj (sym (accepted g image i w) ∙ accepted g 
 
 pub refused : (g : Geometry) (image : List ℕ) (n p : ℕ) → check g (viewOf g image) ≡ err n p → (i : Image) → WellFormed g image i → ⊥
 refused g image n p e i w = clash (sym e ∙ accepted g image i w)
-
--- every walk of the check has N + 1 for fuel and claimed pages below N with none twice: any more fuel changes no answer, refusals too
-pub fuel-enough : (N : ℕ) (v : View) (test : Test) (k i : ℕ) (claimed : List ℕ) (from p : ℕ) → Within N claimed
-    → walk N v test (suc N + k) i claimed from p ≡ walk N v test (suc N) i claimed from p
-fuel-enough N v test zero i claimed from p h = let e : suc N + 0 ≡ suc N = omega arith in ap (λ (f : ℕ). walk N v test f i claimed from p) e
-fuel-enough N v test (suc k) i claimed from p h =
-    let e : suc N + suc k ≡ suc (suc N + k) = omega arith in
-    ap (λ (f : ℕ). walk N v test f i claimed from p) e ∙ sym (walk-fuel N v test (suc N + k) i claimed from p h (omega arith))
-    ∙ fuel-enough N v test k i claimed from p h

@@ -1,7 +1,7 @@
 -- Completeness of the check: a well-formed image is accepted with its tree, and with any bitmap bits the scan gives tree and bits.
 use mathlib.Core.Path.{_≡_, refl, ap, _∙_}
 use mathlib.Core.List.{List, [], _++_}
-use Prim.Native.Nat.{ℕ, _≤_}
+use Prim.Native.Nat.{ℕ, suc, _≤_}
 use native.Mathlib.Omega.{arith}
 use lib.ListN.{length}
 use lib.Seq.{drop-at}
@@ -22,7 +22,7 @@ use Rattle.rules.specs.Control.{rootControl, theRoot, rootPage}
 use Rattle.rules.specs.Bitmap.{mapSize}
 use Rattle.rules.specs.BitmapLaws.{bits-complete}
 use Rattle.rules.specs.WellFormed.{Stand, mapPackets, IsDirectory, MapHolds, WellFormedWith, WellFormedIn}
-use Rattle.rules.specs.Check.{rawBits, judgeSub, judgeMap, scan, check}
+use Rattle.rules.specs.Check.{rawBits, judgeSub, judgeMap, scan, check, scanWith, judgeMapFile}
 use Rattle.reading.specs.ControlLaws.{whole-ok, headFor, MapFits, head-written, length-root, start-written, count-written}
 use Rattle.reading.specs.SubControlLaws.{AboveFits}
 use Rattle.reading.specs.Directory.{FirstPasses, root-later, rest-zero, map-stands, root-holds}
@@ -48,8 +48,8 @@ module _ (g : Geometry) (valid : Valid g) where
   module _ (v : View) where
     map-complete : (bits : List ℕ) (m : Map) → MapHolds g bits m → length bits ≡ mapSize g m → Stand v (mapPackets m) → count 0 (mapPages m) ≡ 0
         → Within (g .pages) (mapPages m)
-        → judgeMap g v (headFor (g .width) bits m) ≡ ok m
-    unfolding judgeMap
+        → judgeMap g v (suc (g .pages)) (headFor (g .width) bits m) ≡ ok m
+    unfolding judgeMap judgeMapFile
     map-complete bits inRoot h r s z f = simp choose-true
     map-complete bits (inFile ls) h r s z f =
         let k = map-fits bits (inFile ls) h r z f in
@@ -85,7 +85,7 @@ module _ (g : Geometry) (valid : Valid g) where
         (tokenBytes (g .width) (tokens t), first (tokenLinks (g .width) [] (tokens t)), rw (← e) (s .0), k)
 
     pub scan-complete : (bits : List ℕ) (i : Image) → WellFormedWith g v bits i → scan g v ≡ ok (record { image = i; raw = bits })
-    unfolding scan
+    unfolding scan scanWith
     scan-complete bits i h =
         let m = i .map in
         let t = i .tree in
@@ -98,7 +98,7 @@ module _ (g : Geometry) (valid : Valid g) where
         let l = length-root g (valid .one) (valid .two) bits m k in
         let j = map-complete bits m (h .map) (h .room) (map-stands g v bits m t h) z f in
         let a : AboveFits (g .width) theRoot = record { four = omega arith; start = omega (arith, pages-fit g valid, valid .some) } in
-        let d = directory-complete g valid v 8 (judgeSub g v 8) (sub-complete g valid v 8) theRoot a (rootPage g) control (root-later g)
+        let d = directory-complete g valid v 8 (judgeSub g v (suc (g .pages)) 8) (sub-complete g valid v 8) theRoot a (rootPage g) control (root-later g)
         (root-passes control l) l (mapPages m) 0 t w (omega (arith, hit-same 0)) in
         simp (
           packet-good v 0 (control ++ r .0) (r .1) (r .2),

@@ -21,7 +21,7 @@ use Rattle.rules.specs.Control.{rootControl, theRoot, Head, mapStart, rootPage}
 use Rattle.rules.specs.Bitmap.{bitmapFrom, mapSize}
 use Rattle.rules.specs.BitmapLaws.{bits-sound}
 use Rattle.rules.specs.WellFormed.{Stand, mapPackets, MapHolds, WellFormedWith, WellFormedIn}
-use Rattle.rules.specs.Check.{rawBits, Scan, judgeSub, judgeMap, scan, check}
+use Rattle.rules.specs.Check.{rawBits, Scan, judgeSub, judgeMap, scan, check, scanWith, judgeMapFile}
 use Rattle.reading.specs.PacketLaws.{ByteView, same-bytes}
 use Rattle.reading.specs.ControlLaws.{whole-inv, HeadRead, head-sound}
 use Rattle.reading.specs.Directory.{FirstReads, root-later, well-formed}
@@ -41,8 +41,8 @@ module _ (g : Geometry) (v : View) (valid : Valid g) (bv : ByteView g v) where
     room : length (rawBits h m) ≡ mapSize g m
     bytes : Bytes (rawBits h m)
 
-  map-sound : (b : List ℕ) (h : Head) (m : Map) → HeadRead g b h → judgeMap g v h ≡ ok m → MapRead b h m
-  unfolding judgeMap
+  map-sound : (b : List ℕ) (h : Head) (m : Map) → HeadRead g b h → judgeMap g v (suc (g .pages)) h ≡ ok m → MapRead b h m
+  unfolding judgeMap judgeMapFile
   map-sound b h m r q = on-choose _ _ _ _ q
       (λ k q. subst (MapRead b h) (ok-inj q) (record {
         within = λ z. omega arith;
@@ -69,14 +69,14 @@ module _ (g : Geometry) (v : View) (valid : Valid g) (bv : ByteView g v) where
   root-reads x control a k b next s u = (ap (take (controlSize g)) (same-bytes (sym s ∙ a)) ∙ k, whole-inv g 0 (drop (controlSize g) b) u)
 
   pub scan-sound : (s : Scan) → scan g v ≡ ok s → WellFormedWith g v (s .raw) (s .image)
-  unfolding scan
+  unfolding scan scanWith
   scan-sound s q = on-then _ _ _ q λ x a q. on-then _ _ _ q λ h b q. on-then _ _ _ q λ m c q. on-then _ _ _ q λ t d q.
       let y = packet-inv v 0 x a in
       let r = map-sound (x .bytes) h m (head-sound g (x .bytes) h (valid .one) (valid .two) (bv .bytes 0 (x .bytes) (x .next) y) b) c in
       let bits = rawBits h m in
       let control = rootControl (g .width) bits m in
       let f = root-reads x control y (r .control) in
-      let k = directory-sound g v bv 8 (judgeSub g v 8) (sub-sound g v bv 8) (rootPage g) control theRoot (root-later g) f (mapPages m) 0 t (r .within) d in
+      let k = directory-sound g v bv 8 (judgeSub g v (suc (g .pages)) 8) (sub-sound g v bv 8) (rootPage g) control theRoot (root-later g) f (mapPages m) 0 t (r .within) d in
       subst (λ (s : Scan). WellFormedWith g v (s .raw) (s .image)) (ok-inj q) (well-formed g v bits m t k (r .holds) (r .room) (r .bytes) (r .stand))
 
   pub check-sound : (i : Image) → check g v ≡ ok i → WellFormedIn g v i

@@ -105,7 +105,7 @@ module _ (g : Geometry) (valid : Valid g) where
       -- ---- one entry
       module _ (claimed : List ℕ) (p : ℕ) (seen : List ℕ) (l : Label) (named : Named l) (unseen : count (keyOf l) seen ≡ 0) where
         file-complete : (ls : List Link) → fileNumber (l .extension) ≡ true → IsChain (g .pages) v anyPage 0 claimed (first ls) ls → 0 < first ls
-            → judgeEntry g v sub here claimed p seen (fileEntry l ls) ≡ ok (chain ls)
+            → judgeEntry g v (suc (g .pages)) sub here claimed p seen (fileEntry l ls) ≡ ok (chain ls)
         unfolding judgeEntry judgeFile
         file-complete ls k c s =
             simp (
@@ -122,7 +122,7 @@ module _ (g : Geometry) (valid : Valid g) where
 
         sub-entry-complete : (d : Items) → directoryNumber (l .extension) ≡ true → SubHolds g v levels here (l .name) (startOf d) claimed d
             → 1 ≤ count 0 claimed
-            → judgeEntry g v sub here claimed p seen (directoryEntry l d) ≡ ok (directory d)
+            → judgeEntry g v (suc (g .pages)) sub here claimed p seen (directoryEntry l d) ≡ ok (directory d)
         unfolding judgeEntry
         sub-entry-complete d k s z =
             simp (
@@ -138,7 +138,7 @@ module _ (g : Geometry) (valid : Valid g) where
       -- ---- a directory's entries; page 0 is claimed, so it is no start page and no pointer
       entries-complete : (t : Items) (claimed : List ℕ) (p : ℕ) (seen : List ℕ) → Entries levels t → ((x : ℕ) → count x (keys t) + count x seen ≤ 1)
           → Stand v (packetsBelow g here t) → 1 ≤ count 0 claimed → ((x : ℕ) → count x (innerPages t) + count x claimed ≤ count x (range (g .pages)))
-          → judgeEntries g v sub here claimed p seen (tokens t) ≡ ok t
+          → judgeEntries g v (suc (g .pages)) sub here claimed p seen (tokens t) ≡ ok t
       unfolding judgeEntries
       entries-complete end claimed p seen w o r z f = refl
       entries-complete (page q t) claimed p seen w o r z f = simp (entries-complete t claimed q seen w o r z f, then-ok)
@@ -187,7 +187,7 @@ module _ (g : Geometry) (valid : Valid g) where
       -- ---- a directory
       pub directory-complete : (test : Test) (control : List ℕ) → LaterWhole g test → FirstPasses g test control → length control ≡ controlSize g
           → (claimed : List ℕ) (p : ℕ) (t : Items) → DirectoryHolds g v (suc levels) control here claimed t → 1 ≤ hit 0 (here .start) + count 0 claimed
-          → judgeDirectory g v sub test here claimed p ≡ ok t
+          → judgeDirectory g v (suc (g .pages)) sub test here claimed p ≡ ok t
       unfolding judgeDirectory
       directory-complete test control l f e claimed p end y z = absurd (y .isDirectory)
       directory-complete test control l f e claimed p (file n ls t) y z = absurd (y .isDirectory)
@@ -212,7 +212,7 @@ module _ (g : Geometry) (valid : Valid g) where
           (omega (arith, c 0, o 0)) (λ x. omega (arith, y .clear x, a x, o x, c x)) in
           simp (j, then-ok, b) i
 
-    pub sub-complete : (levels : ℕ) → SubComplete levels (judgeSub g v levels)
+    pub sub-complete : (levels : ℕ) → SubComplete levels (judgeSub g v (suc (g .pages)) levels)
     unfolding judgeSub
     sub-complete zero up claimed p l d a n y z = absurd (y .entries)
     sub-complete (suc levels) up claimed p l d a n y z =
@@ -221,5 +221,5 @@ module _ (g : Geometry) (valid : Valid g) where
         let here : Above = record { name = l .name; start = startOf d } in
         let f : FirstPasses g (subPage g up) (subControl (g .width) up) = λ p rest h. sub-written g up p rest a ∙ whole-ok g p rest h in
         simp (lt-ltb 0 (startOf d) s, refuse-true, then-ok)
-        (directory-complete levels (judgeSub g v levels) (sub-complete levels) here (record { four = n; start = number-fits (startOf d) b })
+        (directory-complete levels (judgeSub g v (suc (g .pages)) levels) (sub-complete levels) here (record { four = n; start = number-fits (startOf d) b })
         (subPage g up) (subControl (g .width) up) (sub-later g up) f (length-sub g up) claimed p d y (omega arith))

@@ -56,7 +56,7 @@ module _ (g : Geometry) (v : View) where
 
   module _ (levels : ℕ) (here : Above) (claimed : List ℕ) (e : Entry) where
     -- ---- one entry
-    file-sound : (p : ℕ) (x : Part) → Within (g .pages) claimed → fileNumber (e .extension) ≡ true → judgeFile g v claimed p e ≡ ok x
+    file-sound : (p : ℕ) (x : Part) → Within (g .pages) claimed → fileNumber (e .extension) ≡ true → judgeFile g v (suc (g .pages)) claimed p e ≡ ok x
         → PartHolds levels here claimed e x
     unfolding judgeFile
     file-sound p x fit k q = on-refuse _ _ _ _ _ q λ g₁ q. on-then _ _ _ q λ ls w q. on-refuse _ _ _ _ _ q λ g₂ q.
@@ -64,7 +64,7 @@ module _ (g : Geometry) (v : View) where
         subst (PartHolds levels here claimed e) (ok-inj q) (c, eqb-true _ _ g₂, k)
 
     entry-sound : (sub : Judge) → SubSound levels sub → (p : ℕ) (seen : List ℕ) (x : Part) → Within (g .pages) claimed
-        → judgeEntry g v sub here claimed p seen e ≡ ok x
+        → judgeEntry g v (suc (g .pages)) sub here claimed p seen e ≡ ok x
         → (validName (e .name) ≡ true) × (count (key (e .name) (e .extension)) seen ≡ 0) × PartHolds levels here claimed e x
     unfolding judgeEntry
     entry-sound sub h p seen x fit q = on-then _ _ _ q λ u g₁ q. on-refuse _ _ _ _ _ q λ g₂ q.
@@ -106,7 +106,7 @@ module _ (g : Geometry) (v : View) where
 
   module _ (levels : ℕ) (sub : Judge) (h : SubSound levels sub) (here : Above) where
     pub entries-sound : (ts : List Token) (claimed : List ℕ) (p : ℕ) (seen : List ℕ) (t : Items) → Within (g .pages) claimed → Once seen
-        → TokensFit (g .width) ts → judgeEntries g v sub here claimed p seen ts ≡ ok t → EntriesHold levels here claimed seen ts t
+        → TokensFit (g .width) ts → judgeEntries g v (suc (g .pages)) sub here claimed p seen ts ≡ ok t → EntriesHold levels here claimed seen ts t
     unfolding judgeEntries
     entries-sound [] claimed p seen t fit o f q = subst (EntriesHold levels here claimed seen []) (ok-inj q)
         (record { shape = refl; names = λ z. omega (arith, o z); entries = tt; below = tt; clear = λ z. omega (arith, fit z) })
@@ -158,7 +158,7 @@ module _ (g : Geometry) (v : View) where
 
     pub directory-sound : (levels : ℕ) (sub : Judge) → SubSound levels sub → (test : Test) (control : List ℕ) (here : Above)
         → LaterWhole g test → FirstReads g v test control (here .start) → (claimed : List ℕ) (p : ℕ) (t : Items) → Within (g .pages) claimed
-        → judgeDirectory g v sub test here claimed p ≡ ok t → DirectoryHolds g v (suc levels) control here claimed t
+        → judgeDirectory g v (suc (g .pages)) sub test here claimed p ≡ ok t → DirectoryHolds g v (suc levels) control here claimed t
     unfolding judgeDirectory
     directory-sound levels sub h test control here l f claimed p t fit q = on-then _ _ _ q λ ls w q.
         let skip = controlSize g in
@@ -168,12 +168,12 @@ module _ (g : Geometry) (v : View) where
         hold-whole levels test control here claimed ls t c (links-back g skip control ls (r .0) (r .1))
         (entries-sound levels sub h here (linkTokens g skip ls) (pages ls ++ claimed) (here .start) [] t fit′ (λ z. omega arith) (links-fit g skip ls (r .0)) q)
 
-    pub sub-sound : (levels : ℕ) → SubSound levels (judgeSub g v levels)
+    pub sub-sound : (levels : ℕ) → SubSound levels (judgeSub g v (suc (g .pages)) levels)
     unfolding judgeSub
     sub-sound zero up claimed p e d fit q = clash q
     sub-sound (suc levels) up claimed p e d fit q = on-refuse _ _ _ _ _ q λ g₁ q. on-refuse _ _ _ _ _ q λ g₂ q.
         let control = subControl (g .width) up in
         let f : FirstReads g v (subPage g up) control (e .start) = λ b next s u. sub-control-sound g up (e .start) b (bv .bytes (e .start) b next s) u in
         let here : Above = record { name = e .name; start = e .start } in
-        let k = directory-sound levels (judgeSub g v levels) (sub-sound levels) (subPage g up) control here (sub-later g up) f claimed p d fit q in
+        let k = directory-sound levels (judgeSub g v (suc (g .pages)) levels) (sub-sound levels) (subPage g up) control here (sub-later g up) f claimed p d fit q in
         (k, eqb-true _ _ g₁)

@@ -1,8 +1,8 @@
--- A refusal changes no byte: not of the image, not of the output; refusal 1 leaves the owner table too.
+-- A refusal changes no byte, not of the image and not of the output, and refusal 1 leaves the owner table too; the numbers and pages that the calls' refusals tell.
 use mathlib.Core.Path.{_≡_, refl, sym}
 use mathlib.Core.Bool.{Bool}
 use mathlib.Core.List.{List}
-use Prim.Native.Nat.{ℕ}
+use Prim.Native.Nat.{ℕ, _+_, _<_}
 use native.Mathlib.Omega.{arith}
 use Rattle.geometry.specs.declared.Geometry.{Geometry}
 use Rattle.geometry.specs.declared.Shape.{Shape}
@@ -10,23 +10,19 @@ use Rattle.geometry.specs.declared.Shape.the-variants.{Fits, Wrong}
 use Rattle.packet.specs.Packet.{viewOf}
 use Rattle.rules.specs.Result.{Res, ok, err, andThen}
 use Rattle.rules.specs.ResultLaws.{clash}
-use Rattle.rules.specs.RefusalLaws.{Between, between-ok, between-then, between-wider, check-faults, line-faults, read-faults, format-faults, put-faults, delete-faults}
+use Rattle.rules.specs.RefusalLaws.{Refuses, refuses-ok, refuses-then, refuses-test, refuses-within, target-faults, writable-faults, present-faults, bytes-faults}
+use Rattle.rules.specs.FuelLaws.{check-faults}
 use Rattle.rules.specs.Tree.{Image}
 use Rattle.rules.specs.Check.{check}
-use Rattle.rules.specs.Owners.{totals, tableAfter}
-use Rattle.rules.specs.Listing.{linesOf, lineAt}
+use Rattle.rules.specs.Owners.{tableAfter}
 use Rattle.rules.specs.Format.{format}
-use Rattle.rules.specs.Put.{put}
+use Rattle.rules.specs.Put.{putEdit, put}
 use Rattle.rules.specs.Delete.{delete}
-use Rattle.rules.specs.Calls.{inGeometry, readBytes, lengthOf, filled, shape, tableFor, asked, done, checkCall, listCall, readCall, formatCall, putCall, deleteCall}
+use Rattle.rules.specs.Calls.{inGeometry, fileAt, readBytes, lengthOf, filled, shape, asked, done, checkCall, listCall, readCall, formatCall, putCall, deleteCall}
 
 filled-refused : (out : List ℕ) (r : Res (List ℕ)) (n p : ℕ) → lengthOf r ≡ err n p → filled out r ≡ out
 filled-refused out (ok bytes) n p e = clash (sym e)
 filled-refused out (err m q) n p e = refl
-
-length-refused : (r : Res (List ℕ)) (n p : ℕ) → lengthOf r ≡ err n p → r ≡ err n p
-length-refused (ok bytes) n p e = clash (sym e)
-length-refused (err m q) n p e = cc
 
 module _ (P N : ℕ) (image table : List ℕ) where
   done-refused : (g : Geometry) (r : Res (List ℕ)) (n p : ℕ) → done P N image table g r .0 ≡ err n p → done P N image table g r .1 ≡ image
@@ -90,45 +86,28 @@ module _ (P N : ℕ) (image table : List ℕ) where
     unfolding deleteCall
     delete-wrong path = rw wrong refl
 
-  -- ---- and nothing else is told by 1
-  done-one : (g : Geometry) (r : Res (List ℕ)) (p : ℕ) → Between 2 18 r → done P N image table g r .0 ≡ err 1 p → ⊥
-  done-one g (ok after) p h e = clash (sym e)
-  done-one g (err n q) p h e = let i : n ≡ 1 = cc in omega (arith, h .number n q refl .0)
+-- ---- the numbers and pages of the calls' refusals
+pub read-faults : (path out : List ℕ) (i : Image) → Refuses 14 18 1 (readBytes path out i)
+unfolding readBytes fileAt
+read-faults path out i =
+    refuses-then _ _ (refuses-then _ _ (refuses-within 14 18 1 (omega arith) (omega arith) (omega arith) (target-faults path (i .tree))) λ x _.
+    refuses-within 14 18 1 (omega arith) (omega arith) (omega arith) (bytes-faults _)) λ bytes _. refuses-test _ 18 _ _ tt (omega arith) refuses-ok
 
-  changed-one : (s : Shape) (edit : Geometry → Res (List ℕ)) → ((g : Geometry) → Between 2 18 (edit g)) → (p : ℕ)
-      → inGeometry s (err 1 0, image, table) (λ g. done P N image table g (edit g)) .0 ≡ err 1 p → s ≡ Wrong
-  changed-one Wrong edit h p e = refl
-  changed-one (Fits g) edit h p e = absurd (done-one g (edit g) p (h g) e)
+module _ (g : Geometry) (some : 0 < g .pages) (path image : List ℕ) where
+  pub put-faults : (bytes : List ℕ) → Refuses 2 17 (g .pages + 33) (put g path bytes image)
+  unfolding put putEdit
+  put-faults bytes =
+      let m = g .pages + 33 in
+      refuses-then _ _ (refuses-within 2 17 m (omega arith) (omega arith) (omega arith) (check-faults g (viewOf g image) some)) λ i _.
+      refuses-then _ _ (refuses-within 2 17 m (omega arith) (omega arith) (omega arith) (target-faults path (i .tree))) λ x _.
+      refuses-then _ _ (refuses-within 2 17 m (omega arith) (omega arith) (omega arith) (writable-faults _)) λ _ _.
+      refuses-then _ _ (refuses-test _ 17 _ _ tt (omega arith) refuses-ok) λ e _. refuses-ok
 
-  asked-one : {A : Type 0} (s : Shape) (question : Image → Res A) → ((i : Image) → Between 2 18 (question i)) → (p : ℕ)
-      → inGeometry {A = Res A × List ℕ} s (err 1 0, table) (λ g. (andThen (check g (viewOf g image)) question, tableFor P N image table g image)) .0 ≡ err 1 p → s ≡ Wrong
-  asked-one Wrong question h p e = refl
-  asked-one (Fits g) question h p e =
-      let b = between-then (between-wider 2 18 (omega arith) (omega arith) (check-faults g (viewOf g image))) h in
-      absurd (omega (arith, b .number 1 p e .0))
-
-  pub check-one : (p : ℕ) → checkCall P N image table .0 ≡ err 1 p → shape P N image table ≡ Wrong
-  unfolding checkCall
-  check-one p e = asked-one (shape P N image table) (λ i. ok (totals i)) (λ i. between-ok) p e
-
-  pub list-one : (k p : ℕ) → listCall P N image table k .0 ≡ err 1 p → shape P N image table ≡ Wrong
-  unfolding listCall
-  list-one k p e = asked-one (shape P N image table) (λ i. lineAt k (linesOf 0 (i .tree))) (λ i. between-wider 2 18 (omega arith) (omega arith) (line-faults k (linesOf 0 (i .tree)))) p e
-
-  pub read-one : (path out : List ℕ) (p : ℕ) → readCall P N image table path out .0 ≡ err 1 p → shape P N image table ≡ Wrong
-  unfolding readCall
-  read-one path out p e =
-      asked-one (shape P N image table) (readBytes path out) (λ i. between-wider 2 18 (omega arith) (omega arith) (read-faults path out i)) p
-      (length-refused (asked P N image table (readBytes path out) .0) 1 p e)
-
-  pub format-one : (local : Bool) (p : ℕ) → formatCall P N image table local .0 ≡ err 1 p → shape P N image table ≡ Wrong
-  unfolding formatCall
-  format-one local p e = changed-one (shape P N image table) (λ g. format g local image) (λ g. between-wider 2 18 (omega arith) (omega arith) (format-faults g local image)) p e
-
-  pub put-one : (path bytes : List ℕ) (p : ℕ) → putCall P N image table path bytes .0 ≡ err 1 p → shape P N image table ≡ Wrong
-  unfolding putCall
-  put-one path bytes p e = changed-one (shape P N image table) (λ g. put g path bytes image) (λ g. between-wider 2 18 (omega arith) (omega arith) (put-faults g path bytes image)) p e
-
-  pub delete-one : (path : List ℕ) (p : ℕ) → deleteCall P N image table path .0 ≡ err 1 p → shape P N image table ≡ Wrong
-  unfolding deleteCall
-  delete-one path p e = changed-one (shape P N image table) (λ g. delete g path image) (λ g. between-wider 2 18 (omega arith) (omega arith) (delete-faults g path image)) p e
+  pub delete-faults : Refuses 2 16 (g .pages + 33) (delete g path image)
+  unfolding delete
+  delete-faults =
+      let m = g .pages + 33 in
+      refuses-then _ _ (refuses-within 2 16 m (omega arith) (omega arith) (omega arith) (check-faults g (viewOf g image) some)) λ i _.
+      refuses-then _ _ (refuses-within 2 16 m (omega arith) (omega arith) (omega arith) (target-faults path (i .tree))) λ x _.
+      refuses-then _ _ (refuses-within 2 16 m (omega arith) (omega arith) (omega arith) (present-faults _)) λ _ _.
+      refuses-then _ _ (refuses-within 2 16 m (omega arith) (omega arith) (omega arith) (writable-faults _)) λ _ _. refuses-ok

@@ -14,11 +14,10 @@ use Rattle.rules.specs.declared.Line.{Line}
 use Rattle.rules.specs.Result.{Res, ok, err, andThen, andThen as _>>=_, andAfter as _>>_, refuse-unless}
 use Rattle.rules.specs.Chain.{content}
 use Rattle.rules.specs.Tree.{Image}
-use Rattle.rules.specs.Control.{theRoot}
 use Rattle.rules.specs.Check.{check}
 use Rattle.rules.specs.Owners.{totals, tableAfter}
 use Rattle.rules.specs.Listing.{linesOf, lineAt}
-use Rattle.rules.specs.Paths.{pathOf, fileKey, Found, nothing, aFile, aDirectory, find, atRoot, directoryAt}
+use Rattle.rules.specs.Paths.{fileKey, Found, nothing, aFile, aDirectory, find, targetOf}
 use Rattle.rules.specs.Format.{format}
 use Rattle.rules.specs.Put.{put}
 use Rattle.rules.specs.Delete.{delete}
@@ -36,9 +35,8 @@ bytesOf (aDirectory l d) = err 15 0
 
 unfoldable pub fileAt : List ℕ → Image → Res (List ℕ)
 fileAt path i = do
-  q ← pathOf path
-  d ← directoryAt (q .directories) atRoot theRoot (i .tree)
-  bytesOf (find (fileKey q) (d .items))
+  x ← targetOf path (i .tree)
+  bytesOf (find (fileKey (x .to)) (x .place .items))
 
 -- read: the file's length; it fills the front of the output, the rest of it stays; 18 if the output is too short
 unfoldable pub readBytes : List ℕ → List ℕ → Image → Res (List ℕ)

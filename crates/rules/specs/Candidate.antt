@@ -1,6 +1,6 @@
 -- Document 01, "Words of demand 3", over byte images.
 use mathlib.Core.Path.{_≡_}
-use mathlib.Core.Logic.{_↔_}
+use mathlib.Core.Logic.{_↔_, _⊎_}
 use mathlib.Core.List.{List, [], _∷_, _++_}
 use Prim.Native.Nat.{ℕ, _≤_}
 use lib.ListN.{length}
@@ -129,9 +129,10 @@ pub record Candidate (g : Geometry) (old : List ℕ) (q : Path) (bytes : List �
 abbrev pub pagesInUse : Image → ℕ
 pagesInUse i = length (used i)
 
--- demand 3, of what a put answers and the image it leaves: where nothing but room could refuse it, it is done exactly when there is a candidate and refused for room exactly when there is none;
+-- demand 3, of what a put answers and the image it leaves: nothing but room could refuse it exactly when it is done or refused for room; then it is done exactly when there is a candidate and refused for room exactly when there is none;
 -- when done the image is a candidate, no candidate has fewer pages in use, and what stands at another path stood there
 pub record Demand3 (P N : ℕ) (image table path bytes : List ℕ) (isDone isFull : Type 0) (after : List ℕ) : Type 0 where
+  pub only-room : OnlyRoom P N image table path ↔ (isDone ⊎ isFull)
   pub exactly : (o : OnlyRoom P N image table path) → isDone ↔ ((new : List ℕ) × Candidate (o .geometry) image (o .to) bytes new)
   pub refused : (o : OnlyRoom P N image table path) → isFull ↔ ((new : List ℕ) → Candidate (o .geometry) image (o .to) bytes new → ⊥)
   pub candidate : (o : OnlyRoom P N image table path) → isDone → Candidate (o .geometry) image (o .to) bytes after

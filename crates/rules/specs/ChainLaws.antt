@@ -1,17 +1,15 @@
--- Chains: what an accepted walk has met, that each chain is accepted, that fuel never decides; bytes spread over pages.
+-- Chains: what an accepted walk has met, that each chain is accepted; bytes spread over pages.
 use mathlib.Core.Path.{_≡_, refl, ap, sym, _∙_, subst}
 use mathlib.Core.List.{List, [], _∷_, _++_}
 use Prim.Native.Nat.{ℕ, zero, suc, _+_, _-_, _*_, _≤_, _<_}
 use native.Mathlib.Nat.{div-lt-iff-lt-mul, mul-le-mul-right}
 use native.Mathlib.Omega.{arith}
-use lib.Dec.{eqb}
 use lib.ListN.{length, take, drop, take-append-drop, length-drop}
 use borrow.Author.Tests.{eqb-true, eqb-false, ltb-true, eq-eqb, ne-eqb, lt-ltb}
-use Rattle.geometry.specs.Choose.{choose}
 use Rattle.geometry.specs.ChooseLaws.{choose-true, choose-false, on-choose}
 use Rattle.packet.specs.Packet.{Packet, bad, good, View}
-use Rattle.rules.specs.Result.{Res, ok, andThen}
-use Rattle.rules.specs.ResultLaws.{ok-inj, clash, on-then, on-refuse, then-ok, refuse-true, then-cong, refuse-cong}
+use Rattle.rules.specs.Result.{ok}
+use Rattle.rules.specs.ResultLaws.{ok-inj, clash, on-then, on-refuse, then-ok, refuse-true}
 use Rattle.rules.specs.PageSets.{count, range, Within}
 use Rattle.rules.specs.PageSetLaws.{hit-same, same, other, hits, range-le, range-of, within-length, within-cons, free-test, free-true}
 use Rattle.rules.specs.Chain.{Link, link, pages, first, content, linked, Body, packetAt, Test, anyPage, walk, spread, pagesFor}
@@ -119,16 +117,6 @@ module _ (N : ℕ) (v : View) (test : Test) where
   walk-accepts i claimed from p (link q b ∷ ls) c =
       let h = within-length N (q ∷ pages ls) (λ x. omega (arith, c .clear x)) in
       rw (← c .start) (walk-complete (suc N) i claimed from q b ls (omega (arith, length-pages ls)) (c .stand) (c .passes) (c .clear) (c .onward))
-
-  -- fuel never decides: one more unit of it changes no answer, refusals too
-  pub walk-fuel : (fuel i : ℕ) (claimed : List ℕ) (from p : ℕ) → Within N claimed → N < length claimed + fuel
-      → walk N v test fuel i claimed from p ≡ walk N v test (suc fuel) i claimed from p
-  unfolding walk
-  walk-fuel zero i claimed from p fit h = absurd (omega (arith, within-length N claimed fit))
-  walk-fuel (suc fuel) i claimed from p fit h =
-      refuse-cong _ _ _ _ _ λ g₁. refuse-cong _ _ _ _ _ λ g₂. then-cong _ _ _ λ x b. then-cong _ _ _ λ u k.
-      ap (λ (r : Res (List Link)). andThen r λ ls. ok (link p (x .bytes) ∷ ls))
-      (ap (choose (eqb (x .next) 0) (ok [])) (walk-fuel fuel (suc i) (p ∷ claimed) p (x .next) (within-cons N p claimed (ltb-true p N g₁) (free-test p claimed g₂) fit) (omega arith)))
 
 -- ---- bytes spread over pages
 pub pages-spread : (capacity : ℕ) (ps bs : List ℕ) → pages (spread capacity ps bs) ≡ ps

@@ -55,12 +55,12 @@ pub record Scan : Type 0 where
   pub image : Image
   pub raw : List ℕ
 
-module _ (g : Geometry) (v : View) where
-  -- start page (6), then its chain and count (8)
+module _ (g : Geometry) (v : View) (fuel : ℕ) where
+  -- start page (6), then its chain and count (8); `fuel` bounds the steps along each chain
   unfoldable pub judgeFile : List ℕ → ℕ → Entry → Res Part
   judgeFile claimed p e = do
     refuse-unless (ltb 0 (e .start)) 6 p
-    ls ← walk (g .pages) v anyPage (suc (g .pages)) 0 claimed p (e .start)
+    ls ← walk (g .pages) v anyPage fuel 0 claimed p (e .start)
     refuse-unless (eqb (e .pages) (length ls)) 8 p
     ok (chain ls)
 
@@ -87,7 +87,7 @@ module _ (g : Geometry) (v : View) where
   -- a directory: its whole chain first, then its entries
   unfoldable pub judgeDirectory : Judge → Test → Above → List ℕ → ℕ → Res Items
   judgeDirectory sub test here claimed p = do
-    ls ← walk (g .pages) v test (suc (g .pages)) 0 claimed p (here .start)
+    ls ← walk (g .pages) v test fuel 0 claimed p (here .start)
     judgeEntries sub here (pages ls ++ claimed) (here .start) [] (linkTokens g (controlSize g) ls)
 
   -- a subdirectory with so many levels left: at level nine (12), its count (8), its start page (6), then its directory to the end
@@ -98,27 +98,34 @@ module _ (g : Geometry) (v : View) where
     refuse-unless (ltb 0 (e .start)) 6 p
     judgeDirectory (judgeSub levels) (subPage g above) (record { name = e .name; start = e .start }) claimed p
 
-  -- the bitmap file's chain, its page count, then its bytes
-  unfoldable pub judgeMap : Head → Res Map
-  judgeMap h = choose (h .local) (ok inRoot) (do
-    refuse-unless (ltb 0 (mapStart (g .width) h)) 6 0
-    ls ← walk (g .pages) v anyPage (suc (g .pages)) 0 [] 0 (mapStart (g .width) h)
-    refuse-unless (eqb (mapCount (g .width) h) (length ls)) 8 0
+  -- the bitmap file's start page (6), its chain, its page count (8), then its bytes (8)
+  unfoldable pub judgeMapFile : ℕ → ℕ → Res Map
+  judgeMapFile start count = do
+    refuse-unless (ltb 0 start) 6 0
+    ls ← walk (g .pages) v anyPage fuel 0 [] 0 start
+    refuse-unless (eqb count (length ls)) 8 0
     refuse-unless (eqb (length (content ls)) (bitmapSize g)) 8 0
-    ok (inFile ls))
+    ok (inFile ls)
+
+  unfoldable pub judgeMap : Head → Res Map
+  judgeMap h = choose (h .local) (ok inRoot) (judgeMapFile (mapStart (g .width) h) (mapCount (g .width) h))
 
   -- the first half of the check: all faults but 13
-  unfoldable pub scan : Res Scan
-  scan = do
+  unfoldable pub scanWith : Res Scan
+  scanWith = do
     x ← packetAt v 0
     h ← headOf g (x .bytes)
     m ← judgeMap h
     t ← judgeDirectory (judgeSub 8) (rootPage g) theRoot (mapPages m) 0
     ok (record { image = record { tree = t; map = m }; raw = rawBits h m })
 
-  -- accepted (a term of document 01): the order of the check meets no fault. Last the bitmap
-  unfoldable pub check : Res Image
-  check = do
-    s ← scan
-    judgeBits (s .raw) (used (s .image))
-    ok (s .image)
+-- fuel of N + 1 is enough: any more gives the same answer (`scan-fuel`)
+unfoldable pub scan : Geometry → View → Res Scan
+scan g v = scanWith g v (suc (g .pages))
+
+-- accepted (a term of document 01): the order of the check meets no fault. Last the bitmap
+unfoldable pub check : Geometry → View → Res Image
+check g v = do
+  s ← scan g v
+  judgeBits (s .raw) (used (s .image))
+  ok (s .image)

@@ -7,9 +7,8 @@ use Rattle.geometry.specs.Choose.{choose}
 use Rattle.packet.specs.Packet.{viewOf}
 use Rattle.rules.specs.Result.{Res, ok, err, andThen as _>>=_, andAfter as _>>_}
 use Rattle.rules.specs.Tree.{keyOf, Items, end, page, file, dir}
-use Rattle.rules.specs.Control.{theRoot}
 use Rattle.rules.specs.Check.{check}
-use Rattle.rules.specs.Paths.{Path, pathOf, fileKey, Found, nothing, aFile, aDirectory, find, atRoot, Place, directoryAt}
+use Rattle.rules.specs.Paths.{Path, fileKey, Found, nothing, aFile, aDirectory, find, Place, targetOf}
 use Rattle.rules.specs.Writes.{Edit}
 use Rattle.rules.specs.Put.{writable, plainEdit}
 
@@ -33,8 +32,7 @@ deleteEdit q place = record { site = place .site; before = place .items; after =
 unfoldable pub delete : Geometry → List ℕ → List ℕ → Res (List ℕ)
 delete g path image = do
   i ← check g (viewOf g image)
-  q ← pathOf path
-  d ← directoryAt (q .directories) atRoot theRoot (i .tree)
-  present (find (fileKey q) (d .items))
-  writable (find (fileKey q) (d .items))
-  ok (plainEdit g (q .directories) (deleteEdit q d) i image)
+  x ← targetOf path (i .tree)
+  present (find (fileKey (x .to)) (x .place .items))
+  writable (find (fileKey (x .to)) (x .place .items))
+  ok (plainEdit g (x .to .directories) (deleteEdit (x .to) (x .place)) i image)

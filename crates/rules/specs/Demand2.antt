@@ -20,7 +20,7 @@ use Rattle.rules.specs.Control.{theRoot}
 use Rattle.rules.specs.Bitmap.{bitmapOf}
 use Rattle.rules.specs.WellFormed.{WellFormed}
 use Rattle.rules.specs.Paths.{Path, pathOf, fileLabel, Found, nothing, aFile, aDirectory, atRoot, Place, directoryAt}
-use Rattle.rules.specs.Writes.{Edit, edited, editWrites}
+use Rattle.rules.specs.Writes.{made, Edit, edited, editWrites}
 use Rattle.rules.specs.Format.{emptyImage, formatWrites}
 use Rattle.rules.specs.Put.{keptPages, extraPages, putEdit}
 use Rattle.rules.specs.Delete.{deleteEdit}
@@ -55,8 +55,8 @@ pub record EditDone (g : Geometry) (image : List ℕ) (i j : Image) (ws : List W
   pub areBytes : Bytes after
   pub sized : length after ≡ length image
   pub mapPages-same : mapPages (j .map) ≡ mapPages (i .map)
-  -- in every page the bytes after the packets written there are as before
-  pub rest : (p : ℕ) → drop (reach g p ws) (pageOf g p after) ≡ drop (reach g p ws) (pageOf g p image)
+  -- in a page written only packet bytes change, every other byte stays: of the writes that change a packet
+  pub rest : (p : ℕ) → drop (reach g p (made g ws image)) (pageOf g p after) ≡ drop (reach g p (made g ws image)) (pageOf g p image)
 
 -- a format: an accepted image without entries
 pub record Formatted (g : Geometry) (local : Bool) (image after : List ℕ) : Type 0 where
@@ -64,9 +64,9 @@ pub record Formatted (g : Geometry) (local : Bool) (image after : List ℕ) : Ty
   pub wellFormed : WellFormed g after (emptyImage g local)
   pub noEntries : emptyImage g local .tree ≡ page 0 end
   pub sized : length after ≡ length image
-  pub areBytes : Bytes image → Bytes after
-  -- in every page the bytes after the packets written there are as before
-  pub rest : (p : ℕ) → drop (reach g p (formatWrites g (emptyImage g local))) (pageOf g p after) ≡ drop (reach g p (formatWrites g (emptyImage g local))) (pageOf g p image)
+  pub areBytes : Bytes after
+  -- in a page written only packet bytes change, every other byte stays: of the writes that change a packet
+  pub rest : (p : ℕ) → drop (reach g p (made g (formatWrites g (emptyImage g local)) image)) (pageOf g p after) ≡ drop (reach g p (made g (formatWrites g (emptyImage g local)) image)) (pageOf g p image)
 
 -- the image was well formed, and the path's directory was there
 pub record PathIn (g : Geometry) (path image : List ℕ) : Type 0 where

@@ -26,6 +26,8 @@ pub mod Soundness
 pub mod OwnerLaws
 pub mod BitmapLaws
 pub mod EditLaws
+pub mod TargetLaws
 pub mod RefusalLaws
+pub mod FuelLaws
 pub mod CallLaws
 pub mod DigitLaws

@@ -10,7 +10,7 @@ use Rattle.rules.specs.Result.{Res, ok, err, andThen as _>>=_, andAfter 
 use Rattle.rules.specs.Chain.{Link}
 use Rattle.rules.specs.Names.{validName, key}
 use Rattle.rules.specs.Tree.{Label, keyOf, Items, end, page, file, dir, startOf}
-use Rattle.rules.specs.Control.{Above}
+use Rattle.rules.specs.Control.{Above, theRoot}
 
 pub record Path : Type 0 where
   pub directories : List ℕ
@@ -80,6 +80,18 @@ inDirectory (aDirectory l d) go = go d
 unfoldable pub directoryAt : List ℕ → Site → Above → Items → Res Place
 directoryAt [] site here t = ok (record { site = site; items = t })
 directoryAt (x ∷ xs) site here t = inDirectory (find (directoryKey x) t) (λ d. directoryAt xs (below here) (record { name = x; start = startOf d }) d)
+
+-- a path in a tree: its file's path, and where its target stands (a term of document 01): the directory that its directory names lead to, the root if there are none
+pub record Target : Type 0 where
+  pub to : Path
+  pub place : Place
+
+-- first the path (14), then its directories (15)
+unfoldable pub targetOf : List ℕ → Items → Res Target
+targetOf path t = do
+  q ← pathOf path
+  d ← directoryAt (q .directories) atRoot theRoot t
+  ok (record { to = q; place = d })
 
 -- a change of the directory that the names lead to
 abbrev pub changeIn : ℕ → (Items → Items) → Items → Items

@@ -13,10 +13,9 @@ use Rattle.rules.specs.PageSets.{bit, mem, freePages}
 use Rattle.rules.specs.Chain.{Link, spread, pagesFor}
 use Rattle.rules.specs.Tree.{Label, keyOf, Items, end, page, file, dir, allPages, keys, mapPages, Image, used}
 use Rattle.rules.specs.Names.{attribute}
-use Rattle.rules.specs.Control.{theRoot}
 use Rattle.rules.specs.Bitmap.{bitmapOf}
 use Rattle.rules.specs.Check.{check}
-use Rattle.rules.specs.Paths.{Path, pathOf, fileKey, fileLabel, Found, nothing, aFile, aDirectory, find, atRoot, Place, directoryAt, changeAt}
+use Rattle.rules.specs.Paths.{Path, fileKey, fileLabel, Found, nothing, aFile, aDirectory, find, Place, targetOf, changeAt}
 use Rattle.rules.specs.Writes.{Edit, edited, editWrites}
 
 -- a new entry, put in front by `new`, goes to the end of the first directory page with space, in chain order: `room` entries are free on this page,
@@ -80,8 +79,7 @@ plainEdit g names e i image = play g (editWrites g (bitmapOf g (used i) (i .map)
 unfoldable pub put : Geometry → List ℕ → List ℕ → List ℕ → Res (List ℕ)
 put g path bytes image = do
   i ← check g (viewOf g image)
-  q ← pathOf path
-  d ← directoryAt (q .directories) atRoot theRoot (i .tree)
-  writable (find (fileKey q) (d .items))
-  e ← putEdit g (freePages (keptPages q i) (g .pages)) q bytes d
-  ok (plainEdit g (q .directories) e i image)
+  x ← targetOf path (i .tree)
+  writable (find (fileKey (x .to)) (x .place .items))
+  e ← putEdit g (freePages (keptPages (x .to) i) (g .pages)) (x .to) bytes (x .place)
+  ok (plainEdit g (x .to .directories) e i image)

@@ -12,6 +12,13 @@ ok-inj e = cc
 pub clash : {A : Type 0} {a : A} {n p : ℕ} {C : Type 0} → err n p ≡ ok a → C
 clash {a = a} {n = n} {p = p} e = absurd (let z : _≡_ {A = ℕ} 0 1 = cc in omega arith)
 
+-- a refusal is the same whatever was asked for
+pub err-same : {A B : Type 0} {m q n p : ℕ} → _≡_ {A = Res B} (err m q) (err n p) → _≡_ {A = Res A} (err m q) (err n p)
+err-same {m = m} {q = q} {n = n} {p = p} e =
+    let i : m ≡ n = cc in
+    let j : q ≡ p = cc in
+    cc
+
 -- what a run in two steps has met, if it ends well
 pub on-then : {A B C : Type 0} (r : Res A) (f : A → Res B) (b : B) → andThen r f ≡ ok b → ((a : A) → r ≡ ok a → f a ≡ ok b → C) → C
 unfolding andThen
@@ -55,3 +62,15 @@ pub refuse-cong : {B : Type 0} (t : Bool) (n p : ℕ) (r s : Res B) → (t ≡ t
 unfolding andThen refuse-unless
 refuse-cong true n p r s h = h refl
 refuse-cong false n p r s h = refl
+
+-- three steps, however they are bracketed
+pub then-assoc : {A B C : Type 0} (r : Res A) (f : A → Res B) (h : B → Res C) → andThen (andThen r f) h ≡ andThen r (λ a. andThen (f a) h)
+unfolding andThen
+then-assoc (ok a) f h = refl
+then-assoc (err n p) f h = refl
+
+-- where a run in two steps was refused
+pub on-refused : {A B C : Type 0} (r : Res A) (f : A → Res B) (n p : ℕ) → andThen r f ≡ err n p → (r ≡ err n p → C) → ((a : A) → r ≡ ok a → f a ≡ err n p → C) → C
+unfolding andThen
+on-refused (ok a) f n p e k j = j a refl e
+on-refused {A = A} (err m q) f n p e k j = let i : _≡_ {A = Res A} (err m q) (err n p) = err-same e in k i

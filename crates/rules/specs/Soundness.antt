@@ -19,7 +19,7 @@ use Rattle.rules.specs.Names.{key}
 use Rattle.rules.specs.Tree.{Items, Token, newPage, entry, entriesIn, linkTokens, ownPages, innerPages, Map, mapPages, Image, used}
 use Rattle.rules.specs.Control.{Above, theRoot, Head, rootPage, subPage}
 use Rattle.rules.specs.Owners.{fileCount, directoryCount}
-use Rattle.rules.specs.Check.{Part, chain, directory, partPages, add, Judge, Scan, judgeFile, judgeEntry, judgeEntries, judgeDirectory, judgeSub, judgeMap, scan, check}
+use Rattle.rules.specs.Check.{Part, chain, directory, partPages, add, Judge, Scan, judgeFile, judgeEntry, judgeEntries, judgeDirectory, judgeSub, judgeMap, scan, check, scanWith, judgeMapFile}
 
 -- the pages that tokens begin are those of the chain
 abbrev pub tokenPages : List Token → List ℕ
@@ -88,14 +88,14 @@ module _ (g : Geometry) (v : View) where
     pub room : fileCount t + directoryCount t ≤ length (innerPages t)
     pub some : 1 ≤ length (ownPages t)
 
-  pub file-sound : (claimed : List ℕ) (p : ℕ) (e : Entry) (x : Part) → Within (g .pages) claimed → judgeFile g v claimed p e ≡ ok x → PartClear g claimed x
+  pub file-sound : (claimed : List ℕ) (p : ℕ) (e : Entry) (x : Part) → Within (g .pages) claimed → judgeFile g v (suc (g .pages)) claimed p e ≡ ok x → PartClear g claimed x
   unfolding judgeFile
   file-sound claimed p e x fit q = on-refuse _ _ _ _ _ q λ g₁ q. on-then _ _ _ q λ ls w q. on-refuse _ _ _ _ _ q λ g₂ q.
       let c = walk-sound (g .pages) v anyPage (suc (g .pages)) 0 claimed p (e .start) ls fit w in
       subst (PartClear g claimed) (ok-inj q) (record { clear = c .clear; room = omega (arith, c .some, length-pages ls) })
 
   pub entry-sound : (sub : Judge) → JudgeSound g sub → (here : Above) (claimed : List ℕ) (p : ℕ) (seen : List ℕ) (e : Entry) (x : Part)
-      → Within (g .pages) claimed → judgeEntry g v sub here claimed p seen e ≡ ok x → PartClear g claimed x
+      → Within (g .pages) claimed → judgeEntry g v (suc (g .pages)) sub here claimed p seen e ≡ ok x → PartClear g claimed x
   unfolding judgeEntry
   entry-sound sub h here claimed p seen e x fit q =
       on-then _ _ _ q λ u g₁ q. on-refuse _ _ _ _ _ q λ g₂ q. on-choose _ _ _ _ q
@@ -103,7 +103,7 @@ module _ (g : Geometry) (v : View) where
       (λ k q. file-sound claimed p e x fit q)
 
   pub entries-sound : (sub : Judge) → JudgeSound g sub → (here : Above) (ts : List Token) (claimed : List ℕ) (p : ℕ) (seen : List ℕ) (t : Items)
-      → Within (g .pages) claimed → judgeEntries g v sub here claimed p seen ts ≡ ok t → EntriesClear g claimed ts t
+      → Within (g .pages) claimed → judgeEntries g v (suc (g .pages)) sub here claimed p seen ts ≡ ok t → EntriesClear g claimed ts t
   unfolding judgeEntries
   entries-sound sub h here [] claimed p seen t fit q =
       subst (EntriesClear g claimed []) (ok-inj q) (record { clear = λ z. omega (arith, fit z); room = omega arith; own-pages = refl })
@@ -120,7 +120,7 @@ module _ (g : Geometry) (v : View) where
       })
 
   pub directory-sound : (sub : Judge) → JudgeSound g sub → (test : Test) (here : Above) (claimed : List ℕ) (p : ℕ) (t : Items)
-      → Within (g .pages) claimed → judgeDirectory g v sub test here claimed p ≡ ok t → DirectoryClear test claimed p (here .start) t
+      → Within (g .pages) claimed → judgeDirectory g v (suc (g .pages)) sub test here claimed p ≡ ok t → DirectoryClear test claimed p (here .start) t
   unfolding judgeDirectory
   directory-sound sub h test here claimed p t fit q = on-then _ _ _ q λ ls w q.
       let c = walk-sound (g .pages) v test (suc (g .pages)) 0 claimed p (here .start) ls fit w in
@@ -139,16 +139,16 @@ module _ (g : Geometry) (v : View) where
   pub directory-part : (test : Test) (claimed : List ℕ) (p start : ℕ) (t : Items) → DirectoryClear test claimed p start t → PartClear g claimed (directory t)
   directory-part test claimed p start t d = record { clear = λ z. simp count-append (d .clear z); room = simp length-append (omega (arith, d .room, d .some)) }
 
-  pub sub-sound : (levels : ℕ) → JudgeSound g (judgeSub g v levels)
+  pub sub-sound : (levels : ℕ) → JudgeSound g (judgeSub g v (suc (g .pages)) levels)
   unfolding judgeSub
   sub-sound zero here claimed p e d fit q = clash q
   sub-sound (suc levels) here claimed p e d fit q = on-refuse _ _ _ _ _ q λ g₁ q. on-refuse _ _ _ _ _ q λ g₂ q.
       directory-part (subPage g here) claimed p (e .start) d
-      (directory-sound (judgeSub g v levels) (sub-sound levels) (subPage g here) (record { name = e .name; start = e .start }) claimed p d fit q)
+      (directory-sound (judgeSub g v (suc (g .pages)) levels) (sub-sound levels) (subPage g here) (record { name = e .name; start = e .start }) claimed p d fit q)
 
   -- the bitmap file's pages
-  pub map-sound : (h : Head) (m : Map) → judgeMap g v h ≡ ok m → Within (g .pages) (mapPages m)
-  unfolding judgeMap
+  pub map-sound : (h : Head) (m : Map) → judgeMap g v (suc (g .pages)) h ≡ ok m → Within (g .pages) (mapPages m)
+  unfolding judgeMap judgeMapFile
   map-sound h m q = on-choose _ _ _ _ q
       (λ k q. subst (λ (m : Map). Within (g .pages) (mapPages m)) (ok-inj q) (λ z. omega arith))
       (λ k q. on-refuse _ _ _ _ _ q λ g₁ q. on-then _ _ _ q λ ls w q. on-refuse _ _ _ _ _ q λ g₂ q. on-refuse _ _ _ _ _ q λ g₃ q.
@@ -156,10 +156,10 @@ module _ (g : Geometry) (v : View) where
       subst (λ (m : Map). Within (g .pages) (mapPages m)) (ok-inj q) (λ z. omega (arith, c .clear z)))
 
   pub scan-sound : (s : Scan) → scan g v ≡ ok s → ImageClear g (s .image)
-  unfolding scan
+  unfolding scan scanWith
   scan-sound s q = on-then _ _ _ q λ x a q. on-then _ _ _ q λ h b q. on-then _ _ _ q λ m c q. on-then _ _ _ q λ t d q.
       let f = map-sound h m c in
-      let r = directory-sound (judgeSub g v 8) (sub-sound 8) (rootPage g) theRoot (mapPages m) 0 t f d in
+      let r = directory-sound (judgeSub g v (suc (g .pages)) 8) (sub-sound 8) (rootPage g) theRoot (mapPages m) 0 t f d in
       subst (λ (s : Scan). ImageClear g (s .image)) (ok-inj q) (record {
         clear = λ z. simp count-append (r .clear z);
         room = simp length-append (omega (arith, r .room, r .some));

@@ -23,7 +23,8 @@ use Rattle.chain.specs.declared.Claim.the-variants as claim
 use Rattle.chain.specs.Claims.{Claims}
 use Rattle.walk.specs.declared.Walk.the-variants as w
 use Rattle.walk.proofs.Parts.{test-file, IsClaimed, claimed-chain, claim-refused}
-use Rattle.volume.specs.Scans.{judgeFileMap, noEntries, MapClaimed}
+use Rattle.rules.specs.Check.{judgeMapFile}
+use Rattle.volume.specs.Scans.{noEntries, MapClaimed}
 
 -- an empty table
 pub empty-table : (N : ℕ) (t : List ℕ) → t ≡ replicate N 0 → Represents t [] × (length t ≡ N) × (inUse t ≡ 0)
@@ -32,32 +33,32 @@ empty-table N t z =
     (r, ap length z ∙ length-replicate {A = ℕ} N 0, represents-length t [] r)
 
 module _ (g : Geometry) (v : View) (start pages-told : ℕ) where
-  pub map-none : start ≡ 0 → judgeFileMap g v start pages-told ≡ err 6 0
-  unfolding judgeFileMap
+  pub map-none : start ≡ 0 → judgeMapFile g v (suc (g .pages)) start pages-told ≡ err 6 0
+  unfolding judgeMapFile
   map-none z = simp (le-ltb 0 start (omega arith), refuse-false, then-err)
 
   abbrev chainOf : Res (List Link)
   chainOf = walk (g .pages) v (testOf g kind.File) (suc (g .pages)) 0 [] 0 start
 
   module _ (s : start ≡ 0 → ⊥) where
-    map-step : judgeFileMap g v start pages-told
+    map-step : judgeMapFile g v (suc (g .pages)) start pages-told
         ≡ andThen chainOf (λ ls. andThen (refuse-unless (eqb pages-told (length ls)) 8 0) (λ _. andThen (refuse-unless (eqb (length (content ls)) (bitmapSize g)) 8 0) (λ _. ok (inFile ls))))
-    unfolding judgeFileMap
+    unfolding judgeMapFile
     map-step = simp (lt-ltb 0 start (omega arith), refuse-true, then-ok, test-file g)
 
     module _ (t u : List ℕ) (z : t ≡ replicate (g .pages) 0) (r : Claim) (k : Claims g v (testOf g kind.File) 2 0 start t r u) where
-      pub map-refused : (n p : ℕ) → r ≡ claim.Refused n p → judgeFileMap g v start pages-told ≡ err n p
+      pub map-refused : (n p : ℕ) → r ≡ claim.Refused n p → judgeMapFile g v (suc (g .pages)) start pages-told ≡ err n p
       map-refused n p i = simp (map-step, claim-refused chainOf 2 n p t u r (k [] (empty-table (g .pages) t z .0)) i, then-err)
 
       module _ (n b : ℕ) (i : r ≡ claim.Chain n b) where
         is-claimed : IsClaimed chainOf 2 n b t u
         is-claimed = claimed-chain chainOf 2 n b t u r (k [] (empty-table (g .pages) t z .0)) i
 
-        pub map-counted : (pages-told ≡ n → ⊥) → judgeFileMap g v start pages-told ≡ err 8 0
+        pub map-counted : (pages-told ≡ n → ⊥) → judgeMapFile g v (suc (g .pages)) start pages-told ≡ err 8 0
         map-counted y = simp (map-step, is-claimed .chain-is, then-ok, ne-eqb pages-told (length (is-claimed .links)) (λ j. y (j ∙ sym (is-claimed .pages-are))), refuse-false, then-err)
 
         module _ (y : pages-told ≡ n) (m : ℕ) (e : m ≡ bitmapSize g) where
-          pub map-short : (b ≡ m → ⊥) → judgeFileMap g v start pages-told ≡ err 8 0
+          pub map-short : (b ≡ m → ⊥) → judgeMapFile g v (suc (g .pages)) start pages-told ≡ err 8 0
           map-short x = simp (
             map-step,
             is-claimed .chain-is,

@@ -29,7 +29,7 @@ use Rattle.rules.specs.Tree.{Items, ownPages, innerPages, allPages, Map, inRoot
 use Rattle.rules.specs.Control.{theRoot, Head, headOf, mapStart, mapCount, rootPage, localAllowed, placeZeros, fieldAt}
 use Rattle.rules.specs.Owners.{own, owners}
 use Rattle.rules.specs.OwnerLaws.{nonzero, Represents, represents-none, represents-own, represents-length, inUse, length-own, represents-owners}
-use Rattle.rules.specs.Check.{Scan, rawBits, judgeBits, judgeMap, judgeDirectory, judgeSub, scan, check}
+use Rattle.rules.specs.Check.{Scan, rawBits, judgeBits, judgeMap, judgeDirectory, judgeSub, scan, check, scanWith, judgeMapFile}
 use Rattle.rules.specs.Soundness.{scan-sound}
 use Rattle.directory.specs.declared.control.Root.{Root}
 use Rattle.directory.specs.declared.control.Root.the-variants as root
@@ -37,7 +37,7 @@ use Rattle.directory.specs.Faults.{control}
 use Rattle.walk.specs.declared.Walk.{Walk}
 use Rattle.walk.specs.declared.Walk.the-variants as w
 use Rattle.walk.specs.Walks.{Answers, plusDirectory, ownDirectory}
-use Rattle.volume.specs.Scans.{rootOf, judgeFileMap, noEntries, MapClaimed, Scanned}
+use Rattle.volume.specs.Scans.{rootOf, noEntries, MapClaimed, Scanned}
 use Rattle.chain.specs.KnownChain.{ChainStands}
 use Rattle.chain.proofs.Following.{chain-stands}
 
@@ -69,14 +69,14 @@ head-local g b h e l =
 -- ---- what the root's control field says
 module _ (g : Geometry) (v : View) where
   abbrev walked : Map → Res Items
-  walked m = judgeDirectory g v (judgeSub g v 8) (rootPage g) theRoot (mapPages m) 0
+  walked m = judgeDirectory g v (suc (g .pages)) (judgeSub g v (suc (g .pages)) 8) (rootPage g) theRoot (mapPages m) 0
 
   -- the rest of the scan, the bitmap's place known
   abbrev rest : Head → Map → Res Scan
   rest h m = andThen (walked m) (λ t. ok (record { image = record { tree = t; map = m }; raw = rawBits h m }))
 
   abbrev onHead : Head → Res Scan
-  onHead h = andThen (judgeMap g v h) (rest h)
+  onHead h = andThen (judgeMap g v (suc (g .pages)) h) (rest h)
 
   pub record IsHead (h : Head) : Type 0 where
     pub bytes : List ℕ
@@ -85,7 +85,7 @@ module _ (g : Geometry) (v : View) where
     pub head : headOf g bytes ≡ ok h
 
   from-head : (h : Head) → IsHead h → scan g v ≡ onHead h
-  unfolding scan
+  unfolding scan scanWith
   from-head h k = simp (packet-good v 0 (k .bytes) (k .next) (k .packet), then-ok, k .head)
 
   -- the answer of the root's control field, by what stands in it
@@ -95,11 +95,11 @@ module _ (g : Geometry) (v : View) where
     remote : (h : Head) → IsHead h → r ≡ root.Remote (mapStart (g .width) h) (mapCount (g .width) h) → h .local ≡ false → Said r
 
   bad-page : v 0 ≡ bad → scan g v ≡ err 2 0
-  unfolding scan packetAt
+  unfolding scan scanWith packetAt
   bad-page e = simp (e, then-err)
 
   bad-head : (b : List ℕ) (n k p : ℕ) → v 0 ≡ good b n → headOf g b ≡ err k p → scan g v ≡ err k 0
-  unfolding scan
+  unfolding scan scanWith
   bad-head b n k p e q = let z : scan g v ≡ err k p = simp (packet-good v 0 b n e, then-ok, q, then-err) in z ∙ ap (err k) (sym (head-page g b k p q))
 
   by-place : (r : Root) (h : Head) → IsHead h → (l : Bool) → h .local ≡ l → r ≡ choose l root.Local (root.Remote (mapStart (g .width) h) (mapCount (g .width) h)) → Said r
@@ -151,10 +151,10 @@ module _ (g : Geometry) (v : View) where
 
   pub record InFile (start n : ℕ) : Type 0 where
     pub head : Head
-    pub scan-is : scan g v ≡ andThen (judgeFileMap g v start n) (rest head)
+    pub scan-is : scan g v ≡ andThen (judgeMapFile g v (suc (g .pages)) start n) (rest head)
 
   pub scan-remote : (r : Root) (start n : ℕ) → r ≡ rootOf g (v 0) → r ≡ root.Remote start n → InFile start n
-  unfolding judgeMap judgeFileMap
+  unfolding judgeMap
   scan-remote r start n q i = elim (said r q) [
     | refused m j k ↦ absurd (let z : 2 ≡ 1 = ap told (sym j ∙ i) in omega arith)
     | local h k j l ↦ absurd (let z : 0 ≡ 1 = ap told (sym j ∙ i) in omega arith)
@@ -205,14 +205,14 @@ mapped g m n t f l z =
 -- what the bitmap file's claiming gives
 pub record FileMapped (g : Geometry) (v : View) (start count n : ℕ) (u : List ℕ) : Type 0 where
   pub map : Map
-  pub map-is : judgeFileMap g v start count ≡ ok map
+  pub map-is : judgeMapFile g v (suc (g .pages)) start count ≡ ok map
   pub pages-are : n ≡ length (mapPages map)
   pub table-is : u ≡ own 2 (mapPages map) (replicate (g .pages) 0)
   pub inside : Within (g .pages) (mapPages map)
   pub some : 1 ≤ n
 
 pub file-mapped : (g : Geometry) (v : View) (start count : ℕ) (r : Walk) (u : List ℕ) (d : Totals) → MapClaimed g v start count r u → r ≡ w.Done d → FileMapped g v start count (d .used) u
-unfolding judgeFileMap MapClaimed
+unfolding judgeMapFile MapClaimed
 file-mapped g v start count r u d k i =
     let a : MapClaimed g v start count (w.Done d) u = subst (λ (x : Walk). MapClaimed g v start count x u) i k in
     let n : d .used ≡ length (mapPages (a .0)) = ap (λ (x : Totals). x .used) (a .2) in
@@ -228,11 +228,11 @@ file-mapped g v start count r u d k i =
       some = omega (arith, n, ap (λ (x : Map). length (mapPages x)) m, length-pages ls, c .some);
     }
 
-pub map-refused-is : (g : Geometry) (v : View) (start count : ℕ) (r : Walk) (u : List ℕ) (n p : ℕ) → MapClaimed g v start count r u → r ≡ w.Refused n p → judgeFileMap g v start count ≡ err n p
+pub map-refused-is : (g : Geometry) (v : View) (start count : ℕ) (r : Walk) (u : List ℕ) (n p : ℕ) → MapClaimed g v start count r u → r ≡ w.Refused n p → judgeMapFile g v (suc (g .pages)) start count ≡ err n p
 unfolding MapClaimed
 map-refused-is g v start count r u n p k i = subst (λ (x : Walk). MapClaimed g v start count x u) i k
 
-pub file-refused : (g : Geometry) (v : View) (start count n p : ℕ) → InFile g v start count → judgeFileMap g v start count ≡ err n p → scan g v ≡ err n p
+pub file-refused : (g : Geometry) (v : View) (start count n p : ℕ) → InFile g v start count → judgeMapFile g v (suc (g .pages)) start count ≡ err n p → scan g v ≡ err n p
 file-refused g v start count n p k e = k .scan-is ∙ ap (λ (x : Res Map). andThen x (rest g v (k .head))) e ∙ then-err n p (rest g v (k .head))
 
 pub file-scan : (g : Geometry) (v : View) (start count n : ℕ) (u : List ℕ) (k : InFile g v start count) (m : FileMapped g v start count n u) → scan g v ≡ rest g v (k .head) (m .map)
@@ -302,7 +302,7 @@ pub record RawFile (g : Geometry) (v : View) (start : ℕ) (s : Scan) : Type 0 w
   pub raw-is : s .raw ≡ content links
 
 pub raw-file : (g : Geometry) (v : View) (start count : ℕ) (k : InFile g v start count) (s : Scan) → scan g v ≡ ok s → RawFile g v start s
-unfolding judgeFileMap
+unfolding judgeMapFile
 raw-file g v start count k s e =
     on-then _ _ _ (sym (k .scan-is) ∙ e) λ m q z. on-refuse _ _ _ _ _ q λ g₁ q. on-then _ _ _ q λ ls y q. on-refuse _ _ _ _ _ q λ g₂ q. on-refuse _ _ _ _ _ q λ g₃ q.
     let c = walk-sound (g .pages) v anyPage (suc (g .pages)) 0 [] 0 start ls (λ x. omega arith) y in

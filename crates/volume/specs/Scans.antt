@@ -1,20 +1,17 @@
 -- For contracts: the two halves of the check over an owner table.
 use mathlib.Core.Path.{_≡_}
-use mathlib.Core.List.{List, []}
+use mathlib.Core.List.{List}
 use Prim.Native.Nat.{ℕ, suc}
-use lib.Dec.{ltb, eqb}
 use lib.ListN.{length, replicate}
 use Rattle.geometry.specs.declared.Geometry.{Geometry}
-use Rattle.geometry.specs.Geometry.{bitmapSize}
 use Rattle.packet.specs.Packet.{Packet, bad, good, View}
 use Rattle.rules.specs.declared.Totals.{Totals}
-use Rattle.rules.specs.Result.{Res, ok, err, andThen as _>>=_, andAfter as _>>_, refuse-unless}
-use Rattle.rules.specs.Chain.{content, anyPage, walk}
-use Rattle.rules.specs.Tree.{Map, inFile, mapPages, Image}
+use Rattle.rules.specs.Result.{ok, err, andThen as _>>=_, andAfter as _>>_}
+use Rattle.rules.specs.Tree.{mapPages, Image}
 use Rattle.rules.specs.Control.{theRoot, headOf, rootPage}
 use Rattle.rules.specs.Owners.{own, owners, totals}
 use Rattle.rules.specs.OwnerLaws.{Represents}
-use Rattle.rules.specs.Check.{Scan, judgeBits, judgeDirectory, judgeSub, scan, check}
+use Rattle.rules.specs.Check.{Scan, judgeMapFile, judgeBits, judgeDirectory, judgeSub, scan, check}
 use Rattle.directory.specs.declared.control.Root.{Root}
 use Rattle.directory.specs.declared.control.Root.the-variants as root
 use Rattle.directory.specs.Faults.{control}
@@ -29,26 +26,17 @@ abbrev pub rootOf : Geometry → Packet → Root
 rootOf g bad = root.Refused 2
 rootOf g (good b n) = control (g .width) (headOf g b)
 
--- a bitmap file's start page (6), its chain, its page count (8), then its bytes (8)
-unfoldable pub judgeFileMap : Geometry → View → ℕ → ℕ → Res Map
-judgeFileMap g v start pages = do
-  refuse-unless (ltb 0 start) 6 0
-  ls ← walk (g .pages) v anyPage (suc (g .pages)) 0 [] 0 start
-  refuse-unless (eqb pages (length ls)) 8 0
-  refuse-unless (eqb (length (content ls)) (bitmapSize g)) 8 0
-  ok (inFile ls)
-
 -- no entry yet, so many pages in use
 abbrev pub noEntries : ℕ → Totals
 noEntries n = record { used = n; files = 0; directories = 0 }
 
 -- the bitmap file claimed in an empty table
 unfoldable pub MapClaimed : Geometry → View → ℕ → ℕ → Walk → List ℕ → Type 0
-MapClaimed g v start pages r u = Answers (λ m. noEntries (length (mapPages m))) (λ m. own 2 (mapPages m) (replicate (g .pages) 0)) (judgeFileMap g v start pages) r u
+MapClaimed g v start pages r u = Answers (λ m. noEntries (length (mapPages m))) (λ m. own 2 (mapPages m) (replicate (g .pages) 0)) (judgeMapFile g v (suc (g .pages)) start pages) r u
 
 -- the root walked in a table that has the bitmap file
 abbrev pub RootWalked : Geometry → View → ℕ → List ℕ → Walk → List ℕ → Type 0
-RootWalked g v n t r u = (claimed : List ℕ) → Represents t claimed → Answers (plusDirectory (noEntries n)) (ownDirectory 1 0 t) (judgeDirectory g v (judgeSub g v 8) (rootPage g) theRoot claimed 0) r u
+RootWalked g v n t r u = (claimed : List ℕ) → Represents t claimed → Answers (plusDirectory (noEntries n)) (ownDirectory 1 0 t) (judgeDirectory g v (suc (g .pages)) (judgeSub g v (suc (g .pages)) 8) (rootPage g) theRoot claimed 0) r u
 
 -- the first half of the check
 abbrev pub Scanned : Geometry → View → Walk → List ℕ → Type 0

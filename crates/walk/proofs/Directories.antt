@@ -30,7 +30,7 @@ use Rattle.chain.proofs.Following.{chain-stands}
 
 module _ (g : Geometry) (v : View) (test : Test) (owner from start n b : ℕ) (t u : List ℕ) (r : Claim) (k : Claims g v test owner from start t r u) (l : length t ≡ g .pages) where
   pub refused-directory : (levels name : ℕ) (m p : ℕ) → r ≡ claim.Refused m p → (claimed : List ℕ) → Represents t claimed
-      → judgeDirectory g v (judgeSub g v levels) test (record { name = name; start = start }) claimed from ≡ err m p
+      → judgeDirectory g v (suc (g .pages)) (judgeSub g v (suc (g .pages)) levels) test (record { name = name; start = start }) claimed from ≡ err m p
   refused-directory levels name m p i claimed h =
       directory-refused g v levels test (record { name = name; start = start }) claimed from m p (claim-refused (walk (g .pages) v test (suc (g .pages)) 0 claimed from start) owner m p t u r (k claimed h) i)
 
@@ -57,7 +57,7 @@ module _ (g : Geometry) (v : View) (test : Test) (owner from start n b : ℕ) (t
       -- an answer for the entries of every such chain answers the directory
       whole-directory : (levels name : ℕ) (x : Walk) (y : List ℕ)
           → ((others : List ℕ) (ls : List Link) → Represents u others → ChainStands g v start ls → LeftOver g v levels name start others start [] (linkTokens g (controlSize g) ls) begun u x y)
-          → Answers (plusDirectory c) (ownDirectory owner (c .files + c .directories) t) (judgeDirectory g v (judgeSub g v levels) test (record { name = name; start = start }) claimed from) x y
+          → Answers (plusDirectory c) (ownDirectory owner (c .files + c .directories) t) (judgeDirectory g v (suc (g .pages)) (judgeSub g v (suc (g .pages)) levels) test (record { name = name; start = start }) claimed from) x y
       whole-directory levels name x y z =
           let ls = is-claimed .links in
           directory-rest g v levels test (record { name = name; start = start }) claimed from ls owner n c t (is-claimed .chain-is) (is-claimed .pages-are) (λ x. simp count-append (is-chain .clear x)) x y
@@ -65,13 +65,13 @@ module _ (g : Geometry) (v : View) (test : Test) (owner from start n b : ℕ) (t
           (z (pages ls ++ claimed) ls (subst (λ (q : List ℕ). Represents q (pages ls ++ claimed)) (sym (is-claimed .table-is)) owned) (chain-stands g v test claimed start ls is-chain)))
 
       pub whole-refused : (levels name m p : ℕ)
-          → ((others : List ℕ) (ls : List Link) → Represents u others → ChainStands g v start ls → judgeEntries g v (judgeSub g v levels) (record { name = name; start = start }) others start [] (linkTokens g (controlSize g) ls) ≡ err m p)
-          → judgeDirectory g v (judgeSub g v levels) test (record { name = name; start = start }) claimed from ≡ err m p
+          → ((others : List ℕ) (ls : List Link) → Represents u others → ChainStands g v start ls → judgeEntries g v (suc (g .pages)) (judgeSub g v (suc (g .pages)) levels) (record { name = name; start = start }) others start [] (linkTokens g (controlSize g) ls) ≡ err m p)
+          → judgeDirectory g v (suc (g .pages)) (judgeSub g v (suc (g .pages)) levels) test (record { name = name; start = start }) claimed from ≡ err m p
       whole-refused levels name m p z = whole-directory levels name (w.Refused m p) [] z
 
       pub whole-done : (levels name : ℕ) (d : Totals) (y : List ℕ)
           → ((others : List ℕ) (ls : List Link) → Represents u others → ChainStands g v start ls → LeftOver g v levels name start others start [] (linkTokens g (controlSize g) ls) begun u (w.Done d) y)
-          → Answers (plusDirectory c) (ownDirectory owner (c .files + c .directories) t) (judgeDirectory g v (judgeSub g v levels) test (record { name = name; start = start }) claimed from) (w.Done d) y
+          → Answers (plusDirectory c) (ownDirectory owner (c .files + c .directories) t) (judgeDirectory g v (suc (g .pages)) (judgeSub g v (suc (g .pages)) levels) test (record { name = name; start = start }) claimed from) (w.Done d) y
       whole-done levels name d y z = whole-directory levels name (w.Done d) y z
 
     -- a chain is known, and the totals are good

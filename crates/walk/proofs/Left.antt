@@ -1,7 +1,7 @@
 -- The walk over a directory's entries as the code goes: a place in the chain, what was met, and that whatever answers what is left answers all.
 use mathlib.Core.Path.{_≡_, refl, ap, ap₂, sym, _∙_, subst}
 use mathlib.Core.List.{List, [], _∷_, _++_, append-assoc}
-use Prim.Native.Nat.{ℕ, _+_, _*_, _≤_, _<_}
+use Prim.Native.Nat.{ℕ, suc, _+_, _*_, _≤_, _<_}
 use native.Mathlib.Omega.{arith}
 use lib.Dec.{ltb}
 use lib.ListN.{length, take, drop, length-append}
@@ -39,7 +39,7 @@ module _ (g : Geometry) (v : View) (levels name start : ℕ) where
   here = record { name = name; start = start }
 
   abbrev pub LeftOver : List ℕ → ℕ → List ℕ → List Token → Totals → List ℕ → Walk → List ℕ → Type 0
-  LeftOver = Rest g v (judgeSub g v levels) here
+  LeftOver = Rest g v (judgeSub g v (suc (g .pages)) levels) here
 
   -- after m entries of the chain ls₀, whose walk began with the totals c₀ and the table t₀
   pub record Left (c₀ : Totals) (t₀ claimed₀ : List ℕ) (ls₀ : List Link) (t : List ℕ) (c : Totals) (s : Slot) (m : ℕ) : Type 0 where
@@ -92,20 +92,20 @@ module _ (g : Geometry) (image : List ℕ) (fit : Fit g image) (levels name star
       on-tokens r u z = finish r u (subst (λ (x : List Token). LeftOver g v levels name start claimed (s .page) seen x c t r u) (sym (read .split)) z)
 
       module _ (r : Walk) (u : List ℕ) (z : EntryWalked g v levels name start (s .page) m e c t r u) where
-        answered : (x : Walk) → r ≡ x → Answers (plusPart c) (ownPart (c .files + c .directories) t) (judgeEntry g v (judgeSub g v levels) (here g v levels name start) claimed (s .page) seen e) x u
-        answered x o = subst (λ (x : Walk). Answers (plusPart c) (ownPart (c .files + c .directories) t) (judgeEntry g v (judgeSub g v levels) (here g v levels name start) claimed (s .page) seen e) x u) o
+        answered : (x : Walk) → r ≡ x → Answers (plusPart c) (ownPart (c .files + c .directories) t) (judgeEntry g v (suc (g .pages)) (judgeSub g v (suc (g .pages)) levels) (here g v levels name start) claimed (s .page) seen e) x u
+        answered x o = subst (λ (x : Walk). Answers (plusPart c) (ownPart (c .files + c .directories) t) (judgeEntry g v (suc (g .pages)) (judgeSub g v (suc (g .pages)) levels) (here g v levels name start) claimed (s .page) seen e) x u) o
             (z claimed seen represents (met-names (key (e .name) (e .extension))))
 
         pub left-refused : (n p : ℕ) → r ≡ w.Refused n p → Whole (w.Refused n p) u
-        left-refused n p o = on-tokens (w.Refused n p) u (rest-refused g v (judgeSub g v levels) (here g v levels name start) claimed (s .page) seen e (read .later) c t n p u (answered (w.Refused n p) o))
+        left-refused n p o = on-tokens (w.Refused n p) u (rest-refused g v (judgeSub g v (suc (g .pages)) levels) (here g v levels name start) claimed (s .page) seen e (read .later) c t n p u (answered (w.Refused n p) o))
 
         module _ (l : length t ≡ g .pages) where
-          entered : (x : Part) → judgeEntry g v (judgeSub g v levels) (here g v levels name start) claimed (s .page) seen e ≡ ok x
+          entered : (x : Part) → judgeEntry g v (suc (g .pages)) (judgeSub g v (suc (g .pages)) levels) (here g v levels name start) claimed (s .page) seen e ≡ ok x
               → Now (ownPart (c .files + c .directories) t x) (plusPart c x) (advanced s) (m + 1)
           entered x j =
               let k = key (e .name) (e .extension) in
               let f : Within (g .pages) claimed = subst (λ (n : ℕ). Within n claimed) l (represents-within t claimed represents) in
-              let p = entry-sound g v (judgeSub g v levels) (sub-sound g v levels) (here g v levels name start) claimed (s .page) seen e x f j in
+              let p = entry-sound g v (judgeSub g v (suc (g .pages)) levels) (sub-sound g v levels) (here g v levels name start) claimed (s .page) seen e x f j in
               record {
                 claimed = partPages x ++ claimed;
                 seen = k ∷ seen;
@@ -117,7 +117,7 @@ module _ (g : Geometry) (image : List ℕ) (fit : Fit g image) (levels name star
                 keys-are = keys-are ∙ ap (λ (x : List Token). before ++ tokenKeys x) (read .split) ∙ sym (append-assoc before (k ∷ []) (tokenKeys (read .later)));
                 met = omega (arith, met, length-append before (k ∷ []));
                 same = λ y. omega (arith, same y, count-append y before (k ∷ []));
-                finish = λ r u z. on-tokens r u (rest-entry g v (judgeSub g v levels) (here g v levels name start) claimed (s .page) seen e (read .later) c t x j r u z);
+                finish = λ r u z. on-tokens r u (rest-entry g v (judgeSub g v (suc (g .pages)) levels) (here g v levels name start) claimed (s .page) seen e (read .later) c t x j r u z);
               }
 
           -- past it, with one entry less to go
@@ -129,7 +129,7 @@ module _ (g : Geometry) (image : List ℕ) (fit : Fit g image) (levels name star
     module _ (i : s .count ≤ s .at) where
       pub left-done : s .next .page ≡ 0 → Whole (w.Done c) t
       left-done z = finish (w.Done c) t (subst (λ (x : List Token). LeftOver g v levels name start claimed (s .page) seen x c t (w.Done c) t) (sym (no-more g image fit (length ls₀) s ts ahead i z))
-          (rest-end g v (judgeSub g v levels) (here g v levels name start) claimed (s .page) seen c t))
+          (rest-end g v (judgeSub g v (suc (g .pages)) levels) (here g v levels name start) claimed (s .page) seen c t))
 
       module _ (z : s .next .page ≡ 0 → ⊥) where
         -- there is a next page
@@ -151,7 +151,7 @@ module _ (g : Geometry) (image : List ℕ) (fit : Fit g image) (levels name star
               met = met;
               same = same;
               finish = λ r u a. finish r u (subst (λ (x : List Token). LeftOver g v levels name start claimed (s .page) seen x c t r u) (sym (k .split))
-                  (rest-page g v (judgeSub g v levels) (here g v levels name start) claimed (s .page) seen (s′ .page) (k .later) c t r u a));
+                  (rest-page g v (judgeSub g v (suc (g .pages)) levels) (here g v levels name start) claimed (s .page) seen (s′ .page) (k .later) c t r u a));
             }
 
   -- the first page
@@ -170,7 +170,7 @@ module _ (g : Geometry) (image : List ℕ) (fit : Fit g image) (levels name star
         met = refl;
         same = λ x. refl;
         finish = λ x u a. subst (λ (y : List Token). LeftOver g v levels name start claimed₀ start [] y c₀ t₀ x u) (sym (k .split))
-            (rest-page g v (judgeSub g v levels) (here g v levels name start) claimed₀ start [] (s .page) (k .later) c₀ t₀ x u a);
+            (rest-page g v (judgeSub g v (suc (g .pages)) levels) (here g v levels name start) claimed₀ start [] (s .page) (k .later) c₀ t₀ x u a);
       })
 
 -- for the code's own needs: one list of claimed pages and one chain

@@ -144,26 +144,26 @@ module _ (g : Geometry) (v : View) (claimed : List ℕ) (p : ℕ) (e : Entry) wh
   abbrev chainOf : Res (List Link)
   chainOf = walk (g .pages) v (testOf g kind.File) (suc (g .pages)) 0 claimed p (e .start)
 
-  pub file-none : e .start ≡ 0 → judgeFile g v claimed p e ≡ err 6 p
+  pub file-none : e .start ≡ 0 → judgeFile g v (suc (g .pages)) claimed p e ≡ err 6 p
   unfolding judgeFile
   file-none z = simp (le-ltb 0 (e .start) (omega arith), refuse-false, then-err)
 
   module _ (s : e .start ≡ 0 → ⊥) where
-    file-step : judgeFile g v claimed p e ≡ andThen chainOf (λ ls. andThen (refuse-unless (eqb (e .pages) (length ls)) 8 p) (λ _. ok (chain ls)))
+    file-step : judgeFile g v (suc (g .pages)) claimed p e ≡ andThen chainOf (λ ls. andThen (refuse-unless (eqb (e .pages) (length ls)) 8 p) (λ _. ok (chain ls)))
     unfolding judgeFile
     file-step = simp (lt-ltb 0 (e .start) (omega arith), refuse-true, then-ok, test-file g)
 
     module _ (owner : ℕ) (t u : List ℕ) (r : Claim) (k : Agrees 0 0 owner t chainOf r u) where
-      pub file-refused : (n q : ℕ) → r ≡ claim.Refused n q → judgeFile g v claimed p e ≡ err n q
+      pub file-refused : (n q : ℕ) → r ≡ claim.Refused n q → judgeFile g v (suc (g .pages)) claimed p e ≡ err n q
       file-refused n q i = simp (file-step, claim-refused chainOf owner n q t u r k i, then-err)
 
-      pub file-counted : (n b : ℕ) → r ≡ claim.Chain n b → (e .pages ≡ n → ⊥) → judgeFile g v claimed p e ≡ err 8 p
+      pub file-counted : (n b : ℕ) → r ≡ claim.Chain n b → (e .pages ≡ n → ⊥) → judgeFile g v (suc (g .pages)) claimed p e ≡ err 8 p
       file-counted n b i y =
           let a = claimed-chain chainOf owner n b t u r k i in
           simp (file-step, a .chain-is, then-ok, ne-eqb (e .pages) (length (a .links)) (λ j. y (j ∙ sym (a .pages-are))), refuse-false, then-err)
 
       pub file-done : (c : Totals) (n b : ℕ) → r ≡ claim.Chain n b → owner ≡ 3 + (c .files + c .directories) → e .pages ≡ n
-          → Answers (plusPart c) (ownPart (c .files + c .directories) t) (judgeFile g v claimed p e) (w.Done (record { used = c .used + n; files = c .files + 1; directories = c .directories })) u
+          → Answers (plusPart c) (ownPart (c .files + c .directories) t) (judgeFile g v (suc (g .pages)) claimed p e) (w.Done (record { used = c .used + n; files = c .files + 1; directories = c .directories })) u
       file-done c n b i o y =
           let a = claimed-chain chainOf owner n b t u r k i in (
             chain (a .links),
@@ -179,44 +179,44 @@ then-after (ok a) s k = refl
 then-after (err n p) s k = refl
 
 sub-step : (g : Geometry) (v : View) (here : Above) (claimed : List ℕ) (p : ℕ) (e : Entry) (levels : ℕ)
-    → judgeSub g v levels here claimed p e ≡ andAfter (judgeBelow levels p e) (judgeDirectory g v (judgeSub g v (levels - 1)) (subPage g here) (record { name = e .name; start = e .start }) claimed p)
+    → judgeSub g v (suc (g .pages)) levels here claimed p e ≡ andAfter (judgeBelow levels p e) (judgeDirectory g v (suc (g .pages)) (judgeSub g v (suc (g .pages)) (levels - 1)) (subPage g here) (record { name = e .name; start = e .start }) claimed p)
 unfolding judgeSub judgeBelow
-sub-step g v here claimed p e zero = sym (then-err 12 p (λ _. judgeDirectory g v (judgeSub g v (0 - 1)) (subPage g here) (record { name = e .name; start = e .start }) claimed p))
+sub-step g v here claimed p e zero = sym (then-err 12 p (λ _. judgeDirectory g v (suc (g .pages)) (judgeSub g v (suc (g .pages)) (0 - 1)) (subPage g here) (record { name = e .name; start = e .start }) claimed p))
 sub-step g v here claimed p e (suc levels) =
     let q : suc levels - 1 ≡ levels = omega arith in
-    rw q (then-after (refuse-unless (eqb (e .pages) 0) 8 p) (refuse-unless (ltb 0 (e .start)) 6 p) (judgeDirectory g v (judgeSub g v levels) (subPage g here) (record { name = e .name; start = e .start }) claimed p))
+    rw q (then-after (refuse-unless (eqb (e .pages) 0) 8 p) (refuse-unless (ltb 0 (e .start)) 6 p) (judgeDirectory g v (suc (g .pages)) (judgeSub g v (suc (g .pages)) levels) (subPage g here) (record { name = e .name; start = e .start }) claimed p))
 
 module _ (g : Geometry) (v : View) (levels name start : ℕ) (claimed : List ℕ) (p : ℕ) (seen : List ℕ) (e : Entry) where
   abbrev here : Above
   here = record { name = name; start = start }
 
   abbrev entryOf : Res Part
-  entryOf = judgeEntry g v (judgeSub g v levels) here claimed p seen e
+  entryOf = judgeEntry g v (suc (g .pages)) (judgeSub g v (suc (g .pages)) levels) here claimed p seen e
 
-  by-kind : entryOf ≡ andAfter (judgeFirst p seen e) (choose (directoryNumber (e .extension)) (andThen (judgeSub g v levels here claimed p e) (λ d. ok (directory d))) (judgeFile g v claimed p e))
+  by-kind : entryOf ≡ andAfter (judgeFirst p seen e) (choose (directoryNumber (e .extension)) (andThen (judgeSub g v (suc (g .pages)) levels here claimed p e) (λ d. ok (directory d))) (judgeFile g v (suc (g .pages)) claimed p e))
   unfolding judgeEntry judgeFirst
-  by-kind = then-after (judgeLabel p e) (refuse-unless (not (mem (key (e .name) (e .extension)) seen)) 11 p) (choose (directoryNumber (e .extension)) (andThen (judgeSub g v levels here claimed p e) (λ d. ok (directory d))) (judgeFile g v claimed p e))
+  by-kind = then-after (judgeLabel p e) (refuse-unless (not (mem (key (e .name) (e .extension)) seen)) 11 p) (choose (directoryNumber (e .extension)) (andThen (judgeSub g v (suc (g .pages)) levels here claimed p e) (λ d. ok (directory d))) (judgeFile g v (suc (g .pages)) claimed p e))
 
   module _ (f : ℕ) (h : judgeFirst p seen e ≡ faultAt f p) where
     pub entry-refused : (f ≡ 0 → ⊥) → entryOf ≡ err f p
     entry-refused n = simp (by-kind, h, fault-err f p n, then-err)
 
     module _ (z : f ≡ 0) where
-      entry-kind : entryOf ≡ choose (directoryNumber (e .extension)) (andThen (judgeSub g v levels here claimed p e) (λ d. ok (directory d))) (judgeFile g v claimed p e)
+      entry-kind : entryOf ≡ choose (directoryNumber (e .extension)) (andThen (judgeSub g v (suc (g .pages)) levels here claimed p e) (λ d. ok (directory d))) (judgeFile g v (suc (g .pages)) claimed p e)
       entry-kind = simp (by-kind, h, fault-none f p z, then-ok)
 
-      entry-file : (e .extension % 128 ≡ 127 → ⊥) → entryOf ≡ judgeFile g v claimed p e
+      entry-file : (e .extension % 128 ≡ 127 → ⊥) → entryOf ≡ judgeFile g v (suc (g .pages)) claimed p e
       unfolding directoryNumber
-      entry-file n = entry-kind ∙ ap (λ (b : Bool). choose b (andThen (judgeSub g v levels here claimed p e) (λ d. ok (directory d))) (judgeFile g v claimed p e)) (ne-eqb (e .extension % 128) 127 n) ∙ choose-false _ _
+      entry-file n = entry-kind ∙ ap (λ (b : Bool). choose b (andThen (judgeSub g v (suc (g .pages)) levels here claimed p e) (λ d. ok (directory d))) (judgeFile g v (suc (g .pages)) claimed p e)) (ne-eqb (e .extension % 128) 127 n) ∙ choose-false _ _
 
-      pub file-entry : (e .extension % 128 ≡ 127 → ⊥) → (c : Totals) (t : List ℕ) (r : Walk) (u : List ℕ) → Answers (plusPart c) (ownPart (c .files + c .directories) t) (judgeFile g v claimed p e) r u
+      pub file-entry : (e .extension % 128 ≡ 127 → ⊥) → (c : Totals) (t : List ℕ) (r : Walk) (u : List ℕ) → Answers (plusPart c) (ownPart (c .files + c .directories) t) (judgeFile g v (suc (g .pages)) claimed p e) r u
           → Answers (plusPart c) (ownPart (c .files + c .directories) t) entryOf r u
       file-entry n c t r u a = subst (λ (x : Res Part). Answers (plusPart c) (ownPart (c .files + c .directories) t) x r u) (sym (entry-file n)) a
 
       module _ (x : e .extension % 128 ≡ 127) (k : ℕ) (b : judgeBelow levels p e ≡ faultAt k p) where
-        entry-sub : entryOf ≡ andThen (judgeSub g v levels here claimed p e) (λ d. ok (directory d))
+        entry-sub : entryOf ≡ andThen (judgeSub g v (suc (g .pages)) levels here claimed p e) (λ d. ok (directory d))
         unfolding directoryNumber
-        entry-sub = entry-kind ∙ ap (λ (b : Bool). choose b (andThen (judgeSub g v levels here claimed p e) (λ d. ok (directory d))) (judgeFile g v claimed p e)) (eq-eqb (e .extension % 128) 127 x) ∙ choose-true _ _
+        entry-sub = entry-kind ∙ ap (λ (b : Bool). choose b (andThen (judgeSub g v (suc (g .pages)) levels here claimed p e) (λ d. ok (directory d))) (judgeFile g v (suc (g .pages)) claimed p e)) (eq-eqb (e .extension % 128) 127 x) ∙ choose-true _ _
 
         pub entry-below : (k ≡ 0 → ⊥) → entryOf ≡ err k p
         entry-below n = simp (entry-sub, sub-step g v here claimed p e levels, b, fault-err k p n, then-err)
@@ -224,7 +224,7 @@ module _ (g : Geometry) (v : View) (levels name start : ℕ) (claimed : List ℕ
         -- a subdirectory, with its entry counted
         pub entry-directory : k ≡ 0 → (c : Totals) (owner : ℕ) (t : List ℕ) → owner ≡ 3 + (c .files + c .directories) → (r : Walk) (u : List ℕ)
             → Answers (plusDirectory (record { used = c .used; files = c .files; directories = c .directories + 1 })) (ownDirectory owner (c .files + (c .directories + 1)) t)
-            (judgeDirectory g v (judgeSub g v (levels - 1)) (testOf g (kind.Sub name start)) (record { name = e .name; start = e .start }) claimed p) r u
+            (judgeDirectory g v (suc (g .pages)) (judgeSub g v (suc (g .pages)) (levels - 1)) (testOf g (kind.Sub name start)) (record { name = e .name; start = e .start }) claimed p) r u
             → Answers (plusPart c) (ownPart (c .files + c .directories) t) entryOf r u
         unfolding testOf
         entry-directory y c owner t o (w.Done d) u (i, a, q, s) =

@@ -93,7 +93,7 @@ table-add c e (directory d) t table =
 module _ (g : Geometry) (v : View) (sub : Judge) (here : Above) where
   -- the answer for the entries from here on, with the totals and the table so far
   abbrev pub Rest : List ℕ → ℕ → List ℕ → List Token → Totals → List ℕ → Walk → List ℕ → Type 0
-  Rest claimed p seen ts c t r u = Answers (plusEntries c) (λ i. ownEntries (c .files + c .directories) i t) (judgeEntries g v sub here claimed p seen ts) r u
+  Rest claimed p seen ts c t r u = Answers (plusEntries c) (λ i. ownEntries (c .files + c .directories) i t) (judgeEntries g v (suc (g .pages)) sub here claimed p seen ts) r u
 
   module _ (claimed : List ℕ) (p : ℕ) (seen : List ℕ) where
     -- no entry is left
@@ -108,12 +108,12 @@ module _ (g : Geometry) (v : View) (sub : Judge) (here : Above) where
     rest-page q ts c t (w.Refused n f) u a = simp (a, then-err)
 
     module _ (e : Entry) (ts : List Token) (c : Totals) (t : List ℕ) where
-      pub rest-refused : (n f : ℕ) (u : List ℕ) → judgeEntry g v sub here claimed p seen e ≡ err n f → Rest claimed p seen (entry e ∷ ts) c t (w.Refused n f) u
+      pub rest-refused : (n f : ℕ) (u : List ℕ) → judgeEntry g v (suc (g .pages)) sub here claimed p seen e ≡ err n f → Rest claimed p seen (entry e ∷ ts) c t (w.Refused n f) u
       unfolding judgeEntries
       rest-refused n f u a = simp (a, then-err)
 
       -- an entry done
-      pub rest-entry : (x : Part) → judgeEntry g v sub here claimed p seen e ≡ ok x → (r : Walk) (u : List ℕ)
+      pub rest-entry : (x : Part) → judgeEntry g v (suc (g .pages)) sub here claimed p seen e ≡ ok x → (r : Walk) (u : List ℕ)
           → Rest (partPages x ++ claimed) p (key (e .name) (e .extension) ∷ seen) ts (plusPart c x) (ownPart (c .files + c .directories) t x) r u → Rest claimed p seen (entry e ∷ ts) c t r u
       unfolding judgeEntries
       rest-entry x q (w.Done d) u (i, a, b, k) = (add e x i, simp (q, then-ok, a), b ∙ totals-add c e x i, k ∙ table-add c e x i t)
@@ -121,17 +121,17 @@ module _ (g : Geometry) (v : View) (sub : Judge) (here : Above) where
 
 -- ---- a directory: its chain, then its entries
 module _ (g : Geometry) (v : View) (levels : ℕ) (test : Test) (here : Above) (claimed : List ℕ) (from : ℕ) where
-  pub directory-refused : (n p : ℕ) → walk (g .pages) v test (suc (g .pages)) 0 claimed from (here .start) ≡ err n p → judgeDirectory g v (judgeSub g v levels) test here claimed from ≡ err n p
+  pub directory-refused : (n p : ℕ) → walk (g .pages) v test (suc (g .pages)) 0 claimed from (here .start) ≡ err n p → judgeDirectory g v (suc (g .pages)) (judgeSub g v (suc (g .pages)) levels) test here claimed from ≡ err n p
   unfolding judgeDirectory
   directory-refused n p e = simp (e, then-err)
 
   pub directory-rest : (ls : List Link) (owner n : ℕ) (c : Totals) (t : List ℕ) → walk (g .pages) v test (suc (g .pages)) 0 claimed from (here .start) ≡ ok ls → n ≡ length ls → Within (g .pages) (pages ls ++ claimed)
       → (r : Walk) (u : List ℕ)
-      → Rest g v (judgeSub g v levels) here (pages ls ++ claimed) (here .start) [] (linkTokens g (controlSize g) ls) (record { used = c .used + n; files = c .files; directories = c .directories }) (own owner (pages ls) t) r u
-      → Answers (plusDirectory c) (ownDirectory owner (c .files + c .directories) t) (judgeDirectory g v (judgeSub g v levels) test here claimed from) r u
+      → Rest g v (judgeSub g v (suc (g .pages)) levels) here (pages ls ++ claimed) (here .start) [] (linkTokens g (controlSize g) ls) (record { used = c .used + n; files = c .files; directories = c .directories }) (own owner (pages ls) t) r u
+      → Answers (plusDirectory c) (ownDirectory owner (c .files + c .directories) t) (judgeDirectory g v (suc (g .pages)) (judgeSub g v (suc (g .pages)) levels) test here claimed from) r u
   unfolding judgeDirectory
   directory-rest ls owner n c t e l f (w.Done d) u (i, a, b, k) =
-      let s = entries-sound g v (judgeSub g v levels) (sub-sound g v levels) here (linkTokens g (controlSize g) ls) (pages ls ++ claimed) (here .start) [] i f a in
+      let s = entries-sound g v (judgeSub g v (suc (g .pages)) levels) (sub-sound g v levels) here (linkTokens g (controlSize g) ls) (pages ls ++ claimed) (here .start) [] i f a in
       let o : ownPages i ≡ pages ls = s .own-pages ∙ pages-tokens g (controlSize g) ls in (
         i,
         simp (e, then-ok, a),

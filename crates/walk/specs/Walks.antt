@@ -94,12 +94,12 @@ abbrev pub BelowFault : ℕ → Entry → ℕ → Type 0
 BelowFault levels e r = (p : ℕ) → judgeBelow levels p e ≡ faultAt r p
 
 abbrev pub FileWalked : Geometry → View → ℕ → Entry → Totals → List ℕ → Walk → List ℕ → Type 0
-FileWalked g v page e c t r u = (claimed : List ℕ) → Represents t claimed → Answers (plusPart c) (ownPart (c .files + c .directories) t) (judgeFile g v claimed page e) r u
+FileWalked g v page e c t r u = (claimed : List ℕ) → Represents t claimed → Answers (plusPart c) (ownPart (c .files + c .directories) t) (judgeFile g v (suc (g .pages)) claimed page e) r u
 
 abbrev pub EntryWalked : Geometry → View → ℕ → ℕ → ℕ → ℕ → ℕ → Entry → Totals → List ℕ → Walk → List ℕ → Type 0
 EntryWalked g v levels name start page m e c t r u = (claimed seen : List ℕ) → Represents t claimed → Met g v start m (key (e .name) (e .extension)) seen
-    → Answers (plusPart c) (ownPart (c .files + c .directories) t) (judgeEntry g v (judgeSub g v levels) (record { name = name; start = start }) claimed page seen e) r u
+    → Answers (plusPart c) (ownPart (c .files + c .directories) t) (judgeEntry g v (suc (g .pages)) (judgeSub g v (suc (g .pages)) levels) (record { name = name; start = start }) claimed page seen e) r u
 
 abbrev pub DirectoryWalked : Geometry → View → ℕ → Test → ℕ → ℕ → ℕ → ℕ → Totals → List ℕ → Walk → List ℕ → Type 0
 DirectoryWalked g v levels test name start from owner c t r u = (claimed : List ℕ) → Represents t claimed
-    → Answers (plusDirectory c) (ownDirectory owner (c .files + c .directories) t) (judgeDirectory g v (judgeSub g v levels) test (record { name = name; start = start }) claimed from) r u
+    → Answers (plusDirectory c) (ownDirectory owner (c .files + c .directories) t) (judgeDirectory g v (suc (g .pages)) (judgeSub g v (suc (g .pages)) levels) test (record { name = name; start = start }) claimed from) r u

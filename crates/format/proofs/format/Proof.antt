@@ -28,13 +28,13 @@ returns : tie.Need-returns
 returns c =
     let a = c .before .before .before .before .before .args in
     let e = sym (format-wrong (a .size) (a .pages) (a .image .now) (a .owners .now) (sym (c .before .before .new .ensures) ∙ c .enum-told .given .1) (a .local)) in
-    (e, format-is (a .size) (a .pages) (a .image .now) (a .owners .now) (a .local) (edited.Refused 1 0) (a .image .now) (a .owners .now) e)
+    (e, format-is (a .size) (a .pages) (a .image .now) (a .owners .now) (λ i. c .before .before .before .before .slice-known .given i .fits) (a .local) (edited.Refused 1 0) (a .image .now) (a .owners .now) e)
 
 returns-2 : tie.Need-returns-2
 returns-2 c =
     let a = c .before .before .before .before .before .before .before .before .before .before .before .before .before .args in
     let e = format-leaves (a .size) (a .pages) (a .image .now) (a .owners .now) _ (sym (c .before .before .before .before .before .before .before .before .before .before .new .ensures) ∙ c .before .before .before .before .before .before .before .before .g .given .1) (a .local) (c .before .before .before .before .format-in .result) (c .before .before .before .before .format-in .last .0) (c .before .before .before .before .format-in .last .1 .1 .0) (c .before .before .before .before .format-in .ensures) in
-    (e, format-is (a .size) (a .pages) (a .image .now) (a .owners .now) (a .local) (c .before .before .before .before .format-in .result) (c .before .before .before .before .format-in .last .0) _ e)
+    (e, format-is (a .size) (a .pages) (a .image .now) (a .owners .now) (λ i. c .before .before .before .before .before .before .before .before .before .before .before .before .slice-known .given i .fits) (a .local) (c .before .before .before .before .format-in .result) (c .before .before .before .before .format-in .last .0) _ e)
 
 pub format-spec : {M : Type 1} → statement M
 format-spec =

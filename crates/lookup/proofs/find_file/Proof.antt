@@ -3,6 +3,7 @@ use native.Mathlib.Omega.{arith}
 use Rattle.packet.specs.Packet.{viewOf}
 use Rattle.rules.specs.Control.{theRoot}
 use Rattle.rules.specs.Paths.{atRoot}
+use Rattle.rules.specs.TargetLaws.{target-malformed}
 use Rattle.path.proofs.Parts.{malformed, well-formed}
 use Rattle.lookup.proofs.PathPlace.{root-tree, has-tree, nowhere, file-absent, file-at}
 use borrow.Author.Needs.{needs}
@@ -23,7 +24,7 @@ find-place-requires c κs =
     (s .0, has-tree (a .g) (viewOf (a .g) (a .image .now)) (a .path .now) (s .1 .image) _ _ _ P (c .before .before .before .before .resolve .result) (c .before .before .before .before .resolve .ensures (s .1 .image .tree) (root-tree _ _ (s .1 .image) (s .1 .accepted)) atRoot theRoot) _ (c .before .before .start .given .1))
 
 returns : tie.Need-returns
-returns c = λ i h. malformed _ _ (c .before .before .parse .ensures) (c .enum-told .given .1)
+returns c = λ i h. target-malformed _ (i .tree) 14 0 (malformed _ _ (c .before .before .parse .ensures) (c .enum-told .given .1))
 
 returns-2 : tie.Need-returns-2
 returns-2 c = λ i h.

@@ -1,4 +1,5 @@
 use mathlib.Core.Path.{sym, _∙_}
+use Rattle.geometry.specs.NumberLaws.{bytes-from}
 use native.Mathlib.Omega.{arith}
 use Rattle.answers.proofs.Telling.{front}
 use Rattle.answers.proofs.TreeLaws.{formats}
@@ -15,7 +16,7 @@ format-over-requires c κs = front (c .before .before .before .count .result) 65
 returns : tie.Need-returns
 returns c =
     let a = c .before .before .before .before .before .before .before .before .before .before .before .before .args in
-    (c .before .before .before .before .before .format-over .ensures, formats (a .size) (a .pages) (a .image .now) (a .owners .now) (a .local) (c .before .before .before .before .before .format-over .result) (c .before .before .before .before .before .format-over .last .1 .1 .0) _ (c .before .before .before .before .before .format-over .ensures))
+    (c .before .before .before .before .before .format-over .ensures, formats (a .size) (a .pages) (a .image .now) (a .owners .now) (bytes-from (a .image .now) (λ i. c .before .before .before .before .before .before .before .before .before .before .before .slice-known .given i .fits)) (a .local) (c .before .before .before .before .before .format-over .result) (c .before .before .before .before .before .format-over .last .1 .1 .0) _ (c .before .before .before .before .before .format-over .ensures))
 
 pub owfs-format-spec : {M : Type 1} → statement M
 owfs-format-spec =
