@@ -78,6 +78,7 @@ pub fn compare_chain(image: &[u8], g: Geometry, start: usize, owners: &[u16]) ->
     loop {
         let page = c.page;
         match c.step(image, g, true) {
+            // the chain is known to stand
             Step::Refused(_, _) => {
                 return Bits::Same;
             }

@@ -16,6 +16,7 @@ pub fn chain_bytes(image: &[u8], g: Geometry, start: usize) -> usize
     let mut c = Cursor::new(start, start);
     loop {
         match c.step(image, g, true) {
+            // the chain is known to stand
             Step::Refused(_, _) => {
                 return c.bytes;
             }
@@ -40,6 +41,7 @@ pub fn copy_chain(image: &[u8], g: Geometry, start: usize, out: &mut [u8])
     loop {
         let page = c.page;
         match c.step(image, g, true) {
+            // the chain is known to stand
             Step::Refused(_, _) => {
                 return;
             }

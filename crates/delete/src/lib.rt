@@ -1,4 +1,5 @@
 // Delete: a file's entry goes from its directory, and its pages are free.
+use directory::extensions::extension_of;
 use entries::Slot;
 use geometry::Geometry;
 use geometry::Shape;
@@ -39,7 +40,7 @@ fn delete_path(image: &mut [u8], g: Geometry, path: &[u8], owners: &mut [u16]) -
         PathLookup::Nowhere => Edited::Refused(15, 0),
         PathLookup::Absent(_, _, _) => Edited::Refused(15, 0),
         PathLookup::At(slot, e) => {
-            if 127 < e.extension {
+            if extension_of(e.extension).attribute != 0 {
                 return Edited::Refused(16, 0);
             }
             unlink(image, g, slot, e, owners);

@@ -16,9 +16,11 @@ use Rattle.geometry.specs.Page.{overwritten}
 use Rattle.packet.proofs.Fronts.{front, front-more, front-whole}
 use Rattle.rules.specs.declared.Entry.{Entry}
 use Rattle.rules.specs.Result.{andThen, refuse-unless}
-use Rattle.rules.specs.Names.{validName, fileNumber, directoryNumber, entryOf, entryBytes}
+use Rattle.rules.specs.Names.{validName, entryOf, entryBytes}
 use Rattle.rules.specs.Control.{wholeEntries}
 use Rattle.rules.specs.Check.{judgeLabel}
+use Rattle.directory.specs.declared.extensions.EntryKind.the-variants as kind
+use Rattle.directory.specs.Extensions.{IsKind}
 use Rattle.directory.specs.Faults.{faultAt, LabelFault, WholeFault}
 
 -- a page number fits 16 bits
@@ -78,17 +80,17 @@ module _ (e : Entry) where
       named : validName (e .name) ≡ true
       named = sym q ∙ not-false t k
 
-      pub file-label : e .extension % 128 ≤ 99 → LabelFault e 0
-      unfolding judgeLabel andThen refuse-unless faultAt fileNumber
-      file-label l p = simp (judgeLabel, le-leb (e .name % 256) 127 h, named, fileNumber, le-leb (e .extension % 128) 99 l)
+      pub file-label : IsKind (e .extension) kind.File → LabelFault e 0
+      unfolding judgeLabel andThen refuse-unless faultAt
+      file-label l p = simp (judgeLabel, le-leb (e .name % 256) 127 h, named, l .0)
 
-      pub directory-label : 99 < e .extension % 128 → e .extension % 128 ≡ 127 → LabelFault e 0
-      unfolding judgeLabel andThen refuse-unless faultAt fileNumber directoryNumber
-      directory-label l m p = simp (judgeLabel, le-leb (e .name % 256) 127 h, named, fileNumber, directoryNumber, lt-leb (e .extension % 128) 99 l, eq-eqb (e .extension % 128) 127 m)
+      pub directory-label : IsKind (e .extension) kind.Directory → LabelFault e 0
+      unfolding judgeLabel andThen refuse-unless faultAt
+      directory-label l p = simp (judgeLabel, le-leb (e .name % 256) 127 h, named, l .0, l .1)
 
-      pub other-label : 99 < e .extension % 128 → (e .extension % 128 ≡ 127 → ⊥) → LabelFault e 10
-      unfolding judgeLabel andThen refuse-unless faultAt fileNumber directoryNumber
-      other-label l m p = simp (judgeLabel, le-leb (e .name % 256) 127 h, named, fileNumber, directoryNumber, lt-leb (e .extension % 128) 99 l, ne-eqb (e .extension % 128) 127 m)
+      pub unknown-label : IsKind (e .extension) kind.Unknown → LabelFault e 10
+      unfolding judgeLabel andThen refuse-unless faultAt
+      unknown-label l p = simp (judgeLabel, le-leb (e .name % 256) 127 h, named, l .0, l .1)
 
 module _ (g : Geometry) (size k : ℕ) (q : k ≡ entrySize g) where
   pub are-whole : size % k ≡ 0 → WholeFault g size 0

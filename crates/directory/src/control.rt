@@ -1,15 +1,24 @@
 // Control fields of the root and of a subdirectory.
 use crate::entries;
+use geometry::ABOVE_NAME_AT;
+use geometry::ABOVE_START_AT;
+use geometry::ABOVE_ZERO_AT;
+use geometry::BITMAP_CONTROL_PAST;
+use geometry::BITMAP_FIELD_BYTES;
+use geometry::BITMAP_FIELD_END;
+use geometry::BITMAP_FIELD_PAST;
 use geometry::Geometry;
+use geometry::LEAST_FILE_PAGES;
+use geometry::LOCAL_BITMAP;
+use geometry::MAP_ADDRESS_AT;
+use geometry::MARKER;
+use geometry::NAME_BYTES;
 ghost use mathlib.Core.Path.{_≡_};
 ghost use Prim.Native.Nat.{_+_, _≤_};
 ghost use lib.ListN.{length};
 ghost use Rattle.geometry.specs.Geometry.{Valid};
 ghost use Rattle.rules.specs.Control.{fieldAt, headOf};
 ghost use Rattle.directory.specs.Faults.{control, place, PageFault, SubFault};
-
-// The marker for page numbers of one byte is one more than this, for two bytes two more.
-const MARKER: usize = 0xA9;
 
 // What the root's control field says.
 pub enum Root {
@@ -42,21 +51,21 @@ pub fn root_control(bytes: &[u8], g: Geometry) -> Root
     if geometry::wide(bytes[0]) != MARKER + n {
         return Root::Refused(3);
     }
-    let at = n + 1;
+    let at = n + BITMAP_CONTROL_PAST;
     let flags = bytes[at];
     if flags % 2 != 0 {
         return Root::Refused(5);
     }
-    if geometry::number_at(bytes, 1, n) != 0 {
+    if geometry::number_at(bytes, MAP_ADDRESS_AT, n) != 0 {
         return Root::Refused(4);
     }
-    if flags % 128 != 0 {
+    if flags % LOCAL_BITMAP != 0 {
         return Root::Refused(4);
     }
-    if flags < 128 {
+    if flags < LOCAL_BITMAP {
         return remote_map(bytes, n);
     }
-    if g.pages < 32 {
+    if g.pages < LEAST_FILE_PAGES {
         Root::Local
     } else {
         Root::Refused(4)
@@ -68,12 +77,12 @@ fn remote_map(bytes: &[u8], n: usize) -> Root
     requires { ⌜ (1 ≤ n) × (n ≤ 2) × (n + 6 ≤ length (now bytes)) ⌝ }
     ensures { λ r. ⌜ r ≡ place n (fieldAt n (now (bytes .entry))) ⌝ }
 {
-    if geometry::number_at(bytes, n + 2, 4 - 2 * n) != 0 {
+    if geometry::number_at(bytes, n + BITMAP_FIELD_PAST, BITMAP_FIELD_BYTES - 2 * n) != 0 {
         return Root::Refused(4);
     }
     Root::Remote(
-        geometry::number_at(bytes, 6 - n, n),
-        geometry::number_at(bytes, 6, n),
+        geometry::number_at(bytes, BITMAP_FIELD_END - n, n),
+        geometry::number_at(bytes, BITMAP_FIELD_END, n),
     )
 }
 
@@ -116,13 +125,13 @@ fn sub_fault(bytes: &[u8], g: Geometry, name: u32, start: usize) -> u8
     if geometry::wide(bytes[0]) != MARKER + n {
         return 3;
     }
-    if geometry::number_at(bytes, 1, 4) != (name as usize) {
+    if geometry::number_at(bytes, ABOVE_NAME_AT, NAME_BYTES) != (name as usize) {
         return 4;
     }
-    if bytes[5] != 0 {
+    if bytes[ABOVE_ZERO_AT] != 0 {
         return 4;
     }
-    if geometry::number_at(bytes, 6, n) != start {
+    if geometry::number_at(bytes, ABOVE_START_AT, n) != start {
         return 4;
     }
     entries::whole_fault(bytes.len() - skip, g)

@@ -7,6 +7,9 @@ ghost use Rattle.rules.specs.Names.{signs, nameByte, blanks, nameTail, validNam
 // ! # $ % & ' @ ^ _ ` { } ~
 const SIGNS: [u8; 13] = [33, 35, 36, 37, 38, 39, 64, 94, 95, 96, 123, 125, 126];
 
+// The byte that follows a name of fewer than four bytes.
+const BLANK: u32 = 32;
+
 fn is_sign(c: u8) -> bool
     ensures { λ r. ⌜ r ≡ mem c signs ⌝ }
 {
@@ -24,16 +27,16 @@ fn is_sign(c: u8) -> bool
 pub fn name_byte(c: u8) -> bool
     ensures { λ r. ⌜ r ≡ nameByte c ⌝ }
 {
-    if c < 48 {
+    if c < b'0' {
         return is_sign(c);
     }
-    if c <= 57 {
+    if c <= b'9' {
         return true;
     }
-    if c < 65 {
+    if c < b'A' {
         return is_sign(c);
     }
-    if c <= 90 {
+    if c <= b'Z' {
         return true;
     }
     is_sign(c)
@@ -46,7 +49,7 @@ fn all_blank(rest: u32, left: usize) -> bool
     let mut name = rest;
     let mut i = left;
     while 0 < i {
-        if name % 256 != 32 {
+        if name % 256 != BLANK {
             return false;
         }
         name = name / 256;

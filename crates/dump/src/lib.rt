@@ -32,15 +32,26 @@ enum Checked {
     Done(Geometry, Totals),
 }
 
-// Bytes of the header, the greatest offset and the greatest length of an image.
-const HEADER_BYTES: usize = 8;
+// The header: page length and page count of two bytes each, then the offset of page 0 of four.
+const SIZE_BYTES: usize = 2;
 
+const PAGES_AT: usize = SIZE_BYTES;
+
+const PAGES_BYTES: usize = 2;
+
+const OFFSET_AT: usize = PAGES_AT + PAGES_BYTES;
+
+const OFFSET_BYTES: usize = 4;
+
+const HEADER_BYTES: usize = OFFSET_AT + OFFSET_BYTES;
+
+// The greatest offset and the greatest length of an image.
 const MOST_OFFSET: usize = 32768;
 
 const MOST_IMAGE: usize = 32768;
 
 // The most pages that an image has.
-const MOST_PAGES: usize = 65535;
+const MOST_PAGES: usize = geometry::MOST_PAGES as usize;
 
 // Judges a dump's header and the dump's length.
 fn place_of(dump: &[u8]) -> Place
@@ -49,7 +60,7 @@ fn place_of(dump: &[u8]) -> Place
     if dump.len() < HEADER_BYTES {
         return Place::Malformed;
     }
-    let offset = geometry::number_at(dump, 4, 4);
+    let offset = geometry::number_at(dump, OFFSET_AT, OFFSET_BYTES);
     if offset < HEADER_BYTES {
         return Place::Malformed;
     }
@@ -133,8 +144,8 @@ pub fn list_text(dump: &[u8], out: &mut [u8]) -> Printed
     match place_of(dump) {
         Place::Malformed => print(dump, Checked::Refused(19, 0), out),
         Place::At(offset) => {
-            let size = geometry::number_at(dump, 0, 2) as u32;
-            let pages = geometry::number_at(dump, 2, 2) as u32;
+            let size = geometry::number_at(dump, 0, SIZE_BYTES) as u32;
+            let pages = geometry::number_at(dump, PAGES_AT, PAGES_BYTES) as u32;
             let image = &dump[offset..];
             print(image, check_image(image, size, pages), out)
         }

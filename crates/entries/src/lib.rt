@@ -1,7 +1,11 @@
 // The entries of a directory, page by page, and the search for a second entry of one name.
 use chain::Cursor;
 use chain::Step;
+use directory::entries::after_entry;
+use directory::entries::read_entry;
+use directory::extensions::extension_of;
 use geometry::Geometry;
+use geometry::LENGTH_BYTES;
 use rules::Entry;
 ghost use mathlib.Core.Path.{_≡_};
 ghost use Prim.Native.Nat.{_+_, _*_, _≤_, _<_, min};
@@ -18,6 +22,9 @@ ghost use Rattle.chain.specs.KnownChain.{KnownChain};
 ghost use Rattle.chain.specs.Steps.{firstStep};
 ghost use Rattle.entries.specs.EntrySlots.{entryKey, keysFrom, Fits, openOf, advanced, HasEntries, CountsEntries, Repeats};
 
+// How many numbers an extension can have.
+const NUMBERS: u64 = 128;
+
 // A place in a directory: a page, the bytes before its entries, how many it has and the next of them; the position of the page after it.
 pub struct Slot {
     pub page: usize,
@@ -31,7 +38,7 @@ pub struct Slot {
 pub fn key_of(name: u32, extension: u8) -> u64
     ensures { λ r. ⌜ r ≡ key name extension ⌝ }
 {
-    (name as u64) * 128 + ((extension % 128) as u64)
+    (name as u64) * NUMBERS + (extension_of(extension).number as u64)
 }
 
 impl Slot {
@@ -43,6 +50,7 @@ impl Slot {
     {
         let page = c.page;
         match c.step(image, g, true) {
+            // the page is known to hold a right packet
             Step::Refused(_, _) => Slot {
                 page,
                 skip,
@@ -96,8 +104,8 @@ impl Slot {
         requires { ⌜ Fits g self × (self .at < self .count) ⌝ }
         ensures { λ r. ⌜ (r ≡ entryOf (g .width) (drop (1 + self .skip + entrySize g * self .at) (pageOf g (self .page) (now (image .entry))))) × (r .start < 65536) × (r .pages < 65536) ⌝ }
     {
-        let at = 1 + self.skip + g.entry_size() * self.at;
-        directory::entries::read_entry(geometry::page_of(image, g, self.page), at, g.width)
+        let at = LENGTH_BYTES + self.skip + g.entry_size() * self.at;
+        read_entry(geometry::page_of(image, g, self.page), at, g.width)
     }
 }
 
@@ -106,7 +114,7 @@ fn has_key(page: &[u8], at: usize, n: usize, wanted: u64) -> bool
     requires { ⌜ HasEntry n (now page) at ⌝ }
     ensures { λ r. ⌜ r ≡ eqb (entryKey (drop at (now (page .entry)))) wanted ⌝ }
 {
-    let e = directory::entries::read_entry(page, at, n);
+    let e = read_entry(page, at, n);
     key_of(e.name, e.extension) == wanted
 }
 
@@ -122,7 +130,7 @@ fn page_has(page: &[u8], from: usize, m: usize, key: u64, g: Geometry) -> bool
         if has_key(page, at, g.width, key) {
             return true;
         }
-        at += g.entry_size();
+        at = after_entry(page, at, g.width);
         i += 1;
     }
     false
@@ -167,7 +175,7 @@ pub fn is_repeated(image: &[u8], g: Geometry, start: usize, m: usize, key: u64) 
     loop {
         let count = slot.count;
         let page = geometry::page_of(image, g, slot.page);
-        if page_has(page, 1 + slot.skip, least(left, count), key, g) {
+        if page_has(page, LENGTH_BYTES + slot.skip, least(left, count), key, g) {
             return true;
         }
         if left <= count {

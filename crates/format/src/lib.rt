@@ -1,5 +1,17 @@
 // Format: an image without entries.
+use geometry::BITMAP_CONTROL_BYTES;
+use geometry::BITMAP_CONTROL_PAST;
+use geometry::BITMAP_FIELD_BYTES;
+use geometry::BITMAP_FIELD_END;
+use geometry::BITMAP_FIELD_PAST;
 use geometry::Geometry;
+use geometry::LEAST_FILE_PAGES;
+use geometry::LOCAL_BITMAP;
+use geometry::MAP_ADDRESS_AT;
+use geometry::MARKER;
+use geometry::MARKER_BYTES;
+use geometry::MOST_CONTROL_BYTES;
+use geometry::MOST_DATA_BYTES;
 use geometry::Shape;
 use volume::Edited;
 ghost use mathlib.Core.Path.{_≡_};
@@ -21,14 +33,8 @@ ghost use Rattle.volume.specs.Told.{editTold};
 ghost use Rattle.volume.specs.Edits.{EditLeaves};
 ghost use Rattle.format.specs.Formats.{controlField, bitsWrites, emptied};
 
-// The least page count that needs a bitmap file.
-const FILE_PAGES: usize = 32;
-
-// The marker of a page number of no bytes: AA is that of one byte.
-const MARKER: usize = 0xA9;
-
 // Bitmap control: the four bytes are the bitmap; they place a bitmap file.
-const LOCAL: usize = 128;
+const LOCAL: usize = LOCAL_BITMAP as usize;
 
 const FILE: usize = 0;
 
@@ -37,10 +43,15 @@ fn fill_control(field: &mut [u8], n: usize, control: usize, four: &[u8])
     requires { ⌜ (length (now field) ≡ 6 + n) × (n ≤ 2) × (control < 256) × (length (now four) ≡ 4) ⌝ }
     ensures { λ _. ⌜ now (field .exit) ≡ controlField n control (now (four .entry)) ⌝ }
 {
-    geometry::put_number(field, 0, 1, MARKER + n);
-    geometry::put_number(field, 1, n, 0);
-    geometry::put_number(field, 1 + n, 1, control);
-    geometry::put_bytes(field, 2 + n, four);
+    geometry::put_number(field, 0, MARKER_BYTES, MARKER + n);
+    geometry::put_number(field, MAP_ADDRESS_AT, n, 0);
+    geometry::put_number(
+        field,
+        BITMAP_CONTROL_PAST + n,
+        BITMAP_CONTROL_BYTES,
+        control,
+    );
+    geometry::put_bytes(field, BITMAP_FIELD_PAST + n, four);
 }
 
 // Fills four bytes with the place of a bitmap file from page 1 on.
@@ -48,9 +59,9 @@ fn fill_place(four: &mut [u8], n: usize, count: usize)
     requires { ⌜ (length (now four) ≡ 4) × (1 ≤ n) × (n ≤ 2) ⌝ }
     ensures { λ _. ⌜ now (four .exit) ≡ placeBytes n 1 count ⌝ }
 {
-    geometry::put_number(four, 0, 4 - 2 * n, 0);
-    geometry::put_number(four, 4 - 2 * n, n, 1);
-    geometry::put_number(four, 4 - n, n, count);
+    geometry::put_number(four, 0, BITMAP_FIELD_BYTES - 2 * n, 0);
+    geometry::put_number(four, BITMAP_FIELD_BYTES - 2 * n, n, 1);
+    geometry::put_number(four, BITMAP_FIELD_BYTES - n, n, count);
 }
 
 // Writes the root's page without entries.
@@ -59,8 +70,8 @@ fn write_root(image: &mut [u8], g: Geometry, control: usize, four: &[u8])
     requires { ⌜ (control < 256) × (length (now four) ≡ 4) ⌝ }
     ensures { λ _. ⌜ now (image .exit) ≡ writePage g (write 0 (controlField (g .width) control (now (four .entry))) 0) (now (image .entry)) ⌝ }
 {
-    let mut field = [0u8; 8];
-    let end = 6 + g.width;
+    let mut field = [0u8; MOST_CONTROL_BYTES];
+    let end = BITMAP_FIELD_END + g.width;
     fill_control(&mut field[..end], g.width, control, four);
     packet::write_page(image, g, 0, &field[..end], 0);
 }
@@ -109,7 +120,7 @@ fn write_bytes(
     requires { ⌜ (page < g .pages) × (size ≤ dataCapacity g) × (done + size ≤ 65536) ⌝ }
     ensures { λ _. ⌜ now (image .exit) ≡ writePage g (write page (marksFrom (now (owners .entry)) (8 * done) size) next) (now (image .entry)) ⌝ }
 {
-    let mut bytes = [0u8; 252];
+    let mut bytes = [0u8; MOST_DATA_BYTES];
     marks::fill(&mut bytes[..size], 8 * done, owners);
     packet::write_page(image, g, page, &bytes[..size], next);
 }
@@ -139,7 +150,7 @@ fn write_file(image: &mut [u8], g: Geometry, owners: &mut [u16])
     ensures { λ _. ⌜ now (image .exit) ≡ emptied g false (now (image .entry)) ⌝ }
 {
     let count = storing::pages_for(g.bitmap_size(), g.data_capacity());
-    let mut four = [0u8; 4];
+    let mut four = [0u8; BITMAP_FIELD_BYTES];
     fill_place(&mut four, g.width, count);
     write_root(image, g, FILE, &four);
     mark(owners, count);
@@ -164,7 +175,7 @@ fn is_allowed(g: Geometry, local: bool) -> bool
     ensures { λ r. ⌜ r ≡ (not local || localAllowed g) ⌝ }
 {
     if local {
-        return g.pages < FILE_PAGES;
+        return g.pages < LEAST_FILE_PAGES;
     }
     true
 }

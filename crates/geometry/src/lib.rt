@@ -31,20 +31,66 @@ pub const MOST_PAGES: u32 = 65535;
 // The greatest page count whose page numbers take one byte.
 pub const MOST_NARROW: usize = 256;
 
-// Bytes of the fields of a packet, a directory entry and a control field.
+// Bytes of the fields of a packet: length byte and check; with both, what a packet has besides its data and its pointer.
 pub const LENGTH_BYTES: usize = 1;
 
 pub const CHECK_BYTES: usize = 2;
 
+pub const FRAME_BYTES: usize = LENGTH_BYTES + CHECK_BYTES;
+
+// Bytes of the fields of a directory entry but its page numbers, and where those after the name stand.
 pub const NAME_BYTES: usize = 4;
 
 pub const EXTENSION_BYTES: usize = 1;
 
+pub const EXTENSION_AT: usize = NAME_BYTES;
+
+pub const START_AT: usize = EXTENSION_AT + EXTENSION_BYTES;
+
+// Bytes of an entry whose page numbers take one byte, and two.
+pub const NARROW_ENTRY_BYTES: usize = START_AT + 2;
+
+pub const WIDE_ENTRY_BYTES: usize = START_AT + 4;
+
+// Bytes of the fields of a control field but its page numbers.
 pub const MARKER_BYTES: usize = 1;
 
 pub const BITMAP_CONTROL_BYTES: usize = 1;
 
 pub const BITMAP_FIELD_BYTES: usize = 4;
+
+// Where the root's map address stands; and, past its n bytes, bitmap control, the four bitmap bytes and their end.
+pub const MAP_ADDRESS_AT: usize = MARKER_BYTES;
+
+pub const BITMAP_CONTROL_PAST: usize = MAP_ADDRESS_AT;
+
+pub const BITMAP_FIELD_PAST: usize = BITMAP_CONTROL_PAST + BITMAP_CONTROL_BYTES;
+
+pub const BITMAP_FIELD_END: usize = BITMAP_FIELD_PAST + BITMAP_FIELD_BYTES;
+
+// Bytes of a control field whose page numbers take two bytes, and of the data of the longest packet.
+pub const MOST_CONTROL_BYTES: usize = BITMAP_FIELD_END + 2;
+
+pub const MOST_DATA_BYTES: usize = 256 - FRAME_BYTES - 1;
+
+// Where a subdirectory's control field has the name of the directory above, the zero byte and that directory's start page.
+pub const ABOVE_NAME_AT: usize = MARKER_BYTES;
+
+pub const ABOVE_ZERO_AT: usize = ABOVE_NAME_AT + NAME_BYTES;
+
+pub const ABOVE_START_AT: usize = ABOVE_ZERO_AT + 1;
+
+// The marker for page numbers of one byte is one more than this, for two bytes two more.
+pub const MARKER: usize = 0xA9;
+
+// Bitmap control: bit 7 says that the four bytes are the bitmap; clear, they place a bitmap file. Bit 0 is work in progress.
+pub const LOCAL_BITMAP: u8 = 128;
+
+// The least page count that needs a bitmap file: fewer pages may have their bitmap in the root's control field.
+pub const LEAST_FILE_PAGES: usize = 32;
+
+// Levels of subdirectories below the root.
+pub const MOST_LEVELS: usize = 8;
 
 impl Geometry {
     // Judges page length, page count, image length and owner table length.
@@ -89,7 +135,7 @@ impl Geometry {
         requires { ⌜ Valid self ⌝ }
         ensures { λ r. ⌜ r ≡ dataCapacity self ⌝ }
     {
-        self.size - (LENGTH_BYTES + CHECK_BYTES) - self.width
+        self.size - FRAME_BYTES - self.width
     }
 
     // Bytes of a directory entry: name, extension, start page, number of pages.
@@ -97,7 +143,7 @@ impl Geometry {
         requires { ⌜ Valid self ⌝ }
         ensures { λ r. ⌜ (r ≡ entrySize self) × (7 ≤ r) × (r ≤ 9) ⌝ }
     {
-        NAME_BYTES + EXTENSION_BYTES + 2 * self.width
+        START_AT + 2 * self.width
     }
 
     // Bytes of the control field of a directory's first page.
@@ -105,7 +151,7 @@ impl Geometry {
         requires { ⌜ Valid self ⌝ }
         ensures { λ r. ⌜ (r ≡ controlSize self) × (7 ≤ r) × (r ≤ 8) ⌝ }
     {
-        MARKER_BYTES + self.width + BITMAP_CONTROL_BYTES + BITMAP_FIELD_BYTES
+        BITMAP_FIELD_END + self.width
     }
 
     // Entries that so many bytes hold; the divisor is a constant either way.
@@ -114,9 +160,9 @@ impl Geometry {
         ensures { λ r. ⌜ r ≡ bytes / entrySize self ⌝ }
     {
         if self.width == 1 {
-            return bytes / (NAME_BYTES + EXTENSION_BYTES + 2);
+            return bytes / NARROW_ENTRY_BYTES;
         }
-        bytes / (NAME_BYTES + EXTENSION_BYTES + 4)
+        bytes / WIDE_ENTRY_BYTES
     }
 
     // Entries that fit in a directory's first page.
@@ -135,7 +181,7 @@ impl Geometry {
         self.data_capacity() / self.entry_size()
     }
 
-    // Bytes of a bitmap file.
+    // Bytes of a bitmap file: eight pages in each.
     pub fn bitmap_size(self) -> usize
         requires { ⌜ Valid self ⌝ }
         ensures { λ r. ⌜ r ≡ bitmapSize self ⌝ }

@@ -8,9 +8,6 @@ ghost use lib.ListN.{length};
 ghost use Rattle.geometry.specs.Geometry.{Fit};
 ghost use Rattle.laying.specs.Layings.{Laying, Lays, Growing, Grows};
 
-// What marks a page that joins a directory; a check makes the table anew afterwards.
-const TAKEN: u16 = 3;
-
 // Stores a file in the lowest free pages and writes its entry in a page of its directory, in the place of those from one number to another. 17.
 pub fn lay_file(
     image: &mut [u8],
@@ -65,7 +62,7 @@ pub fn grow(
     let joins = storing::next_free(owners, 0);
     let start = storing::next_free(owners, joins + 1);
     storing::store(image, g, owners, joins + 1, bytes);
-    owners[joins] = TAKEN;
+    owners[joins] = storing::TAKEN;
     let e = Entry {
         name,
         extension,

@@ -2,10 +2,9 @@
 use mathlib.Core.Path.{_≡_, refl, ap, sym, _∙_, subst}
 use mathlib.Core.Bool.{Bool, true, false}
 use mathlib.Core.List.{List, [], _∷_, _++_}
-use Prim.Native.Nat.{ℕ, zero, suc, _+_, _-_, _%_, _<_}
+use Prim.Native.Nat.{ℕ, zero, suc, _+_, _-_, _<_}
 use native.Mathlib.Omega.{arith}
 use lib.ListN.{length, length-append}
-use borrow.Author.Tests.{eq-eqb, ne-eqb}
 use Rattle.geometry.specs.declared.Geometry.{Geometry}
 use Rattle.packet.specs.Packet.{View}
 use Rattle.rules.specs.declared.Entry.{Entry}
@@ -17,6 +16,8 @@ use Rattle.rules.specs.Tree.{Items}
 use Rattle.rules.specs.WellFormed.{Under}
 use Rattle.rules.specs.Listing.{linesOf, lineAt}
 use Rattle.rules.specs.Check.{Part, chain, directory}
+use Rattle.directory.specs.declared.extensions.Extension.{Extension}
+use Rattle.directory.specs.Extensions.{Means}
 use Rattle.listing.specs.declared.Look.{Look}
 use Rattle.listing.specs.declared.Look.the-variants as look
 use Rattle.listing.specs.Standing.{Stands, PartStands, HasDirectory, HasPart, lineOf, headLine, partLines, Looks, Tells, Heads, LooksPart, LooksDirectory}
@@ -55,17 +56,13 @@ looks-tells k xs (look.Found x) h = h
 looks-tells k xs (look.Left j) h = ap (λ (a : ℕ). lineAt a xs) h ∙ line-none xs j
 
 -- ---- the extension tells a file from a subdirectory
+pub line-is : (level : ℕ) (e : Entry) (n : ℕ) (x : Extension) → Means (e .extension) x
+    → record { level = level; name = e .name; extension = x .number; attribute = x .attribute; start = e .start; pages = e .pages; length = n } ≡ lineOf level e n
+line-is level e n x m i = record { level = level; name = e .name; extension = m .number-is i; attribute = m .attribute-is i; start = e .start; pages = e .pages; length = n }
+
 apart : (b : Bool) → b ≡ true → b ≡ false → ⊥
 apart true p q = let z : _≡_ {A = ℕ} 0 1 = cc in omega arith
 apart false p q = let z : _≡_ {A = ℕ} 0 1 = cc in omega arith
-
-number-directory : (x : ℕ) → x % 128 ≡ 127 → directoryNumber x ≡ true
-unfolding directoryNumber
-number-directory x h = eq-eqb (x % 128) 127 h
-
-number-other : (x : ℕ) → (x % 128 ≡ 127 → ⊥) → directoryNumber x ≡ false
-unfolding directoryNumber
-number-other x h = ne-eqb (x % 128) 127 h
 
 module _ (g : Geometry) (v : View) (levels level : ℕ) (e : Entry) where
   -- below a subdirectory is a level less
@@ -73,9 +70,9 @@ module _ (g : Geometry) (v : View) (levels level : ℕ) (e : Entry) where
   less-level zero d u = absurd u
   less-level (suc n) d u = let q : n ≡ suc n - 1 = omega arith in subst (λ (m : ℕ). Stands g v m (e .start) d) q u
 
-  module _ (h : e .extension % 128 ≡ 127) where
+  module _ (h : directoryNumber (e .extension) ≡ true) where
     pub directory-head : (r : Line) → r ≡ lineOf level e 0 → Heads g v levels level e r
-    directory-head r q (chain ls) s = absurd (apart (directoryNumber (e .extension)) (number-directory (e .extension) h) (s .2))
+    directory-head r q (chain ls) s = absurd (apart (directoryNumber (e .extension)) h (s .2))
     directory-head r q (directory d) s = q ∙ λ i. record {
       level = level;
       name = e .name;
@@ -95,27 +92,27 @@ module _ (g : Geometry) (v : View) (levels level : ℕ) (e : Entry) where
         under (suc n) d u = omega arith
 
         go : (x : Part) → PartStands g v levels e x → 0 < levels
-        go (chain ls) s = absurd (apart (directoryNumber (e .extension)) (number-directory (e .extension) h) (s .2))
+        go (chain ls) s = absurd (apart (directoryNumber (e .extension)) h (s .2))
         go (directory d) s = under levels d (s .3)
 
     pub has-directory : HasPart g v levels e → HasDirectory g v (levels - 1) (e .start)
     has-directory p = go (p .part) (p .stands)
       where
         go : (x : Part) → PartStands g v levels e x → HasDirectory g v (levels - 1) (e .start)
-        go (chain ls) s = absurd (apart (directoryNumber (e .extension)) (number-directory (e .extension) h) (s .2))
+        go (chain ls) s = absurd (apart (directoryNumber (e .extension)) h (s .2))
         go (directory d) s = record { tree = d; stands = less-level levels d (s .3) }
 
     -- past its own line, what is looked for below it
     pub looks-below : (k : ℕ) (r : Look) → (k ≡ 0 → ⊥) → LooksDirectory g v (levels - 1) (level + 1) (e .start) (k - 1) r → LooksPart g v levels level e k r
-    looks-below k r z f (chain ls) s = absurd (apart (directoryNumber (e .extension)) (number-directory (e .extension) h) (s .2))
+    looks-below k r z f (chain ls) s = absurd (apart (directoryNumber (e .extension)) h (s .2))
     looks-below k r z f (directory d) s =
         let u : level + 1 ≡ suc level = omega arith in
         let a = subst (λ (m : ℕ). Looks (k - 1) (linesOf m d) r) u (f d (less-level levels d (s .3))) in
         looks-on k (k - 1) (headLine level e (directory d) ∷ []) (linesOf (suc level) d) (omega arith) r a
 
-  module _ (h : e .extension % 128 ≡ 127 → ⊥) where
+  module _ (h : directoryNumber (e .extension) ≡ false) where
     pub file-head : (n : ℕ) (r : Line) → Counts g v (e .start) n → r ≡ lineOf level e n → Heads g v levels level e r
-    file-head n r f q (directory d) s = absurd (apart (directoryNumber (e .extension)) (s .2) (number-other (e .extension) h))
+    file-head n r f q (directory d) s = absurd (apart (directoryNumber (e .extension)) (s .2) h)
     file-head n r f q (chain ls) s = q ∙ λ i. record {
       level = level;
       name = e .name;
@@ -130,11 +127,11 @@ module _ (g : Geometry) (v : View) (levels level : ℕ) (e : Entry) where
     file-known p = go (p .part) (p .stands)
       where
         go : (x : Part) → PartStands g v levels e x → KnownChain g v (e .start)
-        go (directory d) s = absurd (apart (directoryNumber (e .extension)) (s .2) (number-other (e .extension) h))
+        go (directory d) s = absurd (apart (directoryNumber (e .extension)) (s .2) h)
         go (chain ls) s = record { links = ls; chain = s .0 }
 
     pub looks-file : (k : ℕ) → (k ≡ 0 → ⊥) → LooksPart g v levels level e k (look.Left (k - 1))
-    looks-file k z (directory d) s = absurd (apart (directoryNumber (e .extension)) (s .2) (number-other (e .extension) h))
+    looks-file k z (directory d) s = absurd (apart (directoryNumber (e .extension)) (s .2) h)
     looks-file k z (chain ls) s = omega arith
 
   -- its own line

@@ -1,6 +1,9 @@
 // The entry at a walk position of an image that is known to be accepted, found in the image alone.
+use directory::extensions::extension_of;
+use directory::extensions::is_directory;
 use entries::Slot;
 use geometry::Geometry;
+use geometry::MOST_LEVELS;
 use rules::Entry;
 use rules::Line;
 ghost use mathlib.Core.Path.{_≡_};
@@ -19,11 +22,12 @@ pub enum Look {
 fn line_of(level: usize, e: Entry, length: usize) -> Line
     ensures { λ r. ⌜ r ≡ lineOf level e length ⌝ }
 {
+    let x = extension_of(e.extension);
     Line {
         level,
         name: e.name,
-        extension: e.extension % 128,
-        attribute: e.extension / 128,
+        extension: x.number,
+        attribute: x.attribute,
         start: e.start,
         pages: e.pages,
         length,
@@ -36,7 +40,7 @@ fn entry_line(image: &[u8], g: Geometry, levels: usize, level: usize, e: Entry) 
     requires { ⌜ HasPart g (viewOf g (now image)) levels e ⌝ }
     ensures { λ r. ⌜ Heads g (viewOf g (now (image .entry))) levels level e r ⌝ }
 {
-    if e.extension % 128 == 127 {
+    if is_directory(e.extension) {
         return line_of(level, e, 0);
     }
     line_of(level, e, content::chain_bytes(image, g, e.start))
@@ -51,10 +55,10 @@ fn look_entry(image: &[u8], g: Geometry, levels: usize, level: usize, e: Entry, 
     if k == 0 {
         return Look::Found(entry_line(image, g, levels, level, e));
     }
-    if e.extension % 128 != 127 {
-        return Look::Left(k - 1);
+    if is_directory(e.extension) {
+        return look_directory(image, g, levels - 1, level + 1, e.start, k - 1);
     }
-    look_directory(image, g, levels - 1, level + 1, e.start, k - 1)
+    Look::Left(k - 1)
 }
 
 // The line at a position among those of a directory and all below it.
@@ -96,5 +100,5 @@ pub fn line_at(image: &[u8], g: Geometry, k: usize) -> Look
     requires { ⌜ Accepted g (viewOf g (now image)) ⌝ }
     ensures { λ r. ⌜ LooksImage g (viewOf g (now (image .entry))) k r ⌝ }
 {
-    look_directory(image, g, 8, 0, 0, k)
+    look_directory(image, g, MOST_LEVELS, 0, 0, k)
 }

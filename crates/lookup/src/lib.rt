@@ -1,6 +1,8 @@
 // Entries found by name in an image that is known to be accepted: in a directory, and along the directories of a path.
+use directory::extensions::DIRECTORY;
 use entries::Slot;
 use geometry::Geometry;
+use geometry::NAME_BYTES;
 use path::Parsed;
 use rules::Entry;
 ghost use Prim.Native.Nat.{_+_, _*_, _≤_};
@@ -93,10 +95,10 @@ pub fn resolve(
     if names == 0 {
         return Resolved::Directory(start);
     }
-    let name = geometry::number_at(path, at, 4);
-    match find_entry(image, g, start, entries::key_of(name as u32, 127)) {
+    let name = geometry::number_at(path, at, NAME_BYTES);
+    match find_entry(image, g, start, entries::key_of(name as u32, DIRECTORY)) {
         Search::Absent => Resolved::Absent,
-        Search::Found(e) => resolve(image, g, e.start, path, at + 4, names - 1),
+        Search::Found(e) => resolve(image, g, e.start, path, at + NAME_BYTES, names - 1),
     }
 }
 

@@ -1,7 +1,13 @@
 // The bitmap written from the owner table: bit k is 1 where page k has an owner. And a chain's pages made free in the table.
 use chain::Cursor;
 use chain::Step;
+use geometry::BITMAP_CONTROL_PAST;
+use geometry::BITMAP_FIELD_BYTES;
+use geometry::BITMAP_FIELD_END;
+use geometry::BITMAP_FIELD_PAST;
 use geometry::Geometry;
+use geometry::LENGTH_BYTES;
+use geometry::LOCAL_BITMAP;
 use packet::Judged;
 ghost use mathlib.Core.Path.{_≡_};
 ghost use Prim.Native.Nat.{_+_, _*_, _≤_, _<_};
@@ -11,6 +17,11 @@ ghost use Rattle.packet.specs.Packet.{viewOf};
 ghost use Rattle.chain.specs.KnownChain.{KnownChain};
 ghost use Rattle.marks.specs.Marks.{byteMarks, marksFrom};
 ghost use Rattle.marks.specs.MapPages.{HasLocal, CopiesRoot, WritesLocal, HasFile, WritesFile, HasRoot, WritesMap, TellsLocal, TellsStart, Releases};
+
+// Where bitmap control stands in page 0, past the map address, and where the four bitmap bytes end.
+const CONTROL_AT: usize = LENGTH_BYTES + BITMAP_CONTROL_PAST;
+
+const PLACE_END: usize = LENGTH_BYTES + BITMAP_FIELD_END;
 
 // The bits of the four pages from k on.
 fn four_bits(owners: &[u16], k: usize) -> usize
@@ -52,6 +63,7 @@ fn copy_root(image: &[u8], g: Geometry, buffer: &mut [u8]) -> Judged
 {
     let page = geometry::page_of(image, g, 0);
     match packet::frame(page, g.width) {
+        // page 0 is known to hold a right packet
         Judged::Bad => Judged::Bad,
         Judged::Whole { length, next } => {
             geometry::put_bytes(buffer, 0, packet::data_of(page, length));
@@ -66,9 +78,10 @@ fn write_root(image: &mut [u8], g: Geometry, owners: &[u16], buffer: &mut [u8])
     requires { ⌜ (length (now buffer) ≡ 256) × HasLocal g (viewOf g (now image)) ⌝ }
     ensures { λ _. ⌜ WritesLocal g (now (owners .entry)) (now (image .entry)) (now (image .exit)) ⌝ }
 {
-    let at = g.width + 2;
-    let end = at + 4;
+    let at = g.width + BITMAP_FIELD_PAST;
+    let end = at + BITMAP_FIELD_BYTES;
     match copy_root(image, g, buffer) {
+        // page 0 is known to hold a right packet
         Judged::Bad => {}
         Judged::Whole { length, next } => {
             fill(&mut buffer[at..end], 0, owners);
@@ -97,6 +110,7 @@ fn write_pages(image: &mut [u8], g: Geometry, start: usize, owners: &[u16], buff
     loop {
         let page = c.page;
         match c.step(image, g, true) {
+            // the chain is known to stand
             Step::Refused(_, _) => {
                 return;
             }
@@ -132,6 +146,7 @@ pub fn release(image: &[u8], g: Geometry, start: usize, owners: &mut [u16])
     loop {
         let page = c.page;
         match c.step(image, g, true) {
+            // the chain is known to stand
             Step::Refused(_, _) => {
                 return;
             }
@@ -151,9 +166,9 @@ fn is_local(image: &[u8], g: Geometry) -> bool
     requires { ⌜ Fit g (now image) ⌝ }
     ensures { λ r. ⌜ TellsLocal g (viewOf g (now (image .entry))) r ⌝ }
 {
-    let at = g.width + 2;
+    let at = g.width + CONTROL_AT;
     let page = geometry::page_of(image, g, 0);
-    128 <= page[at]
+    LOCAL_BITMAP <= page[at]
 }
 
 // The start page of the bitmap file that the root's control field places.
@@ -161,7 +176,7 @@ fn map_start(image: &[u8], g: Geometry) -> usize
     requires { ⌜ Fit g (now image) ⌝ }
     ensures { λ r. ⌜ TellsStart g (viewOf g (now (image .entry))) r ⌝ }
 {
-    geometry::number_at(geometry::page_of(image, g, 0), 7 - g.width, g.width)
+    geometry::number_at(geometry::page_of(image, g, 0), PLACE_END - g.width, g.width)
 }
 
 // Writes the bitmap where the root places it.

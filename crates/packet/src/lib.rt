@@ -1,11 +1,17 @@
 // Packets: a page judged, its data read, a packet written.
+use geometry::CHECK_BYTES;
+use geometry::FRAME_BYTES;
 use geometry::Geometry;
+use geometry::LENGTH_BYTES;
 ghost use mathlib.Core.Path.{_≡_};
 ghost use Prim.Native.Nat.{_+_, _*_, _≤_, _<_};
 ghost use lib.ListN.{length, take, drop};
 ghost use Rattle.geometry.specs.Geometry.{Fit};
 ghost use Rattle.packet.specs.Packet.{packetOf, written, writePage, write};
 ghost use Rattle.packet.specs.Judged.{frameOf, judged};
+
+// A register inverted is what is left of this number without it.
+const INVERTED: usize = 0xFFFF;
 
 // What a page holds.
 pub enum Judged {
@@ -24,12 +30,12 @@ pub fn frame(page: &[u8], n: usize) -> Judged
     if size < n {
         return Judged::Bad;
     }
-    if page.len() < size + 3 {
+    if page.len() < size + FRAME_BYTES {
         return Judged::Bad;
     }
     Judged::Whole {
         length: size - n,
-        next: geometry::number_at(page, size + 1 - n, n),
+        next: geometry::number_at(page, size + LENGTH_BYTES - n, n),
     }
 }
 
@@ -41,9 +47,9 @@ pub fn judge(page: &[u8], p: usize, n: usize) -> Judged
     match frame(page, n) {
         Judged::Bad => Judged::Bad,
         Judged::Whole { length, next } => {
-            let end = length + n + 1;
+            let end = length + n + LENGTH_BYTES;
             let register = crc16::crc_of(p as u16, &page[..end]);
-            if geometry::number_at(page, end, 2) != 65535 - (register as usize) {
+            if geometry::number_at(page, end, CHECK_BYTES) != INVERTED - (register as usize) {
                 return Judged::Bad;
             }
             Judged::Whole { length, next }
@@ -56,8 +62,8 @@ pub fn data_of<'a>(page: &'a [u8], size: usize) -> &'a [u8]
     requires { ⌜ size + 1 ≤ length (now page) ⌝ }
     ensures { λ r. ⌜ now r ≡ take size (drop 1 (now (page .entry))) ⌝ }
 {
-    let end = size + 1;
-    &page[1..end]
+    let end = size + LENGTH_BYTES;
+    &page[LENGTH_BYTES..end]
 }
 
 // Writes a packet into the page with number p; the rest of the page stays.
@@ -66,13 +72,13 @@ pub fn write_packet(page: &mut [u8], p: usize, n: usize, bytes: &[u8], next: usi
     ensures { λ _. ⌜ now (page .exit) ≡ written n p (now (bytes .entry)) next (now (page .entry)) ⌝ }
 {
     let size = bytes.len() + n;
-    let start = bytes.len() + 1;
-    let end = size + 1;
-    geometry::put_number(page, 0, 1, size);
-    geometry::put_bytes(page, 1, bytes);
+    let start = bytes.len() + LENGTH_BYTES;
+    let end = size + LENGTH_BYTES;
+    geometry::put_number(page, 0, LENGTH_BYTES, size);
+    geometry::put_bytes(page, LENGTH_BYTES, bytes);
     geometry::put_number(page, start, n, next);
     let sum = crc16::crc_of(p as u16, &page[..end]);
-    geometry::put_number(page, end, 2, 65535 - (sum as usize));
+    geometry::put_number(page, end, CHECK_BYTES, INVERTED - (sum as usize));
 }
 
 // The same in a page of an image.

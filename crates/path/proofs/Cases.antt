@@ -8,11 +8,9 @@ use lib.ListN.{length, getD, take, drop}
 use lib.Seq.{drop-drop}
 use borrow.Author.Tests.{le-leb, lt-leb, eq-eqb, ne-eqb, not-true, not-false}
 use Rattle.geometry.specs.Number.{number}
-use Rattle.rules.specs.Result.{andThen, refuse-unless}
+use Rattle.rules.specs.Result.{ok, err, andThen, refuse-unless}
 use Rattle.rules.specs.Names.{validName}
 use Rattle.rules.specs.Paths.{namesIn, validNames, pathOf}
-use Rattle.path.specs.declared.Parsed.the-variants.{Path, Malformed}
-use Rattle.path.specs.Told.{told}
 
 -- one more name
 module _ (b : List ℕ) (k i x : ℕ) (t : Bool) (h : i < k) (e : x ≡ number (take 4 (drop (4 * i) b))) (q : t ≡ validName x) where
@@ -41,32 +39,32 @@ length-names zero b = refl
 length-names (suc k) b = ap suc (length-names k (drop 4 b))
 
 module _ (b : List ℕ) where
-  pub odd-length : (length b % 4 ≡ 1 → ⊥) → Malformed ≡ told (pathOf b)
+  pub odd-length : (length b % 4 ≡ 1 → ⊥) → err 14 0 ≡ pathOf b
   unfolding pathOf andThen refuse-unless
   odd-length h = simp (pathOf, ne-eqb (length b % 4) 1 h)
 
   module _ (h : length b % 4 ≡ 1) where
-    pub too-short : length b < 5 → Malformed ≡ told (pathOf b)
+    pub too-short : length b < 5 → err 14 0 ≡ pathOf b
     unfolding pathOf andThen refuse-unless
     too-short k = simp (pathOf, eq-eqb (length b % 4) 1 h, lt-leb 5 (length b) k)
 
     module _ (k : 5 ≤ length b) where
-      pub too-long : 37 < length b → Malformed ≡ told (pathOf b)
+      pub too-long : 37 < length b → err 14 0 ≡ pathOf b
       unfolding pathOf andThen refuse-unless
       too-long l = simp (pathOf, eq-eqb (length b % 4) 1 h, le-leb 5 (length b) k, lt-leb (length b) 37 l)
 
       module _ (l : length b ≤ 37) (t : Bool) (q : t ≡ validNames (namesIn (length b / 4) b)) where
-        pub bad-name : not t ≡ true → Malformed ≡ told (pathOf b)
+        pub bad-name : not t ≡ true → err 14 0 ≡ pathOf b
         unfolding pathOf andThen refuse-unless
         bad-name z = simp (pathOf, eq-eqb (length b % 4) 1 h, le-leb 5 (length b) k, le-leb (length b) 37 l, ← q, not-true t z)
 
         module _ (z : not t ≡ false) where
-          pub bad-extension : 99 < getD b (length b - 1) 0 → Malformed ≡ told (pathOf b)
+          pub bad-extension : 99 < getD b (length b - 1) 0 → err 14 0 ≡ pathOf b
           unfolding pathOf andThen refuse-unless
           bad-extension m = simp (pathOf, eq-eqb (length b % 4) 1 h, le-leb 5 (length b) k, le-leb (length b) 37 l, ← q, not-false t z, lt-leb (getD b (length b - 1) 0) 99 m)
 
           pub well-formed : getD b (length b - 1) 0 ≤ 99 → (x : ℕ) → x ≡ number (take 4 (drop (length b - 5) b))
-              → Path (length b / 4 - 1) x (getD b (length b - 1) 0) ≡ told (pathOf b)
+              → ok (record { directories = namesIn (length b / 4 - 1) b; name = x; extension = getD b (length b - 1) 0 }) ≡ pathOf b
           unfolding pathOf andThen refuse-unless
           well-formed m x e =
-              simp (pathOf, eq-eqb (length b % 4) 1 h, le-leb 5 (length b) k, le-leb (length b) 37 l, ← q, not-false t z, le-leb (getD b (length b - 1) 0) 99 m, ← e, length-names)
+              simp (pathOf, eq-eqb (length b % 4) 1 h, le-leb 5 (length b) k, le-leb (length b) 37 l, ← q, not-false t z, le-leb (getD b (length b - 1) 0) 99 m, ← e)

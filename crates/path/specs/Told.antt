@@ -1,10 +1,12 @@
--- For contracts: what the code answers of a path.
-use lib.ListN.{length}
+-- The answer of a path as the rule has it: document 01's number. The directory names are those that its bytes begin with.
+use mathlib.Core.List.{List}
+use Prim.Native.Nat.{ℕ}
 use Rattle.rules.specs.Result.{Res, ok, err}
 use Rattle.rules.specs.Paths as paths
+use Rattle.rules.specs.Paths.{namesIn}
 use Rattle.path.specs.declared.Parsed.{Parsed}
 use Rattle.path.specs.declared.Parsed.the-variants.{Path, Malformed}
 
-abbrev pub told : Res paths.Path → Parsed
-told (ok q) = Path (length (q .directories)) (q .name) (q .extension)
-told (err n p) = Malformed
+abbrev pub told : List ℕ → Parsed → Res paths.Path
+told bytes (Path names name extension) = ok (record { directories = namesIn names bytes; name = name; extension = extension })
+told bytes Malformed = err 14 0

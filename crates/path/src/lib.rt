@@ -1,9 +1,18 @@
 // Paths: none to eight four-byte directory names, then a four-byte file name and one byte 0 to 99.
+use directory::extensions::MOST_FILE;
+use geometry::EXTENSION_BYTES;
+use geometry::MOST_LEVELS;
+use geometry::NAME_BYTES;
 ghost use mathlib.Core.Path.{_≡_};
 ghost use Prim.Native.Nat.{_*_, _≤_};
 ghost use lib.ListN.{length};
 ghost use Rattle.rules.specs.Paths.{namesIn, validNames, pathOf};
 ghost use Rattle.path.specs.Told.{told};
+
+// Bytes of a path without directories, and with as many as the levels.
+const LEAST_BYTES: usize = NAME_BYTES + EXTENSION_BYTES;
+
+const MOST_BYTES: usize = MOST_LEVELS * NAME_BYTES + LEAST_BYTES;
 
 // What the bytes of a path are.
 pub enum Parsed {
@@ -20,7 +29,7 @@ fn valid_names(bytes: &[u8], k: usize) -> bool
 {
     let mut i = 0;
     while i < k {
-        let name = geometry::number_at(bytes, 4 * i, 4);
+        let name = geometry::number_at(bytes, NAME_BYTES * i, NAME_BYTES);
         let valid = directory::names::valid_name(name as u32);
         if !valid {
             return false;
@@ -32,26 +41,26 @@ fn valid_names(bytes: &[u8], k: usize) -> bool
 
 // Judges and takes apart a path of any bytes.
 pub fn parse(bytes: &[u8]) -> Parsed
-    ensures { λ r. ⌜ r ≡ told (pathOf (now (bytes .entry))) ⌝ }
+    ensures { λ r. ⌜ told (now (bytes .entry)) r ≡ pathOf (now (bytes .entry)) ⌝ }
 {
     let n = bytes.len();
-    if n % 4 != 1 {
+    if n % NAME_BYTES != EXTENSION_BYTES {
         return Parsed::Malformed;
     }
-    if n < 5 {
+    if n < LEAST_BYTES {
         return Parsed::Malformed;
     }
-    if 37 < n {
+    if MOST_BYTES < n {
         return Parsed::Malformed;
     }
-    let valid = valid_names(bytes, n / 4);
+    let valid = valid_names(bytes, n / NAME_BYTES);
     if !valid {
         return Parsed::Malformed;
     }
     let extension = bytes[n - 1];
-    if 99 < extension {
+    if MOST_FILE < extension {
         return Parsed::Malformed;
     }
-    let name = geometry::number_at(bytes, n - 5, 4);
-    Parsed::Path(n / 4 - 1, name as u32, extension)
+    let name = geometry::number_at(bytes, n - LEAST_BYTES, NAME_BYTES);
+    Parsed::Path(n / NAME_BYTES - 1, name as u32, extension)
 }

@@ -1,4 +1,5 @@
 // Put: a file made or replaced, in the lowest free pages.
+use directory::extensions::extension_of;
 use entries::Slot;
 use geometry::Geometry;
 use geometry::Shape;
@@ -88,7 +89,7 @@ fn put_path(image: &mut [u8], g: Geometry, path: &[u8], bytes: &[u8], owners: &m
             insert_file(image, g, start, name, extension, bytes, owners)
         }
         PathLookup::At(slot, e) => {
-            if 127 < e.extension {
+            if extension_of(e.extension).attribute != 0 {
                 return Edited::Refused(16, 0);
             }
             replace_file(image, g, slot, e, bytes, owners)

@@ -3,6 +3,7 @@ use chain::Cursor;
 use chain::Step;
 use entries::Slot;
 use geometry::Geometry;
+use geometry::WIDE_ENTRY_BYTES;
 use rules::Entry;
 ghost use mathlib.Core.Path.{_≡_};
 ghost use Prim.Native.Nat.{_+_, _-_, _≤_, _<_};
@@ -37,6 +38,7 @@ pub fn rewrite(
     ensures { λ _. ⌜ Rewrites g page from to (now (new .entry)) next (now (image .entry)) (now (image .exit)) ⌝ }
 {
     match Cursor::new(page, page).step(image, g, true) {
+        // the page is known to hold a right packet
         Step::Refused(_, _) => {
             return;
         }
@@ -69,7 +71,7 @@ pub fn place_entry(image: &mut [u8], g: Geometry, slot: Slot, first: usize, last
     ensures { λ _. ⌜ Rewrites g (slot .page) (entryFrom g slot first) (entryFrom g slot last) (entryBytes (g .width) e) (slot .next .page) (now (image .entry)) (now (image .exit)) ⌝ }
 {
     let width = g.entry_size();
-    let mut bytes = [0u8; 9];
+    let mut bytes = [0u8; WIDE_ENTRY_BYTES];
     directory::entries::put_entry(&mut bytes[..width], e, g.width);
     exchange(image, g, slot, first, last, &bytes[..width]);
 }
@@ -81,7 +83,7 @@ pub fn write_entry(image: &mut [u8], g: Geometry, page: usize, e: Entry)
     ensures { λ _. ⌜ now (image .exit) ≡ writePage g (write page (entryBytes (g .width) e) 0) (now (image .entry)) ⌝ }
 {
     let width = g.entry_size();
-    let mut bytes = [0u8; 9];
+    let mut bytes = [0u8; WIDE_ENTRY_BYTES];
     directory::entries::put_entry(&mut bytes[..width], e, g.width);
     packet::write_page(image, g, page, &bytes[..width], 0);
 }

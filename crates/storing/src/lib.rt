@@ -8,7 +8,7 @@ ghost use Rattle.rules.specs.Chain.{pagesFor};
 ghost use Rattle.storing.specs.Free.{CountsFree, NextFree, HasRoom, Stores};
 
 // What marks a page taken for a new chain; a check makes the table anew afterwards.
-const TAKEN: u16 = 3;
+pub const TAKEN: u16 = 3;
 
 // How many pages have no owner.
 pub fn count_free(owners: &[u16]) -> usize

@@ -3,7 +3,11 @@ use bitmap::Bits;
 use chain::Claim;
 use directory::control::Kind;
 use directory::control::Root;
+use geometry::BITMAP_FIELD_BYTES;
+use geometry::BITMAP_FIELD_PAST;
 use geometry::Geometry;
+use geometry::LENGTH_BYTES;
+use geometry::MOST_LEVELS;
 use geometry::Shape;
 use packet::Judged;
 use rules::Totals;
@@ -28,6 +32,14 @@ pub enum Edited {
 
 // `ROOT`, the first byte lowest.
 const ROOT: u32 = 0x544F4F52;
+
+// The owner's numbers of the root and of the bitmap file.
+const ROOT_OWNER: usize = 1;
+
+const MAP_OWNER: usize = 2;
+
+// Where the four bitmap bytes stand in page 0, past the map address.
+const FIELD_AT: usize = LENGTH_BYTES + BITMAP_FIELD_PAST;
 
 // Makes every page free.
 fn clear(owners: &mut [u16])
@@ -63,7 +75,7 @@ fn claim_map(image: &[u8], g: Geometry, start: usize, count: usize, owners: &mut
     if start == 0 {
         return Walk::Refused(6, 0);
     }
-    match chain::claim_chain(image, g, Kind::File, 2, 0, start, owners) {
+    match chain::claim_chain(image, g, Kind::File, MAP_OWNER, 0, start, owners) {
         Claim::Refused(number, told) => Walk::Refused(number, told),
         Claim::Chain(pages, bytes) => {
             if count != pages {
@@ -92,7 +104,18 @@ fn walk_root(image: &[u8], g: Geometry, used: usize, owners: &mut [u16]) -> Walk
         files: 0,
         directories: 0,
     };
-    walk::walk_directory(image, g, 8, Kind::Root, ROOT, 0, 0, 1, totals, owners)
+    walk::walk_directory(
+        image,
+        g,
+        MOST_LEVELS,
+        Kind::Root,
+        ROOT,
+        0,
+        0,
+        ROOT_OWNER,
+        totals,
+        owners,
+    )
 }
 
 // The first half of the check, over an empty table: all but the bits of the bitmap.
@@ -118,10 +141,11 @@ fn compare(image: &[u8], g: Geometry, root: Root, owners: &[u16]) -> Bits
     ensures { λ r. ⌜ BitsCompared g (viewOf g (now (image .entry))) (now (owners .entry)) r ⌝ }
 {
     match root {
+        // a refused root was never scanned
         Root::Refused(_) => Bits::Same,
         Root::Local => {
-            let at = 3 + g.width;
-            let end = at + 4;
+            let at = FIELD_AT + g.width;
+            let end = at + BITMAP_FIELD_BYTES;
             let page = geometry::page_of(image, g, 0);
             bitmap::compare_local(&page[at..end], owners)
         }

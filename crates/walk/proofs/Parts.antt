@@ -2,7 +2,7 @@
 use mathlib.Core.Path.{_≡_, refl, ap, ap₂, sym, _∙_, subst}
 use mathlib.Core.Bool.{Bool, true, false, not}
 use mathlib.Core.List.{List, _++_}
-use Prim.Native.Nat.{ℕ, zero, suc, _+_, _-_, _%_, _≤_, _<_}
+use Prim.Native.Nat.{ℕ, zero, suc, _+_, _-_, _≤_, _<_}
 use native.Mathlib.Decide.{decLt}
 use native.Mathlib.Omega.{arith}
 use lib.ListN.{length, length-append, take}
@@ -205,18 +205,16 @@ module _ (g : Geometry) (v : View) (levels name start : ℕ) (claimed : List ℕ
       entry-kind : entryOf ≡ choose (directoryNumber (e .extension)) (andThen (judgeSub g v (suc (g .pages)) levels here claimed p e) (λ d. ok (directory d))) (judgeFile g v (suc (g .pages)) claimed p e)
       entry-kind = simp (by-kind, h, fault-none f p z, then-ok)
 
-      entry-file : (e .extension % 128 ≡ 127 → ⊥) → entryOf ≡ judgeFile g v (suc (g .pages)) claimed p e
-      unfolding directoryNumber
-      entry-file n = entry-kind ∙ ap (λ (b : Bool). choose b (andThen (judgeSub g v (suc (g .pages)) levels here claimed p e) (λ d. ok (directory d))) (judgeFile g v (suc (g .pages)) claimed p e)) (ne-eqb (e .extension % 128) 127 n) ∙ choose-false _ _
+      entry-file : directoryNumber (e .extension) ≡ false → entryOf ≡ judgeFile g v (suc (g .pages)) claimed p e
+      entry-file n = entry-kind ∙ ap (λ (b : Bool). choose b (andThen (judgeSub g v (suc (g .pages)) levels here claimed p e) (λ d. ok (directory d))) (judgeFile g v (suc (g .pages)) claimed p e)) n ∙ choose-false _ _
 
-      pub file-entry : (e .extension % 128 ≡ 127 → ⊥) → (c : Totals) (t : List ℕ) (r : Walk) (u : List ℕ) → Answers (plusPart c) (ownPart (c .files + c .directories) t) (judgeFile g v (suc (g .pages)) claimed p e) r u
+      pub file-entry : directoryNumber (e .extension) ≡ false → (c : Totals) (t : List ℕ) (r : Walk) (u : List ℕ) → Answers (plusPart c) (ownPart (c .files + c .directories) t) (judgeFile g v (suc (g .pages)) claimed p e) r u
           → Answers (plusPart c) (ownPart (c .files + c .directories) t) entryOf r u
       file-entry n c t r u a = subst (λ (x : Res Part). Answers (plusPart c) (ownPart (c .files + c .directories) t) x r u) (sym (entry-file n)) a
 
-      module _ (x : e .extension % 128 ≡ 127) (k : ℕ) (b : judgeBelow levels p e ≡ faultAt k p) where
+      module _ (x : directoryNumber (e .extension) ≡ true) (k : ℕ) (b : judgeBelow levels p e ≡ faultAt k p) where
         entry-sub : entryOf ≡ andThen (judgeSub g v (suc (g .pages)) levels here claimed p e) (λ d. ok (directory d))
-        unfolding directoryNumber
-        entry-sub = entry-kind ∙ ap (λ (b : Bool). choose b (andThen (judgeSub g v (suc (g .pages)) levels here claimed p e) (λ d. ok (directory d))) (judgeFile g v (suc (g .pages)) claimed p e)) (eq-eqb (e .extension % 128) 127 x) ∙ choose-true _ _
+        entry-sub = entry-kind ∙ ap (λ (b : Bool). choose b (andThen (judgeSub g v (suc (g .pages)) levels here claimed p e) (λ d. ok (directory d))) (judgeFile g v (suc (g .pages)) claimed p e)) x ∙ choose-true _ _
 
         pub entry-below : (k ≡ 0 → ⊥) → entryOf ≡ err k p
         entry-below n = simp (entry-sub, sub-step g v here claimed p e levels, b, fault-err k p n, then-err)

@@ -1,6 +1,7 @@
 // The walk over a directory and all below it: every chain is claimed in the owner table, every entry judged, in the order of the check.
 use chain::Claim;
 use directory::control::Kind;
+use directory::extensions::is_directory;
 use entries::Slot;
 use geometry::Geometry;
 use rules::Entry;
@@ -13,6 +14,9 @@ ghost use Rattle.packet.specs.Packet.{viewOf};
 ghost use Rattle.directory.specs.Faults.{testOf};
 ghost use Rattle.entries.specs.EntrySlots.{HasEntries};
 ghost use Rattle.walk.specs.Walks.{Good, Ready, Remaining, EntryFault, BelowFault, FileWalked, EntryWalked, DirectoryWalked};
+
+// The owner's number of the entry at walk position 0.
+const FIRST_OWNER: usize = 3;
 
 // What a walk answers: the totals so far, or a number of document 01 and the page told.
 pub enum Walk {
@@ -75,7 +79,7 @@ fn walk_file(
     if e.start == 0 {
         return Walk::Refused(6, page);
     }
-    let owner = 3 + (totals.files + totals.directories);
+    let owner = FIRST_OWNER + (totals.files + totals.directories);
     match chain::claim_chain(image, g, Kind::File, owner, page, e.start, owners) {
         Claim::Refused(number, told) => Walk::Refused(number, told),
         Claim::Chain(pages, _) => {
@@ -111,15 +115,16 @@ fn walk_entry(
     if fault != 0 {
         return Walk::Refused(fault, page);
     }
-    if e.extension % 128 != 127 {
+    let below = is_directory(e.extension);
+    if !below {
         return walk_file(image, g, page, e, totals, owners);
     }
     let refused = below_fault(levels, e);
     if refused != 0 {
         return Walk::Refused(refused, page);
     }
-    let owner = 3 + (totals.files + totals.directories);
-    let below = Totals {
+    let owner = FIRST_OWNER + (totals.files + totals.directories);
+    let inside = Totals {
         used: totals.used,
         files: totals.files,
         directories: totals.directories + 1,
@@ -133,7 +138,7 @@ fn walk_entry(
         page,
         e.start,
         owner,
-        below,
+        inside,
         owners,
     )
 }

@@ -1,3 +1,4 @@
+-- Whether the entries from the place on have the key is what is left to search; the place is behind the entries passed. The measure: the entries left.
 use mathlib.Core.Path.{_≡_, _∙_, sym, ap}
 use Prim.Native.Nat.{ℕ, _+_, _-_, _*_, _≤_}
 use native.Mathlib.Omega.{arith}
@@ -31,23 +32,24 @@ returns c =
     let l = c .before .before .before .loop in
     sym (l .inv .2 ∙ key-found _ (a .page .now) _ (a .m) (l .i) (l .at) (c .before .before .loop-test .taken) _ (c .before .has-key .ensures) (c .if1 .taken))
 
-add-at : tie.Need-add-at Inv-loop μ-loop
-add-at c =
-    let s = c .before .before .before .before .before .before .pre in
-    let k = at-entry _ _ _ _ _ _ (s .0) (s .1 .0) (c .before .before .before .loop-test .taken) (c .before .before .before .before .loop .inv .1) in
-    let l = s .1 .1 in
-    let e = c .entry-size .ensures .0 in
-    search needs
+after-entry-requires : tie.Need-after-entry-requires Inv-loop μ-loop
+after-entry-requires c κs =
+    let in-loop = c .before .before in
+    let s = in-loop .before .before .before .pre in
+    let k = at-entry _ _ _ _ _ _ (s .0) (s .1 .0) (in-loop .loop-test .taken) (in-loop .before .loop .inv .1) in
+    (s .0 .two, omega (arith, k .1, s .1 .1))
 
 loop-again : tie.Need-loop-again Inv-loop μ-loop
+unfolding entrySize
 loop-again c =
-    let a = c .before .before .before .before .before .before .args in
-    let s = c .before .before .before .before .before .before .pre in
-    let l = c .before .before .before .before .loop in
-    let t = c .before .before .before .loop-test .taken in
-    let e = c .entry-size .ensures .0 in
-    let k = at-entry _ _ _ _ _ _ (s .0) (s .1 .0) t (l .inv .1) in
-    (omega arith, omega arith, l .inv .2 ∙ key-passed _ (a .page .now) _ (a .m) (l .i) (l .at) t _ (c .before .before .has-key .ensures) (c .before .if1 .left) ∙ ap (λ (x : ℕ). mem (a .key) (keysFrom (a .g) (a .m - (l .i + 1)) (drop (l .at + x) (a .page .now)))) (sym e))
+    let in-loop = c .before .before .before in
+    let l = in-loop .before .loop in
+    let start = in-loop .before .before .before in
+    let a = start .args in
+    let t = in-loop .loop-test .taken in
+    let e : c .after-entry .result ≡ l .at + entrySize (a .g) = c .after-entry .ensures in
+    let k = key-passed _ (a .page .now) _ (a .m) (l .i) (l .at) t _ (c .before .before .has-key .ensures) (c .before .if1 .left) in
+    (omega arith, omega arith, l .inv .2 ∙ k ∙ ap (λ (x : ℕ). mem (a .key) (keysFrom (a .g) (a .m - (l .i + 1)) (drop x (a .page .now)))) (sym e))
 
 returns-2 : tie.Need-returns-2 Inv-loop μ-loop
 returns-2 c =
@@ -58,4 +60,4 @@ returns-2 c =
 pub page-has-spec : {M : Type 1} → statement M
 page-has-spec =
     tie.close
-    (tie.spec Inv-loop μ-loop loop-holds has-key-requires returns (λ c κs. search needs) add-at (λ c. search needs) (λ c. search needs) loop-again returns-2)
+    (tie.spec Inv-loop μ-loop loop-holds has-key-requires returns after-entry-requires (λ c. search needs) (λ c. search needs) loop-again returns-2)

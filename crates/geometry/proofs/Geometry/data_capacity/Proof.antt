@@ -1,3 +1,4 @@
+-- Straight-line arithmetic against the definition.
 use mathlib.Core.Path.{refl}
 use native.Mathlib.Omega.{arith}
 use Rattle.geometry.specs.Geometry.{dataCapacity}
@@ -16,4 +17,4 @@ returns c = refl
 pub data-capacity-spec : {M : Type 1} → statement M
 data-capacity-spec =
     tie.close
-    (tie.spec (λ c. search needs) (λ c. search needs) sub-result-2 returns)
+    (tie.spec (λ c. search needs) sub-result-2 returns)

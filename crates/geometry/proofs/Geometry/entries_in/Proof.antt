@@ -1,3 +1,4 @@
+-- The divisor is the definition's, by the width.
 use native.Mathlib.Omega.{arith}
 use mathlib.Core.Path.{_≡_, ap}
 use Prim.Native.Nat.{ℕ, _+_, _*_, _/_}
@@ -21,4 +22,4 @@ returns-2 c =
 pub entries-in-spec : {M : Type 1} → statement M
 entries-in-spec =
     tie.close
-    (tie.spec (λ c. search needs) (λ c. search needs) (λ c. search needs) returns (λ c. search needs) (λ c. search needs) (λ c. search needs) returns-2)
+    (tie.spec returns returns-2)

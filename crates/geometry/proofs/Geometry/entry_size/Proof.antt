@@ -1,3 +1,4 @@
+-- Straight-line arithmetic against the definition.
 use native.Mathlib.Omega.{arith}
 use Rattle.geometry.specs.Geometry.{entrySize}
 use borrow.Author.Needs.{needs}
@@ -11,4 +12,4 @@ returns c = omega arith
 pub entry-size-spec : {M : Type 1} → statement M
 entry-size-spec =
     tie.close
-    (tie.spec (λ c. search needs) (λ c. search needs) (λ c. search needs) returns)
+    (tie.spec (λ c. search needs) (λ c. search needs) returns)
