@@ -53,7 +53,7 @@ mod tests {
     use super::{owner_of, owner_table, Owner};
 
     #[test]
-    fn lengths_of_tables() {
+    fn table_has_two_bytes_for_each_page() {
         for (page_count, length) in [
             (0, 0),
             (2, 4),
@@ -66,7 +66,7 @@ mod tests {
     }
 
     #[test]
-    fn owners_by_their_numbers() {
+    fn owner_is_told_by_its_number() {
         let owners = [0, 0, 1, 0, 2, 0, 3, 0, 2, 1, 0xFF, 0xFF, 7];
         let expected = [
             Some(Owner::Free),

@@ -170,7 +170,7 @@ mod tests {
     }
 
     #[test]
-    fn what_is_no_name() {
+    fn text_that_is_no_name_is_refused() {
         for text in [
             "", " ", "    ", " A", "A B", "a", "A.B", "ABCDE", "A    ", "É", "A\\", "A\0",
         ] {
@@ -182,7 +182,7 @@ mod tests {
     }
 
     #[test]
-    fn directories_and_extension_numbers() {
+    fn nine_directories_or_an_extension_above_99_are_refused() {
         assert_eq!(path(&["A"; 8], "B", 99).expect("a path").len(), 37);
         assert_eq!(path(&["A"; 9], "B", 99), Err(PathError::Directories(9)));
         for extension in 100..=255 {
@@ -192,7 +192,7 @@ mod tests {
     }
 
     #[test]
-    fn errors_in_words() {
+    fn errors_say_what_is_wrong() {
         let text = |error: PathError| error.to_string();
         assert_eq!(text(PathError::Name("a".into())), "\"a\" is no name");
         assert_eq!(

@@ -200,7 +200,7 @@ mod tests {
     }
 
     #[test]
-    fn some_numbers() {
+    fn reasons_have_the_numbers_of_document_01() {
         let known = [
             (1, Reason::Arguments),
             (7, Reason::Crossed),

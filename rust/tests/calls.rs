@@ -1,4 +1,7 @@
-//! The calls as a user of the crate makes them.
+//! The calls as a user of the crate makes them, with answers that are known.
+//!
+//! Programs: the library alone, by the functions of the crate. Its comparison with the second program is in `tests/`, which has that program.
+//! The archive is made by `rt staticlib owfs`.
 
 use owfs::{
     check, crc16, delete, entries, list, owner_of, owner_table, path, put, read, read_to_vec,
@@ -45,7 +48,7 @@ fn nested() -> Vec<u8> {
 }
 
 #[test]
-fn a_file_from_put_to_delete() {
+fn file_is_put_listed_and_deleted() {
     let mut image = formatted();
     let mut owners = owner_table(16);
     let demo = path(&[], "DEMO", 12).expect("a path");
@@ -75,7 +78,7 @@ fn a_file_from_put_to_delete() {
 }
 
 #[test]
-fn outputs() {
+fn read_fills_the_front_of_the_output_or_is_refused() {
     let mut image = formatted();
     let mut owners = owner_table(16);
     let demo = path(&[], "DEMO", 12).expect("a path");
@@ -113,7 +116,7 @@ fn words(listed: &Listed) -> String {
 }
 
 #[test]
-fn entries_with_their_paths() {
+fn entries_come_in_walk_order_with_their_paths() {
     let image = nested();
     let mut owners = owner_table(16);
     let listed: Result<Vec<Listed>, Refusal> = entries(GEOMETRY, &image, &mut owners).collect();
@@ -166,7 +169,7 @@ fn read_only_files_stay() {
 
 /// An image with a fault: each call tells it, and the entries end with it.
 #[test]
-fn refusals_of_an_image() {
+fn fault_of_an_image_is_told_by_each_call_and_ends_the_entries() {
     let mut image = nested();
     image[3 * 32 + 1] = 0xAB;
     let fault = refusal(2, 3);
@@ -191,7 +194,7 @@ fn refusals_of_an_image() {
 
 /// Numbers that no button has, and buffers that do not fit: always 1, and no byte is changed.
 #[test]
-fn any_arguments() {
+fn arguments_that_do_not_fit_are_1_and_change_nothing() {
     let numbers = [0, 1, 2, 31, 32, 256, 257, 65_535, 65_536, u32::MAX];
     for (page_length, page_count) in numbers
         .into_iter()
@@ -228,7 +231,7 @@ fn any_arguments() {
 }
 
 #[test]
-fn bitmaps() {
+fn local_bitmap_is_refused_from_32_pages_on() {
     for (page_count, local, file) in [
         (31, Ok(()), Ok(())),
         (32, Err(refusal(4, 0)), Ok(())),
@@ -247,7 +250,7 @@ fn bitmaps() {
 
 /// Slices that are only read may overlap.
 #[test]
-fn overlapping_slices() {
+fn slices_that_are_only_read_may_overlap() {
     let mut image = formatted();
     let mut owners = owner_table(16);
     let demo = path(&[], "DEMO", 12).expect("a path");
@@ -262,7 +265,7 @@ fn overlapping_slices() {
 
 /// The crate takes a name exactly if the library does.
 #[test]
-fn names_are_the_librarys() {
+fn name_is_taken_exactly_if_the_library_takes_it() {
     let image = formatted();
     let mut owners = owner_table(16);
     let mut taken = 0;
@@ -293,7 +296,7 @@ fn names_are_the_librarys() {
 
 /// The largest image, and the greatest owner number.
 #[test]
-fn largest_image() {
+fn largest_image_is_formatted_filled_and_read() {
     let geometry = Geometry::new(32, 65_535);
     let mut image = vec![0; 32 * 65_535];
     let mut owners = owner_table(65_535);

@@ -24,7 +24,7 @@ use common::generators::{
 use common::plans::{formatted_plan, geometry};
 use common::puts::used_plan;
 use common::trials::Trial;
-use common::{both, Button, Tally};
+use common::{agreed, Button, Tally};
 use referee::builder::plan::ImagePlan;
 use referee::rng::Rng;
 
@@ -190,7 +190,7 @@ impl Soak {
     fn sums(&mut self, rng: &mut Rng) {
         let length = [rng.below(40), rng.below(5_000)][rng.below(2)];
         self.begin("check sum", &format!(" of {length} bytes"));
-        both::crc16(rng.next_u64() as u16, &rng.bytes(length));
+        agreed::crc16(rng.next_u64() as u16, &rng.bytes(length));
     }
 
     /// A case of every kind, and a run of edits.

@@ -41,12 +41,18 @@ pub fn list_program(dump: &[u8]) -> Vec<u8> {
     output.stdout
 }
 
-/// Demands what the second program prints for a dump, and counts its first words.
-pub fn compare(dump: &[u8], tally: &mut Tally) -> String {
+/// The text that the program `list` and the second program print for a dump.
+pub fn text(dump: &[u8]) -> String {
     let expected = String::from_utf8(list_text(dump)).expect("ASCII");
     let printed = String::from_utf8_lossy(&list_program(dump)).into_owned();
-    assert_eq!(printed, expected);
-    let words: Vec<&str> = expected.split_whitespace().take(2).collect();
+    assert_eq!(printed, expected, "program `list` and second program");
+    expected
+}
+
+/// Demands one text for a dump from the program `list` and the second program, and counts its first words.
+pub fn compare(dump: &[u8], tally: &mut Tally) -> String {
+    let text = text(dump);
+    let words: Vec<&str> = text.split_whitespace().take(2).collect();
     let answer = match words[..] {
         ["refused", number] => format!("refused {number}"),
         _ => String::from("accepted 0"),

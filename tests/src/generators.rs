@@ -332,7 +332,7 @@ pub fn misfit(button: &mut Button, rng: &mut Rng) {
     }
 }
 
-/// An image that the second program formatted and put some files into.
+/// An image that was formatted and has had some files put into it.
 pub fn written(page_length: u32, page_count: u32, rng: &mut Rng) -> Vec<u8> {
     let mut button = Button::formatted(page_length, page_count, page_count < 32 && rng.chance(50));
     for _ in 0..rng.below(6) {

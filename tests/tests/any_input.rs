@@ -1,6 +1,9 @@
 //! Any bytes and numbers: every call answers, a refusal changes nothing, and the calls agree with each other.
+//!
+//! Programs: the library and the second program. Each call is made by both; every answer and every lent byte is compared.
+//! The archive is made by `rt staticlib owfs`.
 
-use common::{answer, Button, Seed};
+use common::{agreed, answer, Button, Seed};
 use referee::builder::pages::Pages;
 use referee::builder::random::random_packets;
 use referee::rng::Rng;
@@ -26,21 +29,21 @@ fn random_length(rng: &mut Rng, fitting: u64) -> usize {
 /// Calls every function once with the same arguments.
 fn call_all(p: u32, n: u32, image: &[u8], table_length: usize, path: &[u8], rng: &mut Rng) {
     let mut table = vec![0x44; table_length];
-    let totals = referee::check(p, n, image, &mut table);
+    let totals = agreed::check(p, n, image, &mut table);
     assert!(totals.number <= 13);
     let position = rng.next_u64() as u32 >> rng.below(32);
-    let listing = referee::list(p, n, image, &mut table, position);
+    let listing = agreed::list(p, n, image, &mut table, position);
     let mut out = vec![0; rng.below(300)];
-    let length = referee::read(p, n, image, path, &mut out, &mut table);
+    let length = agreed::read(p, n, image, path, &mut out, &mut table);
     let length_of_bytes = rng.below(3_000);
     let bytes = rng.bytes(length_of_bytes);
     let mut put_image = image.to_vec();
-    let put = referee::put(p, n, &mut put_image, path, &bytes, &mut table);
+    let put = agreed::put(p, n, &mut put_image, path, &bytes, &mut table);
     let mut delete_image = image.to_vec();
-    let delete = referee::delete(p, n, &mut delete_image, path, &mut table);
+    let delete = agreed::delete(p, n, &mut delete_image, path, &mut table);
     let mut format_image = image.to_vec();
     let local = rng.below(2) as u32;
-    let format = referee::format(p, n, &mut format_image, &mut table, local);
+    let format = agreed::format(p, n, &mut format_image, &mut table, local);
     assert!([0, 1, 4].contains(&format.number));
     for (number, changed) in [
         (put.number, &put_image),
@@ -58,7 +61,7 @@ fn call_all(p: u32, n: u32, image: &[u8], table_length: usize, path: &[u8], rng:
 }
 
 #[test]
-fn random_arguments() {
+fn calls_with_any_arguments_answer_and_refusals_change_nothing() {
     for seed in 50_000..56_000 {
         let _seed = Seed(seed);
         let mut rng = Rng::new(seed);
@@ -134,7 +137,7 @@ fn use_image(button: &mut Button, rng: &mut Rng) -> u32 {
 
 /// Images of sound packets at random, with one-byte and two-byte numbers.
 #[test]
-fn random_sound_packets() {
+fn all_calls_agree_on_images_of_random_packets() {
     for (seeds, low, high) in [(60_000..90_000, 2, 31), (90_000..93_000, 257, 270)] {
         let mut met = [0_u32; 20];
         for seed in seeds {

@@ -1,5 +1,7 @@
-//! The library called by a C program (`tests/c/calls.c`), compiled here with warnings as errors, against the second program;
-//! the largest directory with a limited stack; and an example of firmware (`tests/c/firmware.c`), with what it prints.
+//! The library called by a C program, the largest directory with a limited stack, and an example of firmware with what it prints.
+//!
+//! Programs: the library, by the C program `tests/c/calls.c`, compiled here with warnings as errors, and the second program, whose answers and lent
+//! bytes the C program must print; `tests/c/firmware.c`, which calls the library alone and prints a known text.
 //! The archive is made by `rt staticlib owfs`.
 
 use std::fs;
@@ -332,7 +334,7 @@ fn random_calls(case: &Case, rng: &mut Rng, tally: &mut Tally) -> Vec<Call> {
 
 /// Every answer and every lent byte is the second program's.
 #[test]
-fn answers_in_c() {
+fn answers_in_c_are_the_second_programs() {
     let mut tally = Tally::default();
     for seed in 0x7000_0000..0x7000_0000 + 400 {
         let _seed = Seed(seed);
@@ -386,13 +388,13 @@ fn with_limited_stack(call: &Call, what: &str) {
 }
 
 #[test]
-fn check_of_50000_entries_with_a_limited_stack() {
+fn check_of_50000_entries_runs_on_a_limited_stack() {
     let owner_bytes = 131_072;
     with_limited_stack(&Call::Check { owner_bytes }, "check");
 }
 
 #[test]
-fn list_of_50000_entries_with_a_limited_stack() {
+fn list_of_50000_entries_runs_on_a_limited_stack() {
     let call = Call::List {
         owner_bytes: 131_070,
         position: 49_999,
@@ -401,7 +403,7 @@ fn list_of_50000_entries_with_a_limited_stack() {
 }
 
 #[test]
-fn read_of_50000_entries_with_a_limited_stack() {
+fn read_of_50000_entries_runs_on_a_limited_stack() {
     let last = &largest().0.entries[49_999];
     let call = Call::Read {
         owner_bytes: 131_070,
@@ -419,7 +421,7 @@ fn last_path() -> Vec<u8> {
 }
 
 #[test]
-fn delete_of_50000_entries_with_a_limited_stack() {
+fn delete_from_50000_entries_runs_on_a_limited_stack() {
     let call = Call::Delete {
         owner_bytes: 131_071,
         path: last_path(),
@@ -429,7 +431,7 @@ fn delete_of_50000_entries_with_a_limited_stack() {
 
 /// A new file on three pages.
 #[test]
-fn put_to_50000_entries_with_a_limited_stack() {
+fn put_to_50000_entries_runs_on_a_limited_stack() {
     let call = Call::Put {
         owner_bytes: 131_070,
         path: b"NEW'\x63".to_vec(),
@@ -440,7 +442,7 @@ fn put_to_50000_entries_with_a_limited_stack() {
 
 /// The last file replaced by one on all pages that are free.
 #[test]
-fn replacement_in_50000_entries_with_a_limited_stack() {
+fn replacement_in_50000_entries_runs_on_a_limited_stack() {
     let free = 65_535 - largest().0.totals.used as usize;
     let call = Call::Put {
         owner_bytes: 131_072,
@@ -452,7 +454,7 @@ fn replacement_in_50000_entries_with_a_limited_stack() {
 
 /// Format is refused over the largest directory, whose owners it tells, and done with a bitmap file.
 #[test]
-fn format_of_50000_entries_with_a_limited_stack() {
+fn format_over_50000_entries_runs_on_a_limited_stack() {
     for (local, what) in [(1, "local"), (0, "file")] {
         let owner_bytes = 131_070;
         with_limited_stack(&Call::Format { owner_bytes, local }, what);
@@ -498,7 +500,7 @@ check: 0 page 0, pages in use 1, files 0
 
 /// The example is C99 without a warning, and every step is as it expects.
 #[test]
-fn example_of_firmware() {
+fn example_of_firmware_is_c99_and_prints_each_step() {
     let program = compiled("firmware.c", &["-std=c99", "-pedantic"]);
     let output = Command::new(program).output().expect("the example runs");
     printed(&output, FIRMWARE);

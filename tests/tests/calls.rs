@@ -1,6 +1,9 @@
-//! Arguments, paths, places, room and output of the calls.
+//! Arguments, paths, places, room and output of the calls, on images made by hand.
+//!
+//! Programs: the library and the second program. Each call is made by both; every answer and every lent byte is compared.
+//! The archive is made by `rt staticlib owfs`.
 
-use common::{answer, numbers, Button};
+use common::{agreed, answer, numbers, Button};
 use referee::builder::pages::{path, Pages};
 use referee::{Answer, Length, Listing, Totals};
 
@@ -16,33 +19,33 @@ fn refused_with_1(page_length: u32, page_count: u32, image_length: usize, table_
         number: 1,
         ..Totals::default()
     };
-    assert_eq!(referee::check(p, n, &image, &mut table), totals);
+    assert_eq!(agreed::check(p, n, &image, &mut table), totals);
     let listing = Listing {
         number: 1,
         ..Listing::default()
     };
-    assert_eq!(referee::list(p, n, &image, &mut table, 0), listing);
+    assert_eq!(agreed::list(p, n, &image, &mut table, 0), listing);
     let length = Length {
         number: 1,
         ..Length::default()
     };
-    let read = referee::read(p, n, &image, b"A   \x01", &mut out, &mut table);
+    let read = agreed::read(p, n, &image, b"A   \x01", &mut out, &mut table);
     assert_eq!(read, length);
     for local in [0, 1, u32::MAX] {
-        let formatted = referee::format(p, n, &mut image, &mut table, local);
+        let formatted = agreed::format(p, n, &mut image, &mut table, local);
         assert_eq!(formatted, one);
     }
     let path = b"A   \x01";
-    let put = referee::put(p, n, &mut image, path, b"x", &mut table);
+    let put = agreed::put(p, n, &mut image, path, b"x", &mut table);
     assert_eq!(put, one);
-    assert_eq!(referee::delete(p, n, &mut image, path, &mut table), one);
+    assert_eq!(agreed::delete(p, n, &mut image, path, &mut table), one);
     assert_eq!(image, before);
     assert_eq!(out, [0x77; 16]);
     assert!(table.iter().all(|&byte| byte == 0x99));
 }
 
 #[test]
-fn page_length_and_page_count() {
+fn page_length_or_page_count_outside_its_limits_is_1() {
     for page_length in [0, 1, 31, 257, 65_535, 65_536, 65_568, u32::MAX] {
         let fitting = page_length as usize % 1_000 * 16;
         for image_length in [0, 512, fitting] {
@@ -67,7 +70,7 @@ fn page_length_and_page_count() {
 }
 
 #[test]
-fn image_length() {
+fn image_of_another_length_is_1() {
     for image_length in [0, 1, 32, 511, 513, 544, 1_024] {
         refused_with_1(32, 16, image_length, 64);
     }
@@ -76,7 +79,7 @@ fn image_length() {
 }
 
 #[test]
-fn owner_table_length() {
+fn owner_table_too_short_is_1_and_a_longer_one_keeps_its_rest() {
     for table_length in [0, 1, 2, 16, 30, 31] {
         refused_with_1(32, 16, 512, table_length);
     }
@@ -84,7 +87,7 @@ fn owner_table_length() {
     let mut image = vec![0; 512];
     for table_length in [32, 33, 34, 1_000] {
         let mut table = vec![0x99; table_length];
-        let done = referee::format(32, 16, &mut image, &mut table, 1);
+        let done = agreed::format(32, 16, &mut image, &mut table, 1);
         assert_eq!(done, answer(0, 0));
         assert_eq!(table[..4], [1, 0, 0, 0]);
         assert!(table[4..32].iter().all(|&byte| byte == 0));
@@ -129,7 +132,7 @@ fn path_refused(path: &[u8], number: u32) {
 }
 
 #[test]
-fn path_lengths() {
+fn path_of_another_length_is_14() {
     let whole = b"D   ".repeat(20);
     for length in 0..=whole.len() {
         let mut path = whole[..length].to_vec();
@@ -146,7 +149,7 @@ fn path_lengths() {
 }
 
 #[test]
-fn last_byte_of_a_path() {
+fn last_byte_of_a_path_above_99_is_14() {
     for last in 0..=255_u8 {
         let number = sample().read(&path(&["D"], "X", last)).0;
         let expected = match last {
@@ -166,7 +169,7 @@ fn last_byte_of_a_path() {
 }
 
 #[test]
-fn names_in_paths() {
+fn malformed_name_in_a_path_is_14() {
     for name in ["A B ", "    ", " A  ", "a   ", "A.B ", "A\0  ", "A\\  "] {
         path_refused(&path(&[], name, 1), 14);
         path_refused(&path(&["D"], name, 1), 14);
@@ -180,7 +183,7 @@ fn names_in_paths() {
 }
 
 #[test]
-fn directories_that_are_missing() {
+fn missing_directory_is_15() {
     path_refused(&path(&["NONE"], "X", 1), 15);
     path_refused(&path(&["DEMO"], "X", 1), 15);
     path_refused(&path(&["D", "X"], "X", 1), 15);
@@ -189,7 +192,7 @@ fn directories_that_are_missing() {
 }
 
 #[test]
-fn files_that_are_missing() {
+fn missing_file_is_15_for_read_and_delete_and_is_made_by_put() {
     for missing in [
         path(&[], "NONE", 1),
         path(&[], "DEMO", 11),
@@ -207,7 +210,7 @@ fn files_that_are_missing() {
 
 /// Refusals 14 to 18 leave the accepted image's owners in the table.
 #[test]
-fn owners_after_refusals() {
+fn refusals_14_to_18_leave_the_owners_of_the_accepted_image() {
     path_refused(b"bad", 14);
     path_refused(&path(&["NONE"], "X", 1), 15);
     let mut button = sample();
@@ -222,7 +225,7 @@ fn owners_after_refusals() {
 }
 
 #[test]
-fn read_only_files() {
+fn read_only_file_is_16_for_put_and_delete_and_is_read() {
     let mut button = sample();
     assert_eq!(button.put(b"FULL\x00", b"").0, answer(16, 0));
     assert_eq!(button.put(b"FULL\x00", &[0; 10_000]).0, answer(16, 0));
@@ -231,7 +234,7 @@ fn read_only_files() {
 }
 
 #[test]
-fn output_length() {
+fn output_too_short_is_18_and_a_longer_one_keeps_its_rest() {
     let button = sample();
     for length in 0..4 {
         let (answer, _) = button.read_into(b"DEMO\x0C", &mut vec![1; length]);
@@ -251,7 +254,7 @@ fn output_length() {
 }
 
 #[test]
-fn positions_past_the_end() {
+fn position_past_the_end_is_15() {
     let button = sample();
     for position in [5, 6, 255, 256, 65_535, 65_536, 65_537, u32::MAX] {
         let expected = Listing {
@@ -263,7 +266,7 @@ fn positions_past_the_end() {
 }
 
 #[test]
-fn listings() {
+fn list_tells_every_field_of_each_entry() {
     let listings = sample().list_all();
     let expected = [
         (0, *b"DEMO", 12, 0, 1, 1, 4),
@@ -292,7 +295,7 @@ fn listings() {
 }
 
 #[test]
-fn totals() {
+fn check_tells_pages_in_use_files_directories_and_owners() {
     let (totals, owners) = sample().check();
     let expected = Totals {
         number: 0,
@@ -307,7 +310,7 @@ fn totals() {
 
 /// Walk order: right after a subdirectory's entry all entries below it; each page has its own entry's number.
 #[test]
-fn owner_numbers() {
+fn owner_numbers_follow_walk_order() {
     let mut pages = Pages::new(32, 16);
     let mut root = pages.file_control(9, 1);
     root.extend(pages.entry("D", 0x7F, 3, 0));
@@ -330,7 +333,7 @@ fn owner_numbers() {
 }
 
 #[test]
-fn format_refused_and_the_table() {
+fn refused_format_leaves_the_owners_of_the_image_as_it_stands() {
     let mut button = Button::formatted(32, 40, false);
     let (done, owners) = button.format(true);
     assert_eq!(done, answer(4, 0));
@@ -341,13 +344,13 @@ fn format_refused_and_the_table() {
     assert!(owners.iter().all(|&owner| owner == 0));
     let mut table = vec![9; 80];
     let mut short = vec![0; 40 * 32 - 1];
-    let refused = referee::format(32, 40, &mut short, &mut table, 1);
+    let refused = agreed::format(32, 40, &mut short, &mut table, 1);
     assert_eq!(refused, answer(1, 0));
     assert_eq!(table, vec![9; 80]);
 }
 
 #[test]
-fn pages_of_a_formatted_bitmap_file() {
+fn format_lays_the_bitmap_file_from_page_1_in_full_packets() {
     for (page_length, page_count, lengths) in [
         (32, 2, vec![1]),
         (32, 16, vec![2]),
@@ -380,7 +383,7 @@ fn pages_of_a_formatted_bitmap_file() {
 
 /// Format needs no valid image before it and leaves every byte outside its packets.
 #[test]
-fn format_of_any_image() {
+fn format_takes_any_bytes_and_keeps_those_outside_its_packets() {
     for local in [false, true] {
         let mut button = Button::zeros(33, 30);
         for (place, byte) in button.image.iter_mut().enumerate() {
@@ -398,11 +401,11 @@ fn format_of_any_image() {
 }
 
 #[test]
-fn format_takes_any_number_for_local() {
+fn any_number_but_0_asks_format_for_a_local_bitmap() {
     for local in [1, 2, 0x80, 256, 65_536, u32::MAX] {
         let mut image = vec![0; 512];
         let mut table = vec![0; 32];
-        let done = referee::format(32, 16, &mut image, &mut table, local);
+        let done = agreed::format(32, 16, &mut image, &mut table, local);
         assert_eq!(done, Answer::default());
         assert_eq!(image[3], 0x80);
         assert_eq!(numbers(&table)[..2], [1, 0]);
@@ -410,7 +413,7 @@ fn format_takes_any_number_for_local() {
 }
 
 #[test]
-fn the_directorys_page_is_chosen_first() {
+fn growing_directory_takes_the_lowest_free_page_before_the_file() {
     let mut pages = Pages::new(32, 8);
     let mut root = pages.local_control(&[0, 1, 2, 4, 7]);
     root.extend(pages.entry("A", 1, 1, 1));
@@ -430,7 +433,7 @@ fn the_directorys_page_is_chosen_first() {
 }
 
 #[test]
-fn first_page_with_space_in_chain_order() {
+fn new_entry_goes_to_the_first_page_with_space_in_chain_order() {
     let mut pages = Pages::new(32, 16);
     let mut root = pages.local_control(&[0, 1, 2, 3, 4, 5]);
     for (name, start) in [("A", 3), ("B", 4), ("C", 5)] {
@@ -461,7 +464,7 @@ fn first_page_with_space_in_chain_order() {
 
 /// Pages of a replaced chain that are not used again keep their bytes, and so does what a shorter packet leaves.
 #[test]
-fn bytes_that_stay() {
+fn shorter_replacement_keeps_the_bytes_it_does_not_write() {
     let mut button = Button::formatted(32, 16, true);
     let long: Vec<u8> = (1..=84).collect();
     assert_eq!(button.put(b"F   \x01", &long).0, answer(0, 0));
@@ -474,7 +477,7 @@ fn bytes_that_stay() {
 }
 
 #[test]
-fn hidden_directories() {
+fn files_below_hidden_directories_are_read_put_and_deleted() {
     let mut button = sample();
     let mut pages = button.pages();
     pages.alter(0, 26, &[0xFF]);
@@ -491,7 +494,7 @@ fn hidden_directories() {
 }
 
 #[test]
-fn largest_file_of_256_pages() {
+fn file_on_all_free_pages_of_256_is_put_and_one_byte_more_is_17() {
     let mut button = Button::formatted(32, 256, false);
     let bytes: Vec<u8> = (0..28 * 253 + 1_u32).map(|byte| (byte / 3) as u8).collect();
     assert_eq!(button.put(b"ALL \x01", &bytes).0, answer(17, 0));
@@ -541,7 +544,7 @@ fn a_replaced_entry_keeps_its_place() {
 
 /// A bitmap file keeps its packets' lengths, also empty ones, and only changes bits.
 #[test]
-fn bitmap_file_with_odd_packets() {
+fn bitmap_file_keeps_the_lengths_of_its_packets() {
     let mut pages = Pages::new(32, 40);
     let root = pages.file_control(9, 5);
     pages.packet(0, &root, 0);
@@ -575,7 +578,7 @@ fn bitmap_file_with_odd_packets() {
 
 /// A file that is put has its top bit clear, and packets that are full but the last.
 #[test]
-fn packets_of_a_put_file() {
+fn put_fills_all_packets_but_the_last_and_clears_the_top_bit() {
     for (page_length, page_count) in [(32, 100), (33, 300), (256, 300), (256, 40)] {
         let most = Button::zeros(page_length, page_count)
             .pages()
@@ -601,7 +604,7 @@ fn packets_of_a_put_file() {
 
 /// Two pages only: with a local bitmap one page is free, with a bitmap file none.
 #[test]
-fn two_pages() {
+fn image_of_two_pages_has_room_for_one_page_or_none() {
     let mut button = Button::formatted(32, 2, true);
     assert_eq!(button.put(b"A   \x01", &[1; 29]).0, answer(17, 0));
     assert_eq!(button.put(b"A   \x01", &[1; 28]).0, answer(0, 0));
@@ -614,7 +617,7 @@ fn two_pages() {
 
 /// A put that needs a directory page as well as the file's pages.
 #[test]
-fn room_for_the_directory_page() {
+fn put_needs_room_for_the_page_that_joins_the_directory() {
     let mut button = Button::formatted(32, 6, true);
     for name in ["A", "B", "C"] {
         assert_eq!(button.put(&path(&[], name, 1), b"x").0, answer(0, 0));

@@ -1,4 +1,6 @@
-//! The library's check, called as C calls it, against the second program: five numbers and every owner byte.
+//! Checks of small images, sound and damaged, and of images of many pages: five numbers and every owner byte.
+//!
+//! Programs: the library and the second program. Each call is made by both; every answer and every lent byte is compared.
 //! The archive is made by `rt staticlib owfs`.
 
 use common::generators::{flip, misfit, owner_bytes, small_button};
@@ -26,7 +28,7 @@ fn checks_are_the_second_programs() {
 }
 
 #[test]
-fn many_pages_and_longer_tables() {
+fn checks_of_many_pages_with_longer_tables_are_the_second_programs() {
     let seed = 0x0114_65535;
     println!("seed {seed}");
     for case in 0..12 {
@@ -46,7 +48,7 @@ fn many_pages_and_longer_tables() {
 }
 
 #[test]
-fn empty_slices() {
+fn check_of_an_empty_image_is_1() {
     let mut rng = Rng::new(1);
     for (page_length, page_count) in [(0, 0), (32, 2), (256, 65_535)] {
         let button = Button {

@@ -1,6 +1,9 @@
-//! The check of both programs: known vectors, and the pages that document 001 prints. The archive is made by `rt staticlib owfs`.
+//! The check sum: known vectors, and the pages that document 001 prints.
+//!
+//! Programs: the library and the second program, each sum by both; and the sum worked bit by bit here.
+//! The archive is made by `rt staticlib owfs`.
 
-use common::both::{check_bytes, crc16};
+use common::agreed::{check_bytes, crc16};
 use referee::rng::Rng;
 
 /// The register after `bytes`, worked bit by bit: each bit that leaves it and is 1 subtracts the polynomial.
@@ -29,19 +32,19 @@ fn four_bits_at_a_time_is_bit_by_bit() {
 }
 
 #[test]
-fn worked_step_of_application_note_27() {
+fn worked_step_of_application_note_27_gives_its_register() {
     assert_eq!(crc16(0x90F1, &[0x75]), 0x6390);
 }
 
 #[test]
-fn crc_16_arc() {
+fn crc_16_arc_of_123456789_is_bb3d() {
     assert_eq!(crc16(0, b"123456789"), 0xBB3D);
     assert_eq!(crc16(0, b""), 0);
     assert_eq!(crc16(0x1234, b""), 0x1234);
 }
 
 #[test]
-fn inverted_low_byte_first() {
+fn check_bytes_are_inverted_low_byte_first() {
     let packet = b"123456789";
     assert_eq!(
         check_bytes(0, packet),
@@ -51,7 +54,7 @@ fn inverted_low_byte_first() {
 
 /// DS1985 example: its pages 0 and 1 use the page number; page 1 has 73 for the misprinted 7E.
 #[test]
-fn printed_pages_of_the_ds1985() {
+fn printed_checks_of_the_ds1985_start_with_the_page_number() {
     let page_0 = [
         0x0F, 0xAA, 0x00, 0x00, 0x00, 0x00, 0x08, 0x01, 0x44, 0x45, 0x4D, 0x4F, 0x0C, 0x01, 0x01,
         0x00,
@@ -75,7 +78,7 @@ fn bitmap_file_example() -> [Vec<u8>; 3] {
 }
 
 #[test]
-fn bitmap_file_example_with_page_numbers() {
+fn bitmap_file_example_started_with_page_numbers_is_2b35_fe48_1588() {
     let [page_1, page_2, page_3] = bitmap_file_example();
     assert_eq!(check_bytes(1, &page_1), [0x2B, 0x35]);
     assert_eq!(check_bytes(2, &page_2), [0xFE, 0x48]);
@@ -84,7 +87,7 @@ fn bitmap_file_example_with_page_numbers() {
 
 /// The checks that document 001 prints there are those with start 0 on all three pages.
 #[test]
-fn bitmap_file_example_as_printed() {
+fn printed_checks_of_the_bitmap_file_example_start_with_0() {
     let [page_1, page_2, page_3] = bitmap_file_example();
     assert_eq!(check_bytes(0, &page_1), [0x2A, 0x65]);
     assert_eq!(check_bytes(0, &page_2), [0xFF, 0xAA]);

@@ -1,5 +1,7 @@
-//! Long seeded runs on one image: the library and the second program format, put, delete, check, list and read alike, after each other's
-//! edits. Every answer and every lent byte is compared, and each is known by construction: the image has a plan, which the edits change.
+//! Long seeded runs on one image of format, put, delete, check, list and read. Each answer is known by construction: the image has a plan, which the
+//! edits change.
+//!
+//! Programs: the library and the second program. Each call is made by both; every answer and every lent byte is compared.
 //! The archive is made by `rt staticlib owfs`.
 
 use common::edit_runs::Run;
@@ -9,7 +11,7 @@ use referee::rng::Rng;
 
 /// Runs on formatted images: with a local bitmap and with a bitmap file, with one-byte and with two-byte page numbers.
 #[test]
-fn formatted_images() {
+fn runs_on_formatted_images_are_as_planned() {
     let mut tally = Tally::default();
     let buttons = [
         (32, 2, 1),
@@ -50,7 +52,7 @@ fn formatted_images() {
 
 /// Runs on generated images: nested directories, scattered chains, odd packets, read-only files.
 #[test]
-fn generated_images() {
+fn runs_on_generated_images_are_as_planned() {
     let mut tally = Tally::default();
     run_seeds(0xB100_0000..0xB100_0000 + 300, |seed, rng| {
         Run::generated(used_plan(seed, rng), rng, &mut tally).run(80);

@@ -1,5 +1,6 @@
-//! The library's format and delete, called as C calls them, against the second program: the answer, every byte of the image and of the
-//! owner table, and the bytes next to them. Where an image is known by construction, so are the answer and the image afterwards.
+//! Formats and deletes. Where an image is known by construction, so are the answer and the image afterwards.
+//!
+//! Programs: the library and the second program. Each call is made by both; every answer and every lent byte is compared.
 //! The archive is made by `rt staticlib owfs`.
 
 use common::generators::{
@@ -215,7 +216,7 @@ impl Worn<'_> {
 
 /// Deletes of files that are there, and of paths near them, from images with scattered chains, odd packets and nested directories.
 #[test]
-fn deletes_from_sound_images() {
+fn deletes_from_sound_images_leave_the_planned_image() {
     let mut tally = Tally::default();
     run_seeds(0xA000_0000..0xA000_0000 + 4_000, |_, rng| {
         let plan = worn_plan(rng);
@@ -246,7 +247,7 @@ fn deletes_from_sound_images() {
 
 /// Every file of an image is deleted, one after the other; those that stay are read each time.
 #[test]
-fn deletes_one_after_the_other() {
+fn deletes_one_after_the_other_leave_the_planned_images() {
     let mut deletes = 0;
     run_seeds(0xA100_0000..0xA100_0000 + 150, |_, rng| {
         let mut plan = worn_plan(rng);
@@ -287,7 +288,7 @@ fn deletes_one_after_the_other() {
 
 /// Each number from 2 to 13, with the page known; pairs of them; damage of any kind; arguments that do not fit.
 #[test]
-fn deletes_from_faulty_images() {
+fn deletes_from_faulty_images_tell_the_fault() {
     let mut tally = Tally::default();
     run_seeds(0xA200_0000..0xA200_0000 + 3_000, |seed, rng| {
         let case = faulty_case(seed, rng);
@@ -329,7 +330,7 @@ fn image_to_format(kind: u64, rng: &mut Rng) -> (&'static str, Button) {
 
 /// Format over images of every kind; after 4 the table tells of the old image as it stands.
 #[test]
-fn formats_of_any_image() {
+fn formats_of_any_image_leave_the_planned_image_or_are_refused() {
     let mut tally = Tally::default();
     run_seeds(0xA300_0000..0xA300_0000 + 3_000, |seed, rng| {
         let (label, mut button) = image_to_format(seed, rng);
@@ -370,7 +371,7 @@ fn formats_of_any_image() {
 
 /// Every page count from 2 to 300 with pages of 32 bytes, and some page lengths more, over random bytes.
 #[test]
-fn formats_of_every_page_count() {
+fn formats_of_every_page_count_leave_the_planned_image() {
     let mut formats = 0;
     let lengths = [32, 33, 40, 63, 128, 255, 256];
     run_seeds(0xA400_0000 + 2..0xA400_0000 + 301, |seed, rng| {
@@ -394,7 +395,7 @@ fn formats_of_every_page_count() {
 
 /// The lengths of the bitmap file's packets around those page counts that fill them.
 #[test]
-fn full_packets() {
+fn format_fills_all_packets_of_the_bitmap_file_but_the_last() {
     let seed = Seed(0xA500_0000);
     let mut rng = Rng::new(seed.0);
     for (page_length, page_count, lengths) in [
@@ -428,7 +429,7 @@ fn full_packets() {
 
 /// Format of 65,535 pages and of nearly so many, over any bytes and over an accepted image.
 #[test]
-fn formats_of_65535_pages() {
+fn formats_of_65535_pages_leave_the_planned_image_or_are_refused() {
     let seed = Seed(0xA600_0000);
     let mut rng = Rng::new(seed.0);
     for (page_length, page_count) in [(32, 65_535), (33, 65_534), (64, 65_528), (256, 65_535)] {
@@ -450,7 +451,7 @@ fn formats_of_65535_pages() {
 
 /// Deletes from images of 65,535 pages: the first, the last and some other files.
 #[test]
-fn deletes_from_65535_pages() {
+fn deletes_from_65535_pages_are_done_or_refused_as_known() {
     let shapes = [
         (32, 150, 40, 40),
         (33, 300, 500, 10),
@@ -482,7 +483,7 @@ fn deletes_from_65535_pages() {
 
 /// Any numbers, image, path and table: both calls answer as the second program does.
 #[test]
-fn any_arguments() {
+fn deletes_and_formats_with_any_arguments_are_the_second_programs() {
     let mut tally = Tally::default();
     run_seeds(0xA800_0000..0xA800_0000 + 4_000, |_, rng| {
         let (mut button, table) = any_button(rng);
@@ -506,7 +507,7 @@ fn any_arguments() {
 
 /// Slices of no bytes.
 #[test]
-fn empty_slices() {
+fn delete_and_format_of_empty_slices_are_1_or_14() {
     let seed = Seed(0xA810_0000);
     let mut rng = Rng::new(seed.0);
     for (page_length, page_count) in [(0, 0), (32, 0), (32, 2), (256, 65_535)] {
@@ -534,7 +535,7 @@ fn empty_slices() {
 /// Paths of every length from 0 to 40, and longer: any bytes, and the front of a file's path with names after it, as it is and with an
 /// extension number at its end.
 #[test]
-fn paths_of_every_length() {
+fn deletes_of_paths_of_another_length_are_14() {
     let mut tally = Tally::default();
     run_seeds(0xA900_0000..0xA900_0000 + 20, |_, rng| {
         let built = deep_image(rng);
@@ -622,7 +623,7 @@ fn entries_move_up_in_their_page_only() {
 
 /// A bitmap file keeps its packets' lengths, also empty ones, and only changes bits.
 #[test]
-fn bitmap_file_with_odd_packets() {
+fn delete_keeps_the_lengths_of_the_bitmap_files_packets() {
     let seed = Seed(0xAC00_0000);
     let mut rng = Rng::new(seed.0);
     let layout = [(9, 0, 5), (5, 1, 7), (7, 2, 6), (6, 0, 8), (8, 2, 0)];
@@ -659,7 +660,7 @@ fn bitmap_file_with_odd_packets() {
 
 /// A file and a directory of one name are two entries: the file's is removed, and its name in the other place is 15.
 #[test]
-fn file_and_directory_of_one_name() {
+fn delete_takes_a_file_and_a_directory_of_one_name_for_two() {
     let seed = Seed(0xAD00_0000);
     let mut rng = Rng::new(seed.0);
     let mut pages = Pages::new(32, 8);
@@ -688,7 +689,7 @@ fn file_and_directory_of_one_name() {
 
 /// Arguments that fit another image: format and delete judge them alone.
 #[test]
-fn arguments_come_first() {
+fn delete_and_format_judge_the_arguments_first() {
     run_seeds(0xAE00_0000..0xAE00_0000 + 300, |seed, rng| {
         let (page_length, page_count) = random_sizes(rng, 80);
         let mut button = Button::zeros(page_length, page_count.max(32));

@@ -1,12 +1,13 @@
-//! The examples of document 01, byte for byte, by their numbers there. Each call is made by the library and by the second program, with equal
-//! answers and equal bytes. The archive is made by `rt staticlib owfs`.
+//! The examples of document 01, byte for byte, by their numbers there.
+//!
+//! Programs: the library and the second program. Each call is made by both; every answer and every lent byte is compared.
+//! The archive is made by `rt staticlib owfs`.
 
-use common::both::check_bytes;
-use common::{answer, both, Button};
+use common::agreed::check_bytes;
+use common::{answer, Button};
 use referee::builder::pages::{path, Pages};
 use referee::geometry::Geometry;
-use referee::rng::Rng;
-use referee::{Answer, Listing, Totals};
+use referee::{Listing, Totals};
 
 const PAGE_0_FORMATTED: [u8; 11] = [
     0x08, 0xAA, 0x00, 0x80, 0x01, 0x00, 0x00, 0x00, 0x00, 0x30, 0x38,
@@ -22,81 +23,20 @@ const PAGE_1_DEMO: [u8; 8] = [0x05, 0x54, 0x45, 0x53, 0x54, 0x00, 0x14, 0x6A];
 /// What the bytes of an image are before it is formatted.
 const FILLS: [u8; 3] = [0x00, 0xFF, 0x5A];
 
-/// A button on which both programs make each call.
-struct Pair {
-    button: Button,
-    rng: Rng,
+/// An image of pages of 32 bytes that hold this byte throughout.
+fn filled(page_count: u32, fill: u8) -> Button {
+    let mut button = Button::zeros(32, page_count);
+    button.image.fill(fill);
+    button
 }
 
-impl Pair {
-    /// An image as it stands.
-    fn of(button: Button) -> Pair {
-        Pair {
-            button,
-            rng: Rng::new(0x01),
-        }
+/// An image of 16 pages of 32 bytes that starts with these pages.
+fn starting_with(pages: &[&[u8]]) -> Button {
+    let mut button = Button::zeros(32, 16);
+    for (page, bytes) in pages.iter().enumerate() {
+        button.image[32 * page..32 * page + bytes.len()].copy_from_slice(bytes);
     }
-
-    /// An image of pages of 32 bytes that hold this byte throughout.
-    fn filled(page_count: u32, fill: u8) -> Pair {
-        let mut button = Button::zeros(32, page_count);
-        button.image.fill(fill);
-        Pair::of(button)
-    }
-
-    /// An image of 16 pages of 32 bytes that starts with these pages.
-    fn starting_with(pages: &[&[u8]]) -> Pair {
-        let mut button = Button::zeros(32, 16);
-        for (page, bytes) in pages.iter().enumerate() {
-            button.image[32 * page..32 * page + bytes.len()].copy_from_slice(bytes);
-        }
-        Pair::of(button)
-    }
-
-    /// Bytes of an owner table that is long enough.
-    fn table(&self) -> usize {
-        2 * self.button.page_count as usize
-    }
-
-    /// A format, with the owners of the image as it then stands.
-    fn format(&mut self, local: bool) -> (Answer, Vec<u16>) {
-        let table = self.table();
-        let told = both::format(&mut self.button, table, u32::from(local), &mut self.rng);
-        (told, self.button.check().1)
-    }
-
-    /// A put, with the owners of the image as it then stands.
-    fn put(&mut self, path: &[u8], bytes: &[u8]) -> (Answer, Vec<u16>) {
-        let table = self.table();
-        let told = both::put(&mut self.button, table, path, bytes, &mut self.rng);
-        (told, self.button.check().1)
-    }
-
-    /// A delete, with the owners of the image as it then stands.
-    fn delete(&mut self, path: &[u8]) -> (Answer, Vec<u16>) {
-        let table = self.table();
-        let told = both::delete(&mut self.button, table, path, &mut self.rng);
-        (told, self.button.check().1)
-    }
-
-    /// A check, with the owners.
-    fn check(&mut self) -> (Totals, Vec<u16>) {
-        let totals = both::check(&self.button, self.table(), &mut self.rng);
-        (totals, self.button.check().1)
-    }
-
-    /// The entry at a position.
-    fn list(&mut self, position: u32) -> Listing {
-        both::list(&self.button, self.table(), position, &mut self.rng)
-    }
-
-    /// The number of a read into an output as long as the image, and the bytes read.
-    fn read(&mut self, path: &[u8]) -> (u32, Vec<u8>) {
-        let out = self.button.image.len();
-        let (length, bytes) =
-            both::read_bytes(&self.button, self.table(), path, out, &mut self.rng);
-        (length.number, bytes)
-    }
+    button
 }
 
 /// The totals of an accepted image.
@@ -117,21 +57,21 @@ fn owned(owners: &[u16], first: &[u16]) {
 }
 
 /// Example 2 with every other byte of the image set to `fill`.
-fn example_2(fill: u8) -> Pair {
-    let mut pair = Pair::filled(16, fill);
-    let (done, owners) = pair.format(true);
+fn example_2(fill: u8) -> Button {
+    let mut button = filled(16, fill);
+    let (done, owners) = button.format(true);
     assert_eq!(done, answer(0, 0));
     owned(&owners, &[1]);
-    pair
+    button
 }
 
 /// Example 3: example 2 and a put of DEMO.12.
-fn example_3(fill: u8) -> Pair {
-    let mut pair = example_2(fill);
-    let (done, owners) = pair.put(b"DEMO\x0C", b"TEST");
+fn example_3(fill: u8) -> Button {
+    let mut button = example_2(fill);
+    let (done, owners) = button.put(b"DEMO\x0C", b"TEST");
     assert_eq!(done, answer(0, 0));
     owned(&owners, &[1, 3]);
-    pair
+    button
 }
 
 #[test]
@@ -144,7 +84,7 @@ fn example_01_check_of_page_1() {
 #[test]
 fn example_02_format() {
     for fill in FILLS {
-        let button = example_2(fill).button;
+        let button = example_2(fill);
         assert_eq!(button.page(0)[..11], PAGE_0_FORMATTED);
         assert!(button.image[11..].iter().all(|&byte| byte == fill));
     }
@@ -153,37 +93,36 @@ fn example_02_format() {
 /// The printed page 0 is accepted and has no entry.
 #[test]
 fn example_02_printed_page() {
-    let mut pair = Pair::starting_with(&[&PAGE_0_FORMATTED]);
-    let (told, owners) = pair.check();
+    let button = starting_with(&[&PAGE_0_FORMATTED]);
+    let (told, owners) = button.check();
     assert_eq!(told, totals(1, 0, 0));
     owned(&owners, &[1]);
     let absent = Listing {
         number: 15,
         ..Listing::default()
     };
-    assert_eq!(pair.list(0), absent);
+    assert_eq!(button.list(0).0, absent);
 }
 
 /// The printed pages are written, and no byte after their packets.
 #[test]
 fn example_03_put() {
     for fill in FILLS {
-        let mut pair = example_3(fill);
-        let button = &pair.button;
+        let button = example_3(fill);
         assert_eq!(button.page(0)[..18], PAGE_0_DEMO);
         assert_eq!(button.page(1)[..8], PAGE_1_DEMO);
         assert!(button.page(0)[18..].iter().all(|&byte| byte == fill));
         assert!(button.image[40..].iter().all(|&byte| byte == fill));
-        assert_eq!(pair.read(b"DEMO\x0C"), (0, b"TEST".to_vec()));
-        assert_eq!(pair.check().0, totals(2, 1, 0));
+        assert_eq!(button.read(b"DEMO\x0C"), (0, b"TEST".to_vec()));
+        assert_eq!(button.check().0, totals(2, 1, 0));
     }
 }
 
 /// The printed pages are accepted, listed and read.
 #[test]
 fn example_03_printed_pages() {
-    let mut pair = Pair::starting_with(&[&PAGE_0_DEMO, &PAGE_1_DEMO]);
-    let (told, owners) = pair.check();
+    let button = starting_with(&[&PAGE_0_DEMO, &PAGE_1_DEMO]);
+    let (told, owners) = button.check();
     assert_eq!(told, totals(2, 1, 0));
     owned(&owners, &[1, 3]);
     let demo = Listing {
@@ -194,25 +133,24 @@ fn example_03_printed_pages() {
         length: 4,
         ..Listing::default()
     };
-    assert_eq!(pair.list(0), demo);
-    assert_eq!(pair.read(b"DEMO\x0C"), (0, b"TEST".to_vec()));
+    assert_eq!(button.list(0).0, demo);
+    assert_eq!(button.read(b"DEMO\x0C"), (0, b"TEST".to_vec()));
 }
 
 #[test]
 fn example_04_delete() {
     for fill in FILLS {
-        let mut pair = example_3(fill);
-        let before = pair.button.clone();
-        let (done, owners) = pair.delete(b"DEMO\x0C");
+        let mut button = example_3(fill);
+        let before = button.clone();
+        let (done, owners) = button.delete(b"DEMO\x0C");
         assert_eq!(done, answer(0, 0));
         owned(&owners, &[1]);
-        let button = &pair.button;
         assert_eq!(button.page(0)[..11], PAGE_0_FORMATTED);
         let stays = [0x4F, 0x0C, 0x01, 0x01, 0x00, 0x73, 0xA5];
         assert_eq!(button.page(0)[11..18], stays);
         assert_eq!(button.page(1)[..8], PAGE_1_DEMO);
         assert_eq!(button.image[18..], before.image[18..]);
-        assert_eq!(pair.delete(b"DEMO\x0C").0, answer(15, 0));
+        assert_eq!(button.delete(b"DEMO\x0C").0, answer(15, 0));
     }
 }
 
@@ -226,78 +164,78 @@ fn example_05_checks_that_document_001_misprints() {
 #[test]
 fn example_06_pages_of_files() {
     for (length, pages) in [(0, 1), (28, 1), (29, 2)] {
-        let mut pair = example_2(0);
+        let mut button = example_2(0);
         let bytes = vec![7; length];
-        assert_eq!(pair.put(b"F   \x00", &bytes).0, answer(0, 0));
-        let listing = pair.list(0);
+        assert_eq!(button.put(b"F   \x00", &bytes).0, answer(0, 0));
+        let listing = button.list(0).0;
         assert_eq!(listing.pages, pages);
         assert_eq!(listing.length as usize, length);
-        assert_eq!(pair.check().0, totals(1 + pages, 1, 0));
-        assert_eq!(pair.read(b"F   \x00"), (0, bytes));
+        assert_eq!(button.check().0, totals(1 + pages, 1, 0));
+        assert_eq!(button.read(b"F   \x00"), (0, bytes));
     }
 }
 
 #[test]
 fn example_07_all_pages() {
     let bytes: Vec<u8> = (0..421_u32).map(|byte| byte as u8).collect();
-    let mut pair = example_2(0);
-    assert_eq!(pair.put(b"BIG \x07", &bytes).0, answer(17, 0));
-    assert_eq!(pair.put(b"BIG \x07", &bytes[..420]).0, answer(0, 0));
-    assert_eq!(pair.list(0).pages, 15);
-    assert_eq!(pair.check().0, totals(16, 1, 0));
-    assert_eq!(pair.put(b"BIG \x07", &bytes).0, answer(17, 0));
+    let mut button = example_2(0);
+    assert_eq!(button.put(b"BIG \x07", &bytes).0, answer(17, 0));
+    assert_eq!(button.put(b"BIG \x07", &bytes[..420]).0, answer(0, 0));
+    assert_eq!(button.list(0).0.pages, 15);
+    assert_eq!(button.check().0, totals(16, 1, 0));
+    assert_eq!(button.put(b"BIG \x07", &bytes).0, answer(17, 0));
     let other: Vec<u8> = bytes[..420].iter().map(|byte| !byte).collect();
-    let (done, owners) = pair.put(b"BIG \x07", &other);
+    let (done, owners) = button.put(b"BIG \x07", &other);
     assert_eq!(done, answer(0, 0));
     assert_eq!(owners[0], 1);
     assert!(owners[1..].iter().all(|&owner| owner == 3));
-    assert_eq!(pair.read(b"BIG \x07"), (0, other));
+    assert_eq!(button.read(b"BIG \x07"), (0, other));
 }
 
 #[test]
 fn example_08_fourth_file() {
-    let mut pair = example_2(0);
+    let mut button = example_2(0);
     for (file, used) in [("A", 2), ("B", 3), ("C", 4), ("D", 6)] {
-        assert_eq!(pair.put(&path(&[], file, 1), b"one").0, answer(0, 0));
-        assert_eq!(pair.check().0.used, used);
+        assert_eq!(button.put(&path(&[], file, 1), b"one").0, answer(0, 0));
+        assert_eq!(button.check().0.used, used);
     }
-    owned(&pair.check().1, &[1, 3, 4, 5, 1, 6]);
+    owned(&button.check().1, &[1, 3, 4, 5, 1, 6]);
 }
 
 /// N 31 with a local bitmap is formatted; N 32 is 4 and changes nothing, and its owners are those of the image as it stands.
 #[test]
 fn example_09_format() {
-    let mut pair = Pair::filled(31, 0xFF);
-    let (done, owners) = pair.format(true);
+    let mut button = filled(31, 0xFF);
+    let (done, owners) = button.format(true);
     assert_eq!(done, answer(0, 0));
     owned(&owners, &[1]);
-    assert_eq!(pair.button.page(0)[..11], PAGE_0_FORMATTED);
-    assert!(pair.button.image[11..].iter().all(|&byte| byte == 0xFF));
-    assert_eq!(pair.check().0, totals(1, 0, 0));
+    assert_eq!(button.page(0)[..11], PAGE_0_FORMATTED);
+    assert!(button.image[11..].iter().all(|&byte| byte == 0xFF));
+    assert_eq!(button.check().0, totals(1, 0, 0));
 
-    let mut pair = Pair::filled(32, 0xFF);
-    let (done, owners) = pair.format(true);
+    let mut button = filled(32, 0xFF);
+    let (done, owners) = button.format(true);
     assert_eq!(done, answer(4, 0));
     owned(&owners, &[]);
-    assert_eq!(pair.button, Pair::filled(32, 0xFF).button);
-    let (done, owners) = pair.format(false);
+    assert_eq!(button, filled(32, 0xFF));
+    let (done, owners) = button.format(false);
     assert_eq!(done, answer(0, 0));
     owned(&owners, &[1, 2]);
-    let accepted = pair.button.clone();
-    let (done, owners) = pair.format(true);
+    let accepted = button.clone();
+    let (done, owners) = button.format(true);
     assert_eq!(done, answer(4, 0));
     owned(&owners, &[1, 2]);
-    assert_eq!(pair.button, accepted);
+    assert_eq!(button, accepted);
 }
 
 /// N 31 with a local bitmap is accepted; the same page 0 with N 32 is 4.
 #[test]
 fn example_09_local_bitmap() {
     let mut button = Button::formatted(32, 31, true);
-    assert_eq!(Pair::of(button.clone()).check().0, totals(1, 0, 0));
+    assert_eq!(button.check().0, totals(1, 0, 0));
     button.page_count = 32;
     button.image.resize(32 * 32, 0);
-    let (told, owners) = Pair::of(button).check();
+    let (told, owners) = button.check();
     assert_eq!(answer(told.number, told.page), answer(4, 0));
     owned(&owners, &[]);
 }
@@ -311,12 +249,11 @@ fn example_10_format() {
         (257, &[10, 0xAB, 0, 0, 0, 1, 0, 2, 0, 0, 0]),
     ];
     for (page_count, root) in roots {
-        let mut pair = Pair::filled(page_count, 0xFF);
-        let (done, owners) = pair.format(false);
+        let mut button = filled(page_count, 0xFF);
+        let (done, owners) = button.format(false);
         assert_eq!(done, answer(0, 0));
         owned(&owners, &[1, 2, 2]);
-        assert_eq!(pair.check().0, totals(3, 0, 0));
-        let button = &pair.button;
+        assert_eq!(button.check().0, totals(3, 0, 0));
         assert_eq!(button.page(0)[..root.len()], *root);
         let n = if page_count == 256 { 1 } else { 2 };
         let number_length = Geometry::new(32, page_count).map(|known| known.number_length());
@@ -347,7 +284,7 @@ fn example_10_markers() {
         assert_eq!(button.page(0)[1], marker);
         let mut other = button.pages();
         other.alter(0, 1, &[marker ^ 1]);
-        let (told, owners) = Pair::of(Button::from(&other)).check();
+        let (told, owners) = Button::from(&other).check();
         assert_eq!(answer(told.number, told.page), answer(3, 0));
         owned(&owners, &[]);
     }
@@ -373,15 +310,15 @@ fn file_on_the_last_page(page_count: u32) -> Pages {
 #[test]
 fn example_10_last_page() {
     for (page_count, packet) in [(256, 28), (257, 27)] {
-        let mut pair = Pair::of(Button::from(&file_on_the_last_page(page_count)));
-        assert_eq!(pair.check().0, totals(4, 1, 0));
-        let listing = pair.list(0);
+        let mut button = Button::from(&file_on_the_last_page(page_count));
+        assert_eq!(button.check().0, totals(4, 1, 0));
+        let listing = button.list(0).0;
         assert_eq!((listing.start, listing.length), (page_count - 1, 10));
-        assert_eq!(pair.read(b"LAST\x07"), (0, b"at the end".to_vec()));
+        assert_eq!(button.read(b"LAST\x07"), (0, b"at the end".to_vec()));
         let all = vec![0x42; packet * (page_count as usize - 4)];
-        assert_eq!(pair.put(b"ALL \x07", &all).0, answer(0, 0));
-        assert_eq!(pair.check().0, totals(page_count, 2, 0));
-        assert_eq!(pair.read(b"ALL \x07"), (0, all));
-        assert_eq!(pair.read(b"LAST\x07"), (0, b"at the end".to_vec()));
+        assert_eq!(button.put(b"ALL \x07", &all).0, answer(0, 0));
+        assert_eq!(button.check().0, totals(page_count, 2, 0));
+        assert_eq!(button.read(b"ALL \x07"), (0, all));
+        assert_eq!(button.read(b"LAST\x07"), (0, b"at the end".to_vec()));
     }
 }

@@ -1,6 +1,7 @@
-//! Each fault of an image, on images made by hand.
+//! Each fault of an image and the order in which faults are met, on images made by hand. P is 32 and N is 16 unless said.
 //!
-//! In the comments `k: body>pointer` is a packet on page k; P is 32 and N is 16 unless said.
+//! Programs: the library and the second program. Each call is made by both; every answer and every lent byte is compared.
+//! The archive is made by `rt staticlib owfs`.
 
 use common::{answer, Button};
 use referee::builder::pages::Pages;
@@ -47,7 +48,7 @@ fn sub(pages: &Pages, parent: &str, start: usize, entries: &[(&str, u8, usize, u
 // Number 2: packet length or check.
 
 #[test]
-fn packet_lengths_of_page_0() {
+fn packet_length_outside_1_to_29_on_page_0_is_2() {
     let sound = local(&[0], &[]);
     for length in 0..=255_u8 {
         let mut pages = sound.clone();
@@ -67,7 +68,7 @@ fn packet_lengths_of_page_0() {
 }
 
 #[test]
-fn packet_length_limits_of_a_file_page() {
+fn packet_length_outside_its_limits_on_a_file_page_is_2() {
     for (page_length, page_count, n) in [(32, 16, 1), (256, 16, 1), (32, 300, 2), (256, 300, 2)] {
         let button = {
             let mut button = Button::formatted(page_length, page_count, false);
@@ -102,7 +103,7 @@ fn packet_length_limits_of_a_file_page() {
 }
 
 #[test]
-fn every_single_bit_of_a_packet() {
+fn every_flipped_bit_of_a_packet_is_2() {
     let mut sound = local(&[0, 1, 2], &[("A", 1, 1, 2)]);
     sound.packet(1, b"abc", 2).packet(2, b"", 0);
     accepted(&sound);
@@ -119,7 +120,7 @@ fn every_single_bit_of_a_packet() {
 }
 
 #[test]
-fn unused_bytes_are_free() {
+fn bytes_outside_packets_may_be_any() {
     let mut pages = local(&[0, 1], &[("A", 1, 1, 1)]);
     pages.packet(1, b"abc", 0);
     pages.page_mut(0)[18..].fill(0xDD);
@@ -130,7 +131,7 @@ fn unused_bytes_are_free() {
 
 /// The check starts with the page number: a packet copied from another page is 2.
 #[test]
-fn packet_of_another_page() {
+fn packet_copied_from_another_page_is_2() {
     let mut pages = local(&[0, 1, 2], &[("A", 1, 1, 1), ("B", 1, 2, 1)]);
     pages.packet(1, b"abc", 0).packet(2, b"abc", 0);
     accepted(&pages);
@@ -140,7 +141,7 @@ fn packet_of_another_page() {
 }
 
 #[test]
-fn broken_pages_of_every_kind_of_chain() {
+fn first_broken_page_in_the_order_of_the_check_is_told() {
     let mut sound = Pages::new(32, 16);
     let mut root = sound.file_control(1, 2);
     root.extend(sound.entry("D", 0x7F, 4, 0));
@@ -167,7 +168,7 @@ fn broken_pages_of_every_kind_of_chain() {
 }
 
 #[test]
-fn blank_images() {
+fn blank_image_is_2() {
     for byte in [0x00, 0xFF] {
         let mut pages = Pages::new(32, 16);
         pages.image.fill(byte);
@@ -178,7 +179,7 @@ fn blank_images() {
 // Numbers 3, 4 and 5: control fields.
 
 #[test]
-fn markers_of_the_root() {
+fn another_marker_of_the_root_is_3() {
     for marker in 0..=255_u8 {
         let mut pages = local(&[0], &[]);
         pages.alter(0, 1, &[marker]);
@@ -202,7 +203,7 @@ fn markers_of_the_root() {
 }
 
 #[test]
-fn markers_of_a_subdirectory() {
+fn another_marker_of_a_subdirectory_is_3() {
     for marker in [0xAB, 0xBA, 0xBB, 0x00, 0xFF] {
         let mut pages = local(&[0, 2], &[("D", 0x7F, 2, 0)]);
         let body = sub(&pages, "ROOT", 0, &[]);
@@ -222,7 +223,7 @@ fn pointer_is_not_part_of_the_control_field() {
 }
 
 #[test]
-fn too_short_before_marker() {
+fn control_field_too_short_comes_before_its_marker() {
     let mut pages = Pages::new(32, 16);
     for body in [&b""[..], &[0xBB], &[0xAA], &[0xBB, 0, 0x81, 0, 0, 0]] {
         pages.packet(0, body, 0);
@@ -233,7 +234,7 @@ fn too_short_before_marker() {
 }
 
 #[test]
-fn bitmap_start_is_a_start_page() {
+fn bitmap_start_of_0_or_past_the_last_page_is_6() {
     let mut pages = Pages::new(32, 16);
     for start in [0, 16, 17, 99, 255] {
         let root = pages.file_control(start, 1);
@@ -249,7 +250,7 @@ fn bitmap_start_is_a_start_page() {
 }
 
 #[test]
-fn in_progress_before_the_rest() {
+fn in_progress_comes_after_the_marker_and_before_the_rest() {
     let mut pages = Pages::new(32, 16);
     pages.packet(0, &[0xAA, 1, 0x83, 1, 0, 0, 0], 0);
     refused(&pages, 5, 0);
@@ -267,7 +268,7 @@ fn in_progress_before_the_rest() {
 }
 
 #[test]
-fn the_rest_of_the_root() {
+fn map_address_and_bits_1_to_6_of_the_root_must_be_zero() {
     let mut pages = Pages::new(32, 16);
     for map_address in [1, 16, 255] {
         pages.packet(0, &[0xAA, map_address, 0x80, 1, 0, 0, 0], 0);
@@ -289,7 +290,7 @@ fn the_rest_of_the_root() {
 }
 
 #[test]
-fn local_bitmap_with_32_pages_or_more() {
+fn local_bitmap_with_32_pages_or_more_is_4() {
     for page_count in [32, 33, 40, 255, 256, 257, 1_000] {
         let mut pages = Pages::new(32, page_count);
         let root = pages.local_control(&[0]);
@@ -305,7 +306,7 @@ fn local_bitmap_with_32_pages_or_more() {
 }
 
 #[test]
-fn bit_1_and_markers_of_several_devices() {
+fn bit_1_is_4_and_markers_of_several_devices_are_3() {
     let mut pages = Pages::new(32, 16);
     pages.packet(0, &[0xAA, 0, 0x82, 1, 0, 0, 0], 0);
     refused(&pages, 4, 0);
@@ -323,7 +324,7 @@ fn with_directory(body: &[u8], pointer: usize) -> Pages {
 }
 
 #[test]
-fn subdirectory_too_short() {
+fn subdirectory_too_short_is_4_before_its_marker() {
     for length in 0..7 {
         let body = [0xAA, b'R', b'O', b'O', b'T', 0, 0];
         refused(&with_directory(&body[..length], 0), 4, 2);
@@ -334,7 +335,7 @@ fn subdirectory_too_short() {
 }
 
 #[test]
-fn too_short_before_the_next_number() {
+fn tests_of_a_subdirectorys_page_come_before_its_pointer() {
     refused(&with_directory(b"\xAAROOT\x00", 77), 4, 2);
     refused(&with_directory(b"\xABROOT\x00\x00", 77), 3, 2);
     refused(&with_directory(b"\xAAROOT\x01\x00", 77), 4, 2);
@@ -344,12 +345,12 @@ fn too_short_before_the_next_number() {
 }
 
 #[test]
-fn back_reference_past_the_last_page() {
+fn back_reference_past_the_last_page_is_4() {
     refused(&with_directory(b"\xAAROOT\x00\x63", 0), 4, 2);
 }
 
 #[test]
-fn back_reference_is_the_parent() {
+fn back_reference_to_another_directory_is_4() {
     refused(&with_directory(b"\xAAD   \x00\x00", 0), 4, 2);
     refused(&with_directory(b"\xAAROOT\x00\x01", 0), 4, 2);
     refused(&with_directory(b"\xAAROOT\x00\x02", 0), 4, 2);
@@ -359,7 +360,7 @@ fn back_reference_is_the_parent() {
 }
 
 #[test]
-fn back_reference_below_a_hidden_directory() {
+fn back_reference_below_a_hidden_directory_has_its_name_and_start_page() {
     let mut pages = local(&[0, 2, 3], &[("D", 0xFF, 2, 0)]);
     let upper = sub(&pages, "ROOT", 0, &[("E", 0x7F, 3, 0)]);
     let lower = sub(&pages, "D", 2, &[]);
@@ -375,7 +376,7 @@ fn back_reference_below_a_hidden_directory() {
 }
 
 #[test]
-fn back_reference_with_two_bytes() {
+fn back_reference_of_two_bytes_is_compared_whole() {
     let mut pages = Pages::new(32, 600);
     let mut bits = [0_u8; 75];
     bits[0] = 0b1111;
@@ -396,7 +397,7 @@ fn back_reference_with_two_bytes() {
 }
 
 #[test]
-fn a_directory_called_root() {
+fn directory_called_root_is_named_with_its_own_start_page() {
     let mut pages = local(&[0, 2, 3], &[("ROOT", 0x7F, 2, 0)]);
     let upper = sub(&pages, "ROOT", 0, &[("E", 0xFF, 3, 0)]);
     let lower = sub(&pages, "ROOT", 2, &[]);
@@ -410,7 +411,7 @@ fn a_directory_called_root() {
 // Numbers 6, 7 and 8: chains.
 
 #[test]
-fn bitmap_file_before_the_root() {
+fn bitmap_file_comes_before_the_roots_later_pages() {
     let mut pages = Pages::new(32, 16);
     let root = pages.file_control(6, 1);
     pages.packet(0, &root, 5).break_check(5).break_check(6);
@@ -428,7 +429,7 @@ fn bitmap_file_before_the_root() {
 }
 
 #[test]
-fn a_pointer_is_the_next_pages_number() {
+fn pointer_is_judged_after_the_tests_of_its_own_page() {
     let mut pages = local(&[0, 3], &[]);
     pages.set_pointer(0, 3).packet(3, b"1234", 77);
     refused(&pages, 8, 3);
@@ -444,7 +445,7 @@ fn a_pointer_is_the_next_pages_number() {
 }
 
 #[test]
-fn bitmap_file_before_the_roots_entries() {
+fn bitmap_file_comes_before_stray_bytes_of_page_0() {
     let mut pages = Pages::new(32, 16);
     let mut root = pages.file_control(99, 1);
     root.push(b'x');
@@ -459,7 +460,7 @@ fn bitmap_file_before_the_roots_entries() {
 }
 
 #[test]
-fn a_chain_that_runs_into_a_later_one() {
+fn chain_that_runs_into_a_later_one_is_8_by_its_count_or_else_7() {
     let mut pages = local(&[0, 1, 2], &[("A", 1, 1, 1), ("B", 1, 2, 1)]);
     pages.packet(1, b"", 2).packet(2, b"", 0);
     refused(&pages, 8, 0);
@@ -469,7 +470,7 @@ fn a_chain_that_runs_into_a_later_one() {
 }
 
 #[test]
-fn a_chain_that_returns_to_itself() {
+fn chain_that_returns_to_itself_is_7() {
     let mut pages = local(&[0, 1, 2], &[("A", 1, 1, 9)]);
     pages.packet(1, b"", 2).packet(2, b"", 1);
     refused(&pages, 7, 1);
@@ -487,7 +488,7 @@ fn a_chain_that_returns_to_itself() {
 }
 
 #[test]
-fn start_page_0() {
+fn start_page_0_is_6() {
     for extension in [0, 99, 0x80, 0x7F, 0xFF] {
         for count in [0, 1] {
             let pages = local(&[0], &[("A", extension, 0, count)]);
@@ -499,7 +500,7 @@ fn start_page_0() {
 }
 
 #[test]
-fn start_pages_and_pointers_past_the_last_page() {
+fn start_page_or_pointer_past_the_last_page_is_6() {
     let with_pointer = |pointer| {
         let mut pages = local(&[0, 4], &[("A", 1, 4, 2)]);
         pages.packet(4, b"abc", pointer);
@@ -516,7 +517,7 @@ fn start_pages_and_pointers_past_the_last_page() {
 
 /// The number is told at the page that holds it: the entry's page, or the page before in the chain.
 #[test]
-fn page_that_holds_the_number() {
+fn number_past_the_last_page_is_told_at_the_page_that_holds_it() {
     let mut pages = local(&[0, 2, 3, 4], &[("D", 0x7F, 2, 0)]);
     let body = sub(&pages, "ROOT", 0, &[("A", 1, 4, 1)]);
     let entry = pages.entry("B", 1, 200, 1);
@@ -533,7 +534,7 @@ fn page_that_holds_the_number() {
 
 /// With N 256 no byte is at least N: only a start page of 0 can be 6.
 #[test]
-fn page_numbers_of_256_pages() {
+fn every_one_byte_number_is_a_page_of_256() {
     let mut pages = Pages::new(32, 256);
     let mut bits = [0_u8; 32];
     bits[0] = 0b111;
@@ -552,7 +553,7 @@ fn page_numbers_of_256_pages() {
 }
 
 #[test]
-fn two_byte_numbers_past_the_last_page() {
+fn two_byte_number_past_the_last_page_is_6() {
     let mut pages = Pages::new(32, 300);
     let mut bits = [0_u8; 38];
     bits[0] = 0b1111;
@@ -575,7 +576,7 @@ fn two_byte_numbers_past_the_last_page() {
 }
 
 #[test]
-fn crossed_chains() {
+fn page_in_two_chains_is_7_where_it_is_met_again() {
     // A file's chain meets the bitmap file, the root's second page, an earlier file, a directory.
     let mut sound = Pages::new(32, 16);
     let mut root = sound.file_control(1, 1);
@@ -607,7 +608,7 @@ fn crossed_chains() {
 }
 
 #[test]
-fn an_entry_that_starts_at_its_own_directory() {
+fn entry_that_starts_at_its_own_directory_is_7() {
     let mut pages = local(&[0, 2], &[("D", 0x7F, 2, 0)]);
     for extension in [1, 0x7F] {
         let count = usize::from(extension == 1);
@@ -621,7 +622,7 @@ fn an_entry_that_starts_at_its_own_directory() {
 }
 
 #[test]
-fn page_counts_of_files() {
+fn page_count_of_a_file_is_that_of_its_chain() {
     for count in 0..=255 {
         let mut pages = local(&[0, 1, 2, 3], &[("A", 1, 1, count)]);
         pages.packet(1, b"abc", 2).packet(2, b"", 3);
@@ -636,7 +637,7 @@ fn page_counts_of_files() {
 }
 
 #[test]
-fn page_count_of_a_subdirectory() {
+fn page_count_of_a_subdirectory_is_0() {
     for count in [1, 2, 255] {
         let mut pages = local(&[0, 2], &[("D", 0x7F, 2, count)]);
         let body = sub(&pages, "ROOT", 0, &[]);
@@ -649,7 +650,7 @@ fn page_count_of_a_subdirectory() {
 }
 
 #[test]
-fn page_count_of_the_bitmap_file() {
+fn page_count_of_the_bitmap_file_is_that_of_its_chain() {
     for count in 0..=255 {
         let mut pages = Pages::new(32, 16);
         let root = pages.file_control(1, count);
@@ -665,7 +666,7 @@ fn page_count_of_the_bitmap_file() {
 }
 
 #[test]
-fn byte_count_before_the_root_and_bits_last() {
+fn bitmap_byte_count_comes_before_the_root_and_its_bits_last() {
     let bad_name = b"a   \x01\x01\x01";
     refused(&with_bitmap_file(&[3], bad_name), 8, 0);
     refused(&with_bitmap_file(&[0xFF, 0xFF], bad_name), 9, 0);
@@ -678,7 +679,7 @@ fn byte_count_before_the_root_and_bits_last() {
 }
 
 #[test]
-fn byte_count_is_exact() {
+fn bitmap_byte_count_is_exact() {
     refused(&with_bitmap_file(&[], b""), 8, 0);
     refused(&with_bitmap_file(&[3], b""), 8, 0);
     accepted(&with_bitmap_file(&[3, 0], b""));
@@ -687,7 +688,7 @@ fn byte_count_is_exact() {
 }
 
 #[test]
-fn empty_packets() {
+fn empty_packets_are_accepted() {
     let mut pages = Pages::new(32, 16);
     let root = pages.file_control(1, 3);
     pages.packet(0, &root, 4).packet(4, b"", 0);
@@ -699,7 +700,7 @@ fn empty_packets() {
 }
 
 #[test]
-fn entries_not_whole() {
+fn entries_not_whole_are_8() {
     for stray in 1..=21 {
         let mut pages = local(&[0, 1], &[]);
         let mut body = pages.local_control(&[0, 1]);
@@ -730,7 +731,7 @@ fn entries_not_whole() {
 
 /// The whole chain of a directory comes before its entries, and both before the next entry above.
 #[test]
-fn chain_before_entries() {
+fn whole_chain_of_a_directory_comes_before_its_entries() {
     let mut pages = local(&[0, 3], &[("a", 1, 0, 9)]);
     pages.set_pointer(0, 3).packet(3, b"x", 0);
     refused(&pages, 8, 3);
@@ -748,7 +749,7 @@ fn chain_before_entries() {
 }
 
 #[test]
-fn page_by_page() {
+fn pages_of_a_chain_are_judged_one_by_one() {
     let mut pages = with_directory(b"\xABROOT\x00\x00", 3);
     pages.break_check(3);
     refused(&pages, 3, 2);
@@ -767,7 +768,7 @@ fn in_names(byte: u8) -> bool {
 }
 
 #[test]
-fn every_byte_in_every_place_of_a_name() {
+fn every_byte_that_no_name_has_is_9_or_10() {
     for place in 0..4 {
         for byte in 0..=255_u8 {
             let mut pages = local(&[0, 1], &[("ABCD", 1, 1, 1)]);
@@ -786,7 +787,7 @@ fn every_byte_in_every_place_of_a_name() {
 }
 
 #[test]
-fn blanks_only_after() {
+fn blanks_stand_only_after_a_name() {
     for (name, number) in [
         ("A", 0),
         ("AB", 0),
@@ -812,7 +813,7 @@ fn backslash_is_no_name_byte() {
 }
 
 #[test]
-fn every_extension() {
+fn extension_numbers_100_to_126_are_10() {
     for extension in 0..=255_u8 {
         let mut pages = local(&[0, 1], &[("A", extension, 1, 1)]);
         pages.packet(1, b"x", 0);
@@ -826,7 +827,7 @@ fn every_extension() {
 }
 
 #[test]
-fn high_bytes_and_extension_numbers() {
+fn high_byte_is_10_in_the_first_place_and_9_in_the_others() {
     for place in 1..4 {
         let mut pages = local(&[0], &[("ABCD", 200, 0, 0)]);
         pages.alter(0, 8 + place, &[0x80]);
@@ -840,7 +841,7 @@ fn high_bytes_and_extension_numbers() {
 }
 
 #[test]
-fn order_within_an_entry() {
+fn faults_of_an_entry_are_met_in_order() {
     // First byte, name, extension, twice, level, count, start: each with all later faults too.
     let twice = |second: (&'static str, u8, usize, usize)| {
         let mut pages = local(&[0, 1], &[("A", 1, 1, 1), second]);
@@ -863,7 +864,7 @@ fn order_within_an_entry() {
 
 /// The page of the entry is told, not the directory's first page.
 #[test]
-fn page_of_the_entry() {
+fn fault_of_an_entry_is_told_at_its_own_page() {
     for (name, extension, number) in [("a", 1, 9), ("A", 101, 10), ("B", 1, 11), ("A", 127, 6)] {
         let mut pages = local(&[0, 1, 5], &[("B", 1, 1, 1)]);
         let entry = pages.entry(name, extension, 0, 0);
@@ -874,7 +875,7 @@ fn page_of_the_entry() {
 }
 
 #[test]
-fn a_file_and_a_directory_of_one_name() {
+fn file_and_directory_of_one_name_are_accepted_and_two_directories_are_11() {
     let mut pages = local(&[0, 1, 2], &[("A", 1, 1, 1), ("A", 0x7F, 2, 0)]);
     let body = sub(&pages, "ROOT", 0, &[]);
     pages.packet(1, b"x", 0).packet(2, &body, 0);
@@ -885,7 +886,7 @@ fn a_file_and_a_directory_of_one_name() {
 }
 
 #[test]
-fn twice_by_name_and_extension_number() {
+fn name_and_extension_number_twice_is_11() {
     for (first, second, number) in [
         (("A", 1), ("A", 1), 11),
         (("A", 1), ("A", 0x81), 11),
@@ -905,7 +906,7 @@ fn twice_by_name_and_extension_number() {
 
 /// The same name and extension in two directories is no fault.
 #[test]
-fn same_name_in_two_directories() {
+fn same_name_in_two_directories_is_accepted() {
     let mut pages = local(&[0, 1, 2, 3], &[("A", 1, 1, 1), ("D", 0x7F, 2, 0)]);
     let body = sub(&pages, "ROOT", 0, &[("A", 1, 3, 1)]);
     pages.packet(1, b"x", 0).packet(2, &body, 0);
@@ -914,7 +915,7 @@ fn same_name_in_two_directories() {
 }
 
 #[test]
-fn twice_after_everything_below_the_earlier_entry() {
+fn name_twice_comes_after_all_below_the_earlier_entry() {
     let mut pages = local(&[0, 1], &[("A", 0x7F, 1, 0), ("A", 0xFF, 1, 0)]);
     let body = sub(&pages, "ROOT", 0, &[("a", 1, 9, 1)]);
     pages.packet(1, &body, 0);
@@ -938,7 +939,7 @@ fn nested(levels: usize, last: &[(&str, u8, usize, usize)]) -> Pages {
 }
 
 #[test]
-fn a_directory_at_level_nine() {
+fn directory_at_level_nine_is_12() {
     accepted(&nested(8, &[]));
     // Count and start page come after; twice comes before.
     for (start, count) in [(9, 0), (0, 0), (9, 9), (99, 9)] {
@@ -954,7 +955,7 @@ fn a_directory_at_level_nine() {
 }
 
 #[test]
-fn a_file_at_level_eight() {
+fn file_at_level_eight_is_accepted_listed_and_read() {
     let marked: Vec<usize> = (0..10).collect();
     let mut pages = nested(8, &[("F", 5, 9, 1)]);
     pages.packet(9, b"deep", 0);
@@ -977,7 +978,7 @@ fn a_file_at_level_eight() {
 // Number 13: the bitmap.
 
 #[test]
-fn every_bit_of_a_local_bitmap() {
+fn every_flipped_bit_of_a_local_bitmap_is_13() {
     let mut sound = local(&[0, 1, 9], &[("A", 1, 1, 2)]);
     sound.packet(1, b"x", 9).packet(9, b"y", 0);
     accepted(&sound);
@@ -990,7 +991,7 @@ fn every_bit_of_a_local_bitmap() {
 }
 
 #[test]
-fn every_bit_of_a_bitmap_file() {
+fn every_flipped_bit_of_a_bitmap_file_is_13() {
     for page_count in [2, 7, 8, 9, 16, 20, 31, 32, 40, 257, 300] {
         let sound = Button::formatted(32, page_count, false);
         let bits = 8 * (page_count as usize).div_ceil(8);
@@ -1007,7 +1008,7 @@ fn every_bit_of_a_bitmap_file() {
 }
 
 #[test]
-fn bits_from_n_up() {
+fn bits_from_n_up_must_be_0() {
     let mut pages = Pages::new(32, 16);
     pages.packet(0, &[0xAA, 0, 0x80, 1, 0, 0, 0x80], 0);
     refused(&pages, 13, 31);
@@ -1023,7 +1024,7 @@ fn bits_from_n_up() {
 
 /// The highest page that an answer can tell: bit 65,535 of N 65,535.
 #[test]
-fn bit_65535() {
+fn bit_65535_is_told() {
     let mut button = Button::zeros(32, 65_535);
     assert_eq!(button.format(false).0, answer(0, 0));
     let mut pages = button.pages();
@@ -1035,7 +1036,7 @@ fn bit_65535() {
 
 /// All other faults come before the bitmap.
 #[test]
-fn bitmap_last() {
+fn bitmap_comes_after_all_other_faults() {
     let mut pages = local(&[5, 31], &[("A", 1, 1, 2)]);
     pages.packet(1, b"x", 0);
     refused(&pages, 8, 0);

@@ -1,4 +1,7 @@
-//! Random images whose answers are known by construction, sound and with one fault.
+//! Random images whose answers are known by construction, sound and with one fault, and random changes of them.
+//!
+//! Programs: the library and the second program. Each call is made by both; every answer and every lent byte is compared.
+//! The archive is made by `rt staticlib owfs`.
 
 use common::generators::{deep_image, random_sizes};
 use common::{answer, numbers, Button, Seed};
@@ -30,7 +33,7 @@ fn agrees(built: &Built, rng: &mut Rng) {
 }
 
 #[test]
-fn sound_images() {
+fn sound_images_are_checked_listed_and_read_as_planned() {
     for seed in 1_000..2_500 {
         let _seed = Seed(seed);
         let mut rng = Rng::new(seed);
@@ -41,7 +44,7 @@ fn sound_images() {
 }
 
 #[test]
-fn sound_images_of_many_pages() {
+fn sound_images_of_many_pages_are_checked_listed_and_read_as_planned() {
     for seed in 2_500..2_512 {
         let _seed = Seed(seed);
         let mut rng = Rng::new(seed);
@@ -54,7 +57,7 @@ fn sound_images_of_many_pages() {
 
 /// Every number from 2 to 13 is made, told by every call, and leaves a table of zeros.
 #[test]
-fn one_fault() {
+fn one_fault_of_each_number_is_told_with_its_page() {
     let mut made = [0_u32; 14];
     for seed in 3_000..4_500 {
         let _seed = Seed(seed);
@@ -82,7 +85,7 @@ fn one_fault() {
 }
 
 #[test]
-fn nested_too_deep() {
+fn directory_nested_too_deep_is_told_with_its_page() {
     let mut made = 0;
     for seed in 4_500..4_800 {
         let _seed = Seed(seed);
@@ -102,7 +105,7 @@ fn nested_too_deep() {
 
 /// Of several broken pages the one met first is told.
 #[test]
-fn several_broken_pages() {
+fn first_of_several_broken_pages_is_told() {
     for seed in 5_000..5_400 {
         let _seed = Seed(seed);
         let mut rng = Rng::new(seed);
@@ -128,7 +131,7 @@ fn several_broken_pages() {
 
 /// Altered packets with right checks: all calls give one answer, and an accepted image counts right.
 #[test]
-fn altered_images() {
+fn all_calls_agree_on_altered_images() {
     let mut met = [0_u32; 14];
     for seed in 6_000..16_000 {
         let _seed = Seed(seed);

@@ -1,54 +1,54 @@
 //! The largest images.
-
-use std::time::Instant;
+//!
+//! Programs: the library and the second program. Each call is made by both; every answer and every lent byte is compared.
+//! The archive is made by `rt staticlib owfs`.
 
 use common::generators::largest_image;
-use common::{answer, numbers, Button, Seed};
+use common::{answer, both, numbers, Button, Seed};
 use referee::builder::plan::Built;
+use referee::rng::Rng;
 
-/// Checks and prints the time of it.
-fn check_timed(what: &str, built: &Built) {
-    let button = Button::from(built);
-    let start = Instant::now();
-    let (totals, owners) = button.check();
-    println!("{what}: {} ms", start.elapsed().as_millis());
+/// Demands the totals and owners that the plan gives.
+fn counted_and_owned(built: &Built) {
+    let (totals, owners) = Button::from(built).check();
     assert_eq!(totals, built.totals);
     assert_eq!(owners, numbers(&built.owners));
 }
 
 #[test]
-fn fifty_thousand_entries_in_one_directory() {
+fn fifty_thousand_entries_in_one_directory_are_counted_and_owned() {
     let _seed = Seed(71);
     let built = largest_image(256, 50_000, 1, 0, 71);
     assert_eq!(built.totals.files, 50_000);
-    check_timed("50,000 entries", &built);
+    counted_and_owned(&built);
 }
 
 /// As many one-page files as fit: the highest owner number there is.
 #[test]
-fn every_page_in_use() {
+fn every_page_in_use_is_counted_and_owned_and_a_put_is_17() {
     let _seed = Seed(72);
     let built = largest_image(256, 65_535, 1, 0, 72);
     assert_eq!(built.totals.used, 65_535);
-    check_timed("all pages, short files", &built);
+    counted_and_owned(&built);
     let mut button = Button::from(&built);
     let last = built.entries.len() as u32 - 1;
     let entry = &built.entries[last as usize];
     assert_eq!(button.list(last).0, entry.listing);
-    assert_eq!(button.put(b"NEW \x01", b"").0.number, 17);
+    let told = both::put(&mut button, 131_070, b"NEW \x01", b"", &mut Rng::new(72));
+    assert_eq!(told, answer(17, 0));
 }
 
 #[test]
-fn long_files() {
+fn long_files_are_counted_and_owned() {
     let _seed = Seed(73);
     let built = largest_image(256, 40, 6_000, 0, 73);
     assert!(built.totals.used > 60_000);
-    check_timed("long files", &built);
+    counted_and_owned(&built);
 }
 
 /// One file over all free pages, and its replacement.
 #[test]
-fn one_file() {
+fn one_file_takes_all_free_pages_and_is_replaced() {
     let mut button = Button::formatted(256, 65_535, false);
     let free = 65_535 - button.check().0.used as usize;
     let bytes = vec![0xA6; 251 * free + 1];

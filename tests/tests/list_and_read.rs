@@ -1,5 +1,6 @@
-//! The library's list and read together with its check, called as C calls them, against the second program:
-//! every field of the answers and every byte of the lent memory. Where an image is known by construction, so is the answer.
+//! Checks, listings and reads. Where an image is known by construction, so is the answer.
+//!
+//! Programs: the library and the second program. Each call is made by both; every answer and every lent byte is compared.
 //! The archive is made by `rt staticlib owfs`.
 
 use common::generators::{
@@ -112,7 +113,7 @@ const PATHS: [&str; 26] = [
 ];
 
 #[test]
-fn sound_images() {
+fn calls_on_sound_images_are_as_planned() {
     let mut tally = Tally::default();
     run_cases(0x5000_0000..0x5000_0000 + 7_000, &mut tally, |_, rng| {
         sound_case(rng)
@@ -130,7 +131,7 @@ fn sound_images() {
 
 /// Each number from 2 to 13, with the page known.
 #[test]
-fn images_with_one_fault() {
+fn one_fault_is_told_by_each_call() {
     let mut tally = Tally::default();
     run_cases(0x5100_0000..0x5100_0000 + 5_400, &mut tally, |seed, rng| {
         fault_case(2 + (seed % 12) as u32, rng)
@@ -144,7 +145,7 @@ fn images_with_one_fault() {
 
 /// Each pair of numbers from 2 to 13, in either order.
 #[test]
-fn images_with_two_faults() {
+fn calls_on_images_with_two_faults_are_the_second_programs() {
     let mut tally = Tally::default();
     run_cases(0x5200_0000..0x5200_0000 + 4_320, &mut tally, |seed, rng| {
         let pair = (seed % 144) as u32;
@@ -158,7 +159,7 @@ fn images_with_two_faults() {
 
 /// Changed bytes with checks computed again or not, random packets, and arguments that do not fit.
 #[test]
-fn damaged_images() {
+fn calls_on_damaged_images_are_the_second_programs() {
     let mut tally = Tally::default();
     run_cases(0x5300_0000..0x5300_0000 + 6_000, &mut tally, |seed, rng| {
         let made = match seed % 10 {
@@ -178,7 +179,7 @@ fn damaged_images() {
 
 /// The calls with a few images of 65,535 pages, sound and with a flipped bit.
 #[test]
-fn images_of_65535_pages() {
+fn calls_on_65535_pages_are_as_planned_or_the_second_programs() {
     let mut tally = Tally::default();
     let shapes = [
         (32, 150, 40, 40),
@@ -209,6 +210,7 @@ fn images_of_65535_pages() {
                 rng: &mut rng,
                 tally: &mut tally,
             };
+            trial.reads();
             trial.reads();
         }
     }
@@ -241,7 +243,7 @@ fn names_of_length(length: usize, rng: &mut Rng) -> Vec<u8> {
 
 /// Paths of every length from 0 to 40, and longer: any bytes, names, and the front of a file's path with names after it.
 #[test]
-fn paths_of_every_length() {
+fn reads_of_paths_of_another_length_are_14() {
     let mut tally = Tally::default();
     for seed in 0x5500_0000..0x5500_0000 + 25 {
         let _seed = Seed(seed);
@@ -281,7 +283,7 @@ fn paths_of_every_length() {
 
 /// A file over all pages that are free, longer than 16 bits can tell, with an output that is long enough or not.
 #[test]
-fn long_files() {
+fn long_file_is_read_whole_or_is_18() {
     let mut rng = Rng::new(0x5700_0000);
     for (page_length, page_count) in [(256, 600), (32, 5_000), (256, 65_535)] {
         let mut button = Button::formatted(page_length, page_count, false);
@@ -339,7 +341,7 @@ fn names_to_level(level: usize) -> Vec<u8> {
 
 /// Files down to level eight are listed and read, also below hidden directories; nine names are no path.
 #[test]
-fn eight_levels() {
+fn files_down_to_level_eight_are_listed_and_read() {
     let mut rng = Rng::new(0x5600_0000);
     let button = Button::from(&nested());
     for level in 0..=8 {
@@ -369,7 +371,7 @@ fn eight_levels() {
 
 /// A directory at level nine is 12, told at the page of its entry.
 #[test]
-fn nine_levels() {
+fn directory_at_level_nine_is_12_for_each_call() {
     let mut rng = Rng::new(0x5600_0001);
     let mut pages = nested();
     let page = page_of_level(8);

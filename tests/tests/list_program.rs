@@ -1,11 +1,13 @@
-//! The program `list`, started for each dump, against the second program: each byte printed. `rt check` and `rt ci` make it.
+//! Generated dumps, sound, with faults and malformed: each byte that the program `list` prints is the second program's.
+//!
+//! Programs: the program `list`, started for each dump, and the second program. `rt check` and `rt ci` make `list`.
 
 use common::dumps::{compare, dump, faulty_dump, malformed_dump, sound_dump};
 use common::{Button, Seed, Tally};
 use referee::rng::Rng;
 
 #[test]
-fn sound_dumps() {
+fn sound_dumps_are_printed_as_the_second_program_prints_them() {
     let mut tally = Tally::default();
     for seed in 0x8000_0000..0x8000_0000 + 1_200 {
         let _seed = Seed(seed);
@@ -19,7 +21,7 @@ fn sound_dumps() {
 }
 
 #[test]
-fn dumps_with_faults() {
+fn dumps_with_faults_are_printed_as_the_second_program_prints_them() {
     let mut tally = Tally::default();
     for seed in 0x8100_0000..0x8100_0000 + 1_800 {
         let _seed = Seed(seed);
@@ -30,7 +32,7 @@ fn dumps_with_faults() {
 }
 
 #[test]
-fn malformed_dumps() {
+fn malformed_dumps_are_printed_as_the_second_program_prints_them() {
     let mut tally = Tally::default();
     for seed in 0x8200_0000..0x8200_0000 + 1_400 {
         let _seed = Seed(seed);
@@ -61,7 +63,7 @@ fn malformed_dumps() {
 
 /// A small dump cut at every length, with some bytes more, and with every offset up to past its end.
 #[test]
-fn every_length_and_offset_of_a_small_dump() {
+fn every_length_and_offset_of_a_small_dump_has_its_answer() {
     let mut tally = Tally::default();
     let button = Button::formatted(32, 2, true);
     let mut whole = dump(32, 2, 8, &button.image);

@@ -1,16 +1,13 @@
-//! What the program `list` prints.
+//! Texts of `list` that are known: those of document 01, of images made by hand and of generated ones.
+//!
+//! Programs: the program `list`, started for each dump, and the second program, which must make the same text. `rt check` and `rt ci` make `list`.
+//! The images are formatted and put to by the library and the second program alike.
 
-use common::dumps::dump;
+use common::dumps::{dump, text};
 use common::{answer, Button};
 use referee::builder::pages::Pages;
 use referee::builder::random::random_image;
-use referee::list_text;
 use referee::rng::Rng;
-
-/// The text that `list` prints for a dump.
-fn text(dump: &[u8]) -> String {
-    String::from_utf8(list_text(dump)).expect("ASCII")
-}
 
 /// Case 3 of document 01.
 fn case_3() -> Button {
@@ -22,19 +19,19 @@ fn case_3() -> Button {
 const CASE_3_TEXT: &str = "page 32 pages 16 used 2 files 1 directories 0\n0 DEMO 012 - 1 1 4\n";
 
 #[test]
-fn case_3_with_offset_8() {
+fn text_of_case_3_is_document_01s() {
     assert_eq!(text(&dump(32, 16, 8, &case_3().image)), CASE_3_TEXT);
 }
 
 #[test]
-fn other_offsets() {
+fn text_is_the_same_at_every_offset() {
     for offset in [9, 10, 100, 32_767, 32_768] {
         assert_eq!(text(&dump(32, 16, offset, &case_3().image)), CASE_3_TEXT);
     }
 }
 
 #[test]
-fn empty_root() {
+fn empty_root_has_the_line_of_totals_alone() {
     let button = Button::formatted(64, 100, false);
     assert_eq!(
         text(&dump(64, 100, 8, &button.image)),
@@ -43,7 +40,7 @@ fn empty_root() {
 }
 
 #[test]
-fn attributes_levels_and_marks() {
+fn lines_show_levels_names_extensions_and_attributes() {
     let mut pages = Pages::new(32, 16);
     let mut root = pages.local_control(&[0, 1, 2, 3, 4]);
     root.extend(pages.entry("A~", 0x80 | 99, 1, 1));
@@ -66,7 +63,7 @@ fn attributes_levels_and_marks() {
 }
 
 #[test]
-fn refusals_of_the_image() {
+fn refusal_of_the_image_is_one_line() {
     let mut image = case_3().image;
     image[32] = 0xFF;
     assert_eq!(text(&dump(32, 16, 8, &image)), "refused 2 page 1\n");
@@ -81,7 +78,7 @@ fn refusals_of_the_image() {
 }
 
 #[test]
-fn short_headers() {
+fn short_header_is_19() {
     let whole = dump(32, 16, 8, &case_3().image);
     for length in 0..8 {
         assert_eq!(text(&whole[..length]), "refused 19 page 0\n");
@@ -90,7 +87,7 @@ fn short_headers() {
 
 /// An offset equal to the dump's length leaves an empty image, which is the check's 1.
 #[test]
-fn offset_at_the_end() {
+fn offset_at_the_end_is_1_and_past_it_19() {
     let header = [0x20, 0x00, 0x10, 0x00, 0x08, 0x00, 0x00, 0x00];
     assert_eq!(text(&header), "refused 1 page 0\n");
     let header = [0x20, 0x00, 0x10, 0x00, 0x09, 0x00, 0x00, 0x00];
@@ -98,7 +95,7 @@ fn offset_at_the_end() {
 }
 
 #[test]
-fn other_offsets_are_refused() {
+fn offset_below_8_or_above_32768_or_past_the_end_is_19() {
     let image = case_3().image;
     for offset in [0, 1, 7, 32_769, 65_544, 1 << 24, u32::MAX] {
         assert_eq!(text(&dump(32, 16, offset, &image)), "refused 19 page 0\n");
@@ -109,7 +106,7 @@ fn other_offsets_are_refused() {
 }
 
 #[test]
-fn most_bytes_after_the_offset() {
+fn more_than_32768_bytes_after_the_offset_are_19() {
     let button = Button::formatted(256, 128, false);
     assert_eq!(button.image.len(), 32_768);
     let expected = "page 256 pages 128 used 2 files 0 directories 0\n";
@@ -129,7 +126,7 @@ fn most_bytes_after_the_offset() {
 
 /// The lines agree with the plan that the image was built from.
 #[test]
-fn generated_images() {
+fn lines_of_generated_images_are_as_planned() {
     let mut rng = Rng::new(0x11);
     for round in 0..300 {
         let page_length = rng.between(32, 256) as u32;
@@ -162,7 +159,7 @@ fn generated_images() {
 
 /// Any bytes give one line of refusal or the lines of an accepted image.
 #[test]
-fn any_bytes() {
+fn any_bytes_give_a_refusal_or_lines() {
     let mut rng = Rng::new(0x12);
     for _ in 0..2_000 {
         let length = rng.below(600);

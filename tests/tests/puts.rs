@@ -1,5 +1,6 @@
-//! The library's put, called as C calls it, against the second program: the answer, every byte of the image and of the owner table, and the
-//! bytes next to them. Where an image is known by construction, so are the answer and the image afterwards.
+//! Puts. Where an image is known by construction, so are the answer and the image afterwards.
+//!
+//! Programs: the library and the second program. Each call is made by both; every answer and every lent byte is compared.
 //! The archive is made by `rt staticlib owfs`.
 
 use common::generators::{
@@ -98,7 +99,7 @@ impl Planned<'_> {
 /// Puts of new files, over files that are there, and to paths near them, in images with scattered chains, odd packets, nested directories,
 /// full directories and few pages free.
 #[test]
-fn puts_into_sound_images() {
+fn puts_into_sound_images_leave_the_planned_image() {
     let mut tally = Tally::default();
     run_seeds(0xC000_0000..0xC000_0000 + 3_500, |seed, rng| {
         let plan = used_plan(seed, rng);
@@ -126,7 +127,7 @@ fn puts_into_sound_images() {
 
 /// Forty puts on one image, one after the other; after each the file and another are read.
 #[test]
-fn puts_one_after_the_other() {
+fn puts_one_after_the_other_leave_the_planned_images() {
     let mut tally = Tally::default();
     run_seeds(0xC100_0000..0xC100_0000 + 100, |_, rng| {
         let mut plan = thinned_plan(rng);
@@ -180,7 +181,7 @@ fn demand_file(button: &Button, built: &Built, path: &[u8], rng: &mut Rng) {
 
 /// Each number from 2 to 13, with the page known; pairs of them; damage of any kind; arguments that do not fit.
 #[test]
-fn puts_into_faulty_images() {
+fn puts_into_faulty_images_tell_the_fault() {
     let mut tally = Tally::default();
     run_seeds(0xC200_0000..0xC200_0000 + 2_500, |seed, rng| {
         let case = faulty_case(seed, rng);
@@ -199,7 +200,7 @@ fn puts_into_faulty_images() {
 
 /// Every page count from 2 to 300 with pages of 32 bytes: a file on all free pages, one byte more, its replacement, and one file more.
 #[test]
-fn files_on_all_pages() {
+fn file_on_all_free_pages_is_put_and_one_byte_more_is_17() {
     run_seeds(0xC300_0000 + 2..0xC300_0000 + 301, |seed, rng| {
         let page_count = (seed - 0xC300_0000) as u32;
         let table = 2 * page_count as usize;
@@ -235,7 +236,7 @@ fn files_on_all_pages() {
 
 /// Puts into images of 65,535 pages: over the first, the last and some other file, of a new one, and of one for which there is no room.
 #[test]
-fn puts_into_65535_pages() {
+fn puts_into_65535_pages_are_done_or_refused_as_known() {
     let shapes = [
         (32, 150, 40, 40),
         (33, 300, 500, 10),
@@ -278,7 +279,7 @@ fn puts_into_65535_pages() {
 
 /// Any numbers, image, path, bytes and table: the put answers as the second program's does, also after a format.
 #[test]
-fn any_arguments() {
+fn puts_with_any_arguments_are_the_second_programs() {
     let mut tally = Tally::default();
     run_seeds(0xC800_0000..0xC800_0000 + 4_000, |_, rng| {
         let (mut button, table) = any_button(rng);
@@ -309,7 +310,7 @@ fn any_arguments() {
 
 /// Slices of no bytes.
 #[test]
-fn empty_slices() {
+fn put_of_empty_slices_is_1_or_14_or_an_empty_file() {
     let seed = Seed(0xC810_0000);
     let mut rng = Rng::new(seed.0);
     for (page_length, page_count) in [(0, 0), (32, 0), (32, 2), (256, 65_535)] {
@@ -340,7 +341,7 @@ fn empty_slices() {
 /// Paths of every length from 0 to 40, and longer: any bytes, the front of a file's path with names after it, as it is and with an
 /// extension number at its end, and other names.
 #[test]
-fn paths_of_every_length() {
+fn put_is_14_exactly_if_the_path_is_malformed() {
     let mut tally = Tally::default();
     run_seeds(0xC900_0000..0xC900_0000 + 20, |_, rng| {
         let built = deep_image(rng);
@@ -403,7 +404,7 @@ fn root_of_four_pages() -> Pages {
 
 /// A new entry goes to the end of the first page with space in chain order, also in the middle; then the lowest free page joins the end.
 #[test]
-fn first_page_with_space() {
+fn new_entry_goes_to_the_first_page_with_space() {
     let seed = Seed(0xCA00_0000);
     let mut rng = Rng::new(seed.0);
     let mut button = Button::from(&root_of_four_pages());
@@ -439,7 +440,7 @@ fn first_page_with_space() {
 
 /// A directory that must grow takes the lowest free page, the file those after it: done with just enough pages, 17 with one too few.
 #[test]
-fn directory_grows() {
+fn growing_directory_takes_the_lowest_free_page() {
     let seed = Seed(0xCB00_0000);
     let mut rng = Rng::new(seed.0);
     let mut pages = Pages::new(32, 10);
@@ -480,7 +481,7 @@ fn directory_grows() {
 
 /// A bitmap file keeps its packets' lengths, also empty ones, and only changes bits.
 #[test]
-fn bitmap_file_with_odd_packets() {
+fn put_keeps_the_lengths_of_the_bitmap_files_packets() {
     let seed = Seed(0xCC00_0000);
     let mut rng = Rng::new(seed.0);
     let layout = [(9, 0, 5), (5, 1, 7), (7, 2, 6), (6, 0, 8), (8, 2, 0)];
@@ -521,7 +522,7 @@ fn bitmap_file_with_odd_packets() {
 
 /// A file and a directory of one name are two entries; a replaced file's top bit stays clear, a read-only file is not replaced.
 #[test]
-fn file_and_directory_of_one_name() {
+fn put_takes_a_file_and_a_directory_of_one_name_for_two() {
     let seed = Seed(0xCD00_0000);
     let mut rng = Rng::new(seed.0);
     let mut pages = Pages::new(32, 12);
@@ -553,7 +554,7 @@ fn file_and_directory_of_one_name() {
 
 /// Arguments that fit another image: put judges them alone.
 #[test]
-fn arguments_come_first() {
+fn put_judges_the_arguments_first() {
     run_seeds(0xCE00_0000..0xCE00_0000 + 300, |_, rng| {
         let (page_length, page_count) = random_sizes(rng, 80);
         let mut button = Button::zeros(page_length, page_count);

@@ -1,9 +1,12 @@
-//! Each refusal that a call of the library can give: number and page, every other field 0, and what it leaves in the lent memory.
+//! Each refusal that a call can give: number and page, every other field 0, and what it leaves in the lent memory. A test's name has the calls, an
+//! edit being a put or a delete, the number, and what is wrong.
+//!
+//! Programs: the library and the second program. Each call is made by both; every answer and every lent byte is compared.
 //! The archive is made by `rt staticlib owfs`.
 
 use common::generators::{damaged_case, deep_image, fault_case, files, Case, Made};
 use common::plans::geometry;
-use common::{answer, library, Button, Seed};
+use common::{agreed, answer, Button, Seed};
 use referee::builder::plan::Built;
 use referee::rng::Rng;
 use referee::{Answer, Length, Listing, Totals};
@@ -25,7 +28,7 @@ enum Edit<'a> {
 /// A put of a few bytes.
 const PUT: Edit = Edit::Put(b"new");
 
-/// The calls of the library with a copy of the image and an owner table that is longer than needed.
+/// The calls with a copy of the image and an owner table that is longer than needed.
 struct Lent<'a> {
     button: &'a Button,
     image: Vec<u8>,
@@ -47,7 +50,7 @@ impl<'a> Lent<'a> {
 
     /// A check.
     fn check(&mut self) -> Totals {
-        library::check(
+        agreed::check(
             self.button.page_length,
             self.button.page_count,
             &self.image,
@@ -57,7 +60,7 @@ impl<'a> Lent<'a> {
 
     /// A listing.
     fn list(&mut self, position: u32) -> Listing {
-        library::list(
+        agreed::list(
             self.button.page_length,
             self.button.page_count,
             &self.image,
@@ -68,7 +71,7 @@ impl<'a> Lent<'a> {
 
     /// A read.
     fn read(&mut self, path: &[u8]) -> Length {
-        library::read(
+        agreed::read(
             self.button.page_length,
             self.button.page_count,
             &self.image,
@@ -80,7 +83,7 @@ impl<'a> Lent<'a> {
 
     /// A format.
     fn format(&mut self, local: u32) -> Answer {
-        library::format(
+        agreed::format(
             self.button.page_length,
             self.button.page_count,
             &mut self.image,
@@ -89,22 +92,14 @@ impl<'a> Lent<'a> {
         )
     }
 
-    /// A put or a delete; path and bytes stay as they are.
+    /// A put or a delete.
     fn edit(&mut self, edit: Edit, path: &[u8]) -> Answer {
         let (p, n) = (self.button.page_length, self.button.page_count);
         let (image, owners) = (&mut self.image, &mut self.owners);
-        let lent_path = path.to_vec();
-        let told = match edit {
-            Edit::Delete => library::delete(p, n, image, &lent_path, owners),
-            Edit::Put(bytes) => {
-                let lent_bytes = bytes.to_vec();
-                let told = library::put(p, n, image, &lent_path, &lent_bytes, owners);
-                assert!(lent_bytes == bytes, "bytes");
-                told
-            }
-        };
-        assert!(lent_path == path, "path");
-        told
+        match edit {
+            Edit::Delete => agreed::delete(p, n, image, path, owners),
+            Edit::Put(bytes) => agreed::put(p, n, image, path, bytes, owners),
+        }
     }
 
     /// Demands image and output as before the call, and an owner table with these bytes in front and all others as before.
@@ -208,7 +203,7 @@ fn edit_refused(edit: Edit, built: &Built, path: &[u8], number: u32) {
 }
 
 #[test]
-fn number_1() {
+fn check_list_read_number_1_arguments() {
     for seed in 0x6100_0000..0x6100_0000 + 60 {
         let _seed = Seed(seed);
         let case = damaged_case(Made::Misfit, &mut Rng::new(seed));
@@ -218,7 +213,7 @@ fn number_1() {
 
 /// An owner table that is too short is 1 with every call and is not touched.
 #[test]
-fn number_1_for_the_owner_table() {
+fn check_list_read_number_1_owner_table() {
     let built = deep_image(&mut Rng::new(0x6100_1000));
     let button = Button::from(&built);
     let needed = 2 * button.page_count as usize;
@@ -245,7 +240,7 @@ fn number_1_for_the_owner_table() {
 }
 
 #[test]
-fn numbers_2_to_13() {
+fn check_list_read_numbers_2_to_13() {
     for number in 2..=13 {
         let first = 0x6200_0000 + 1_000 * u64::from(number);
         for seed in first..first + 40 {
@@ -273,7 +268,7 @@ fn read_refused(built: &Built, path: &[u8], out_bytes: usize, number: u32) {
 }
 
 #[test]
-fn number_14() {
+fn read_number_14_path() {
     for seed in 0x6300_0000..0x6300_0000 + 20 {
         let _seed = Seed(seed);
         let built = deep_image(&mut Rng::new(seed));
@@ -298,7 +293,7 @@ fn number_14() {
 }
 
 #[test]
-fn number_15() {
+fn list_read_number_15_absent() {
     for seed in 0x6400_0000..0x6400_0000 + 20 {
         let _seed = Seed(seed);
         let built = deep_image(&mut Rng::new(seed));
@@ -326,7 +321,7 @@ fn number_15() {
 }
 
 #[test]
-fn number_18() {
+fn read_number_18_output() {
     let mut met = 0;
     for seed in 0x6500_0000..0x6500_0000 + 20 {
         let _seed = Seed(seed);
@@ -346,7 +341,7 @@ fn number_18() {
 
 /// Page length, page count or image length.
 #[test]
-fn edit_number_1() {
+fn edit_number_1_arguments() {
     for seed in 0x6600_0000..0x6600_0000 + 100 {
         let _seed = Seed(seed);
         let mut rng = Rng::new(seed);
@@ -359,7 +354,7 @@ fn edit_number_1() {
 
 /// An owner table that is too short is 1 and is not touched, for a file that could be put or deleted and for one that could not.
 #[test]
-fn edit_number_1_for_the_owner_table() {
+fn edit_number_1_owner_table() {
     let seed = Seed(0x6600_1000);
     let built = deep_image(&mut Rng::new(seed.0));
     let button = Button::from(&built);
@@ -439,7 +434,7 @@ fn edit_number_13_bitmap() {
 
 /// Any bytes as image and path: whatever fault they have, nothing but the owner numbers is written.
 #[test]
-fn edits_of_any_bytes() {
+fn edits_of_any_bytes_tell_the_fault_of_the_check() {
     for seed in 0x6700_0000..0x6700_0000 + 200 {
         let _seed = Seed(seed);
         let mut rng = Rng::new(seed);
@@ -609,7 +604,7 @@ fn put_number_17_no_room() {
 
 /// Page length, page count or image length; also where a local bitmap is not allowed.
 #[test]
-fn format_number_1() {
+fn format_number_1_arguments() {
     for seed in 0x6B00_0000..0x6B00_0000 + 100 {
         let _seed = Seed(seed);
         let case = damaged_case(Made::Misfit, &mut Rng::new(seed));
@@ -623,7 +618,7 @@ fn format_number_1() {
 
 /// An owner table that is too short is 1 and is not touched, before a local bitmap is 4.
 #[test]
-fn format_number_1_for_the_owner_table() {
+fn format_number_1_owner_table() {
     for page_count in [2, 31, 32, 300] {
         let button = Button::formatted(32, page_count, false);
         let needed = 2 * page_count as usize;

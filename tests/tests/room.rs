@@ -10,8 +10,11 @@
 //! tries every such pair of sets. A pair fits if packets filled to the brim hold the bytes and the target's entries: if not, no other way to
 //! fill them does. For each pair that fits an image is built and judged by the words.
 //!
-//! The library must answer 17 exactly if no pair fits, and else leave a candidate; none has fewer pages in use.
+//! A put must be answered with 17 exactly if no pair fits, and else leave a candidate; none has fewer pages in use.
+//!
+//! Programs: the library and the second program. Each call is made by both; every answer and every lent byte is compared.
 //! The archive is made by `rt staticlib owfs`.
+//! The images that the search builds are checked, listed and read by both too. That every pair of sets is tried is a test of the search alone.
 
 use std::collections::{BTreeMap, BTreeSet};
 
@@ -35,7 +38,7 @@ struct Found {
     bytes: Vec<u8>,
 }
 
-/// What an accepted image holds, as check, list and read of the second program tell it.
+/// What an accepted image holds, as check, list and read tell it.
 struct Contents {
     page_count: u32,
     used: u32,
@@ -310,7 +313,7 @@ fn room_labels() -> Vec<&'static str> {
 
 /// Every tree on 2 to 8 pages.
 #[test]
-fn small_images() {
+fn no_room_in_small_images_exactly_if_no_way_fits() {
     let mut tally = Tally::default();
     let most = Most {
         root_pages: 3,
@@ -337,7 +340,7 @@ fn small_images() {
 
 /// Images of 256 pages, and of 257, whose page numbers have two bytes: a large file leaves few pages for the tree and the put.
 #[test]
-fn few_pages_of_many() {
+fn no_room_in_few_pages_of_many_exactly_if_no_way_fits() {
     let mut tally = Tally::default();
     let most = Most {
         root_pages: 2,
@@ -361,7 +364,7 @@ fn few_pages_of_many() {
 
 /// Ways that give away pages which must be kept, too: no candidate comes of them in which such a page is the file's or has joined the target.
 #[test]
-fn pages_that_must_be_kept() {
+fn no_candidate_gives_away_pages_that_must_be_kept() {
     let mut tally = Tally::default();
     let most = Most {
         root_pages: 2,
@@ -405,7 +408,7 @@ fn give_away(plan: &ImagePlan, pages: &[usize], path: &[u8], tally: &mut Tally) 
 
 /// Every pair of sets without a common page is tried, and each once.
 #[test]
-fn all_ways() {
+fn every_way_is_tried_once() {
     for count in 0..=7 {
         let pages: Vec<usize> = (1..=count).collect();
         let all = ways(&pages);

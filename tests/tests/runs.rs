@@ -1,4 +1,7 @@
-//! Long seeded runs of format, put, delete and read, with what must hold after each call.
+//! Long seeded runs of format, put, delete and read against a model of what the button holds, with what must hold after each call.
+//!
+//! Programs: the library and the second program. Each call is made by both; every answer and every lent byte is compared.
+//! The archive is made by `rt staticlib owfs`.
 
 use std::collections::{BTreeMap, BTreeSet};
 
@@ -482,7 +485,7 @@ fn fill_up(world: &mut World, rng: &mut Rng) {
 }
 
 #[test]
-fn formatted_buttons() {
+fn runs_on_formatted_buttons_agree_with_the_model() {
     let mut counts = [0; 20];
     let lengths = [32, 33, 37, 39, 48, 64, 127, 128, 255, 256];
     let sizes = [
@@ -512,7 +515,7 @@ fn formatted_buttons() {
 }
 
 #[test]
-fn generated_buttons() {
+fn runs_on_generated_buttons_agree_with_the_model() {
     let mut counts = [0; 20];
     for seed in 20_000..20_400 {
         let _seed = Seed(seed);
@@ -535,7 +538,7 @@ fn generated_buttons() {
 
 /// One long run on each of some buttons.
 #[test]
-fn long_runs() {
+fn long_runs_agree_with_the_model() {
     let buttons = [
         (32, 16, true),
         (32, 31, true),
@@ -557,7 +560,7 @@ fn long_runs() {
 
 /// Format over a used button gives an empty one, and the files are gone.
 #[test]
-fn format_again() {
+fn format_of_a_used_button_leaves_an_empty_one() {
     for seed in 40_000..40_060 {
         let _seed = Seed(seed);
         let mut rng = Rng::new(seed);

@@ -1,4 +1,6 @@
-//! Every dump in `samples/` with the text that stands beside it: the second program's and what the program `list` prints.
+//! Every dump in `samples/` with the text that stands beside it.
+//!
+//! Programs: the second program in one test, the program `list` in another. `rt check` and `rt ci` make `list`.
 
 use std::fs;
 use std::path::{Path, PathBuf};

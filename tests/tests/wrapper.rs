@@ -1,4 +1,7 @@
-//! The Rust crate over the library against the second program: results, entries, paths, and every byte of the lent memory.
+//! The Rust crate over the library: results, entries, paths, and every byte of the lent memory.
+//!
+//! Programs: the library, by the functions of the crate `owfs`, and the second program, whose answers and bytes these must give. The entries in walk
+//! order and the paths are compared with the plan of an image and with the rule for paths instead. The archive is made by `rt staticlib owfs`.
 
 use common::generators::{
     any_case, counted_owner_bytes, deep_image, faulty_case, files, labelled_out_bytes,
@@ -240,7 +243,7 @@ fn demand_listed(listed: &Listed, known: &BuiltEntry) {
 
 /// All entries of nested images in walk order, and the bytes of every file by its path.
 #[test]
-fn entries_in_walk_order() {
+fn entries_come_in_walk_order_with_their_paths() {
     let mut entries = 0;
     run_seeds(0xD100_0000..0xD100_0000 + 120, |_, rng| {
         let built = deep_image(rng);
@@ -265,7 +268,7 @@ fn entries_in_walk_order() {
 
 /// Names, extension numbers and numbers of directories make a path exactly if it is well formed.
 #[test]
-fn paths_are_well_formed() {
+fn path_is_made_exactly_if_it_is_well_formed() {
     let mut made = [0; 2];
     run_seeds(0xD200_0000..0xD200_0000 + 20_000, |_, rng| {
         let names = rng.between(1, 11);

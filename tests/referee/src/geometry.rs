@@ -123,14 +123,14 @@ mod tests {
     }
 
     #[test]
-    fn printed_sizes() {
+    fn sizes_are_those_that_document_01_prints() {
         assert_eq!(sizes(32, 256), Some([28, 7, 7, 3, 4]));
         assert_eq!(sizes(32, 257), Some([27, 9, 8, 2, 3]));
         assert_eq!(sizes(128, 16).map(|sizes| sizes[4]), Some(17));
     }
 
     #[test]
-    fn first_page_formula() {
+    fn entries_of_a_first_page_are_document_01s_formula() {
         for page_length in 32..=256_u32 {
             for (page_count, n) in [(16, 1), (1_024, 2)] {
                 let printed = (page_length - 9 - 2 * n) / (5 + 2 * n);
