@@ -6,10 +6,11 @@
 //!
 //! `generators` has what they are called with, `trials` makes the calls with generated images, `edit_runs` makes long runs of calls on one image,
 //! `plans` works out what edits leave, `puts` has what puts are called with and what they meet, `trees` has small trees, `dumps` makes dumps and
-//! runs the program `list`.
+//! runs the program `list`, `declarations` reads the header and what must agree with it.
 
 pub mod agreed;
 pub mod both;
+pub mod declarations;
 pub mod dumps;
 pub mod edit_runs;
 pub mod generators;

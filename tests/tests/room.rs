@@ -13,8 +13,8 @@
 //! A put must be answered with 17 exactly if no pair fits, and else leave a candidate; none has fewer pages in use.
 //!
 //! Programs: the library and the second program. Each call is made by both; every answer and every lent byte is compared.
-//! The archive is made by `rt staticlib owfs`.
 //! The images that the search builds are checked, listed and read by both too. That every pair of sets is tried is a test of the search alone.
+//! The archive is made by `rt staticlib owfs`.
 
 use std::collections::{BTreeMap, BTreeSet};
 

@@ -1,0 +1,318 @@
+/* A fuzz target of the exported calls, for libFuzzer (Debian's clang has it). `tests/fuzz/run 10` builds it and runs it for ten minutes, starting
+ * from the dumps in samples/; all it makes is in target/fuzz. To make the calls of one input again, as after a crash:
+ *
+ *     target/fuzz/calls target/fuzz/crash-..
+ *
+ * fuzz.h says what an input is. Every exported function is called with it. What must hold of every call is demanded:
+ *
+ *   - no call reads or writes outside the slices that it is lent, and none changes a path, a file's bytes or an image that it only reads
+ *   - a refusal changes no byte of the image and the output
+ *   - after 1 no owner byte is changed; bytes past the first 2 * page_count never are; the faults 2 to 13 leave owner numbers of 0
+ *   - a fault of the image is told by each call that checks it; the calls agree on what a path leads to
+ *   - after a put that is done the image is accepted and the file reads back, after a delete it is accepted and the file is absent, after a format it
+ *     is accepted and empty; the owner table is the one that a check leaves
+ */
+#define _GNU_SOURCE
+#include <stdio.h>
+#include <stdlib.h>
+#include <string.h>
+#include <sys/mman.h>
+#include <unistd.h>
+
+#include "fuzz.h"
+
+/* What an owner table and an output hold before a call, and the bytes before a lent slice. */
+enum { BEFORE = 0xC7, MARGIN = 64 };
+
+/* Numbers of answers. */
+enum { DONE = 0, ARGUMENTS = 1, CONTROL = 4, LAST_FAULT = 13, MALFORMED = 14, ABSENT = 15, READ_ONLY = 16, NO_ROOM = 17, TOO_SHORT = 18 };
+
+/* Memory that is lent: a slice just before a page that may not be touched. */
+struct lent {
+    uint8_t *end;
+    uint8_t *bytes;
+    size_t length;
+};
+
+static struct lent image, owners, out, path, file;
+static struct dump dump;
+static struct arguments arguments;
+
+/* Ends the program if something does not hold. */
+static void demand(int holds, const char *what)
+{
+    if (!holds) {
+        fprintf(stderr, "does not hold: %s\n", what);
+        abort();
+    }
+}
+
+/* Makes memory for slices of up to so many bytes, between pages that may not be touched. */
+static struct lent make_lent(size_t most)
+{
+    size_t page = (size_t)getpagesize();
+    size_t room = (most + MARGIN + page - 1) / page * page;
+    uint8_t *start = mmap(NULL, room + 2 * page, PROT_READ | PROT_WRITE, MAP_PRIVATE | MAP_ANONYMOUS, -1, 0);
+    demand(start != MAP_FAILED, "memory");
+    demand(mprotect(start, page, PROT_NONE) == 0, "a page before the memory");
+    demand(mprotect(start + page + room, page, PROT_NONE) == 0, "a page after the memory");
+    return (struct lent){start + page + room, NULL, 0};
+}
+
+/* Lends so many bytes, all with the same byte, or those of a slice. */
+static void lend(struct lent *lent, const uint8_t *bytes, size_t length)
+{
+    lent->bytes = lent->end - length;
+    lent->length = length;
+    memset(lent->bytes - MARGIN, BEFORE, MARGIN + length);
+    if (bytes != NULL)
+        memcpy(lent->bytes, bytes, length);
+}
+
+/* Whether these bytes are all the same: none, or each equal to the first and to the one before it. */
+static int all(const uint8_t *bytes, size_t length, uint8_t byte)
+{
+    return length == 0 || (bytes[0] == byte && memcmp(bytes, bytes + 1, length - 1) == 0);
+}
+
+/* Whether a lent slice has the bytes of another. */
+static int holds(const struct lent *lent, const uint8_t *bytes)
+{
+    return memcmp(lent->bytes, bytes, lent->length) == 0;
+}
+
+/* Lends the image, an owner table, an output, the path and the file's bytes for a call. */
+static void lend_all(const uint8_t *image_bytes)
+{
+    lend(&image, image_bytes, dump.image_length);
+    lend(&owners, NULL, arguments.owners_length);
+    lend(&out, NULL, arguments.out_length);
+    lend(&path, arguments.path, arguments.path_length);
+    lend(&file, arguments.file, arguments.file_length);
+}
+
+/* Demands of the owner table what holds after every call; format alone can be refused with a fault's number though the image is accepted. */
+static void see_owners(uint32_t number, int is_format)
+{
+    if (number == ARGUMENTS) {
+        demand(all(owners.bytes, owners.length, BEFORE), "owners stay after 1");
+        return;
+    }
+    size_t used = 2 * (size_t)arguments.page_count;
+    demand(owners.length >= used, "an owner table too short is 1");
+    demand(all(owners.bytes + used, owners.length - used, BEFORE), "the owner table's rest stays");
+    if (number != DONE && number <= LAST_FAULT && !is_format)
+        demand(all(owners.bytes, used, 0), "no owners after a fault");
+}
+
+/* Demands what holds after every call, and tells libFuzzer the answer. */
+static void after_call(enum kind kind, uint32_t number, uint32_t page)
+{
+    meet(kind, number * PAGES_TOLD + (page < PAGES_TOLD ? page : PAGES_TOLD - 1));
+    demand(number <= TOO_SHORT, "a number of the table");
+    demand(number != DONE || page == 0, "page 0 if done");
+    const struct lent *every[] = {&image, &owners, &out, &path, &file};
+    for (size_t place = 0; place < sizeof every / sizeof *every; place++)
+        demand(all(every[place]->bytes - MARGIN, MARGIN, BEFORE), "bytes before a slice stay");
+    demand(holds(&path, arguments.path), "the path stays");
+    demand(holds(&file, arguments.file), "the file's bytes stay");
+    see_owners(number, kind == FORMATTED);
+}
+
+/* A check of an image. */
+static struct owfs_totals check(const uint8_t *bytes)
+{
+    lend_all(bytes);
+    struct owfs_totals told =
+        owfs_check(arguments.page_length, arguments.page_count, image.bytes, image.length, owners.bytes, owners.length);
+    after_call(CHECKED, told.number, told.page);
+    demand(holds(&image, bytes), "a check writes no image");
+    demand(told.number <= LAST_FAULT, "a check's number");
+    demand(told.number == DONE || (told.used | told.files | told.directories) == 0, "no totals in a refusal");
+    if (told.number == DONE) {
+        meet(USED, told.used);
+        meet(FILES, told.files);
+        meet(DIRECTORIES, told.directories);
+    }
+    return told;
+}
+
+/* A listing of an image with these totals, or this fault. */
+static void see_list(struct owfs_totals totals)
+{
+    lend_all(dump.image);
+    struct owfs_entry told = owfs_list(arguments.page_length, arguments.page_count, image.bytes, image.length, owners.bytes, owners.length,
+                                       arguments.position);
+    after_call(LISTED, told.number, told.page);
+    demand(holds(&image, dump.image), "a listing writes no image");
+    uint32_t fields = told.level | told.name | told.extension | told.attribute | told.start | told.pages | told.length;
+    demand(told.number == DONE || fields == 0, "no entry in a refusal");
+    if (totals.number != DONE) {
+        demand(told.number == totals.number && told.page == totals.page, "a listing tells the fault");
+    } else if (arguments.position < totals.files + totals.directories) {
+        demand(told.number == DONE, "an entry is listed");
+        meet(LEVEL, told.level);
+    } else {
+        demand(told.number == ABSENT, "no entry past the end");
+    }
+}
+
+/* A read of an image into an output of so many bytes. */
+static struct owfs_length read_file(const uint8_t *bytes, size_t out_length)
+{
+    lend_all(bytes);
+    lend(&out, NULL, out_length);
+    struct owfs_length told = owfs_read(arguments.page_length, arguments.page_count, image.bytes, image.length, path.bytes, path.length, out.bytes,
+                                        out.length, owners.bytes, owners.length);
+    after_call(READ, told.number, told.page);
+    demand(holds(&image, bytes), "a read writes no image");
+    demand(told.length <= out.length, "a file no longer than the output");
+    demand(told.number == DONE || told.length == 0, "no length in a refusal");
+    demand(all(out.bytes + told.length, out.length - told.length, BEFORE), "the output's rest stays");
+    return told;
+}
+
+/* Demands of an edit: a refusal changes no byte; if it is done, the image is accepted and the owner table is the one that a check leaves.
+ * Copies the image as it stands and gives its totals. */
+static struct owfs_totals after_edit(enum kind kind, struct owfs_answer told, uint8_t *edited)
+{
+    static uint8_t table[MOST_OWNERS];
+    after_call(kind, told.number, told.page);
+    demand(told.number == DONE || holds(&image, dump.image), "a refusal changes no byte of the image");
+    memcpy(edited, image.bytes, image.length);
+    memcpy(table, owners.bytes, owners.length);
+    struct owfs_totals totals = check(edited);
+    demand(holds(&owners, table), "owners of the image as it stands");
+    demand(told.number != DONE || totals.number == DONE, "an edit leaves an accepted image");
+    return totals;
+}
+
+/* Demands that a put or a delete tells the fault of an image that is not accepted. */
+static void see_fault(struct owfs_totals before, struct owfs_answer told)
+{
+    if (before.number != DONE)
+        demand(told.number == before.number && told.page == before.page, "an edit tells the fault");
+}
+
+/* A put, and what it leaves; its number. */
+static uint32_t see_put(struct owfs_totals before)
+{
+    static uint8_t edited[MOST_IMAGE];
+    lend_all(dump.image);
+    struct owfs_answer told = owfs_put(arguments.page_length, arguments.page_count, image.bytes, image.length, path.bytes, path.length, file.bytes,
+                                       file.length, owners.bytes, owners.length);
+    struct owfs_totals after = after_edit(PUT, told, edited);
+    see_fault(before, told);
+    if (told.number != DONE)
+        return told.number;
+    demand(after.files == before.files || after.files == before.files + 1, "one file more or none");
+    demand(after.directories == before.directories, "as many directories");
+    struct owfs_length length = read_file(edited, arguments.file_length);
+    demand(length.number == DONE && length.length == arguments.file_length, "a file that was put is read");
+    demand(memcmp(out.bytes, arguments.file, arguments.file_length) == 0, "the bytes that were put");
+    return told.number;
+}
+
+/* A delete, and what it leaves; its number. */
+static uint32_t see_delete(struct owfs_totals before)
+{
+    static uint8_t edited[MOST_IMAGE];
+    lend_all(dump.image);
+    struct owfs_answer told = owfs_delete(arguments.page_length, arguments.page_count, image.bytes, image.length, path.bytes, path.length,
+                                          owners.bytes, owners.length);
+    struct owfs_totals after = after_edit(DELETED, told, edited);
+    see_fault(before, told);
+    if (told.number != DONE)
+        return told.number;
+    demand(after.files + 1 == before.files && after.directories == before.directories, "one file less");
+    demand(after.used < before.used, "pages are free");
+    demand(read_file(edited, arguments.out_length).number == ABSENT, "a file that was deleted is absent");
+    return told.number;
+}
+
+/* A format, and what it leaves. */
+static void see_format(struct owfs_totals before)
+{
+    static uint8_t edited[MOST_IMAGE];
+    lend_all(dump.image);
+    struct owfs_answer told = owfs_format(arguments.page_length, arguments.page_count, image.bytes, image.length, owners.bytes, owners.length,
+                                          arguments.local);
+    struct owfs_totals after = after_edit(FORMATTED, told, edited);
+    demand(told.page == 0, "format tells no page");
+    demand((told.number == ARGUMENTS) == (before.number == ARGUMENTS), "format and check judge arguments alike");
+    if (told.number == DONE)
+        demand(after.files + after.directories == 0, "a formatted image is empty");
+    else
+        demand(told.number == ARGUMENTS || (told.number == CONTROL && arguments.local != 0), "format's refusals");
+}
+
+/* Demands that read, put and delete agree on what a path of an accepted image leads to. */
+static void see_path(uint32_t read, uint32_t put, uint32_t deleted)
+{
+    int is_there = read == DONE || read == TOO_SHORT;
+    demand(is_there || read == MALFORMED || read == ABSENT, "numbers of a read");
+    demand(put == DONE || (put >= MALFORMED && put <= NO_ROOM), "numbers of a put");
+    demand((read == MALFORMED) == (put == MALFORMED) && (read == MALFORMED) == (deleted == MALFORMED), "a malformed path");
+    demand((read == ABSENT) == (deleted == ABSENT), "an absent file");
+    demand(put != ABSENT || read == ABSENT, "an absent directory has no file");
+    demand((put == READ_ONLY) == (deleted == READ_ONLY) && (put != READ_ONLY || is_there), "a read-only file");
+    demand(is_there == (deleted == DONE || deleted == READ_ONLY), "a file that is there");
+}
+
+/* Demands that the check sum over a front of the image is the one worked bit by bit. */
+static void see_sum(void)
+{
+    size_t length = dump.image_length < 300 ? dump.image_length : 300;
+    uint16_t start = (uint16_t)arguments.position, sum = start;
+    for (size_t place = 0; place < 8 * length; place++) {
+        int leaving = (sum ^ dump.image[place / 8] >> place % 8) & 1;
+        sum = (uint16_t)(sum >> 1 ^ leaving * 0xA001);
+    }
+    lend(&image, dump.image, length);
+    demand(owfs_crc16(start, image.bytes, length) == sum, "the check sum");
+}
+
+int LLVMFuzzerInitialize(int *count, char ***words);
+int LLVMFuzzerTestOneInput(const uint8_t *data, size_t size);
+
+/* Makes the memory that is lent; the blocks' addresses stand beside the program. */
+int LLVMFuzzerInitialize(int *count, char ***words)
+{
+    (void)count;
+    char addresses[4096];
+    snprintf(addresses, sizeof addresses, "%s.blocks", (*words)[0]);
+    image = make_lent(MOST_IMAGE);
+    owners = make_lent(MOST_OWNERS);
+    out = make_lent(MOST_FILE);
+    path = make_lent(MOST_PATH);
+    file = make_lent(MOST_FILE);
+    watch_blocks(addresses);
+    return 0;
+}
+
+/* Makes every call with the input that was read. */
+static void make_calls(void)
+{
+    see_sum();
+    struct owfs_totals totals = check(dump.image);
+    see_list(totals);
+    see_format(totals);
+    struct owfs_length length = read_file(dump.image, arguments.out_length);
+    uint32_t deleted = see_delete(totals);
+    uint32_t put = see_put(totals);
+    if (totals.number == DONE)
+        see_path(length.number, put, deleted);
+    else
+        demand(length.number == totals.number && length.page == totals.page, "a read tells the fault");
+}
+
+int LLVMFuzzerTestOneInput(const uint8_t *data, size_t size)
+{
+    if (!read_dump(&dump, data, size))
+        return 0;
+    read_arguments(&arguments, &dump);
+    begin_input();
+    make_calls();
+    end_input();
+    return 0;
+}

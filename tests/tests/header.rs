@@ -1,0 +1,120 @@
+//! The C header, the Rust crate's declarations and the exported functions and structs of the Rattle sources: one to one, field by field, parameter
+//! by parameter, with equal types.
+//!
+//! Programs: none is called. The texts `include/owfs.h`, `rust/src/raw.rs`, `crates/owfs/src/lib.rt` and `crates/answers/src/lib.rt` are read.
+
+use std::fs;
+use std::path::Path;
+
+use common::declarations::{differences, of_header, of_rattle, of_rust, Declarations};
+
+/// A file of the repository.
+fn file(name: &str) -> String {
+    let path = Path::new(env!("CARGO_MANIFEST_DIR")).join("..").join(name);
+    fs::read_to_string(path).unwrap_or_else(|error| panic!("{name}: {error}"))
+}
+
+/// The header's text.
+fn header() -> String {
+    file("include/owfs.h")
+}
+
+/// The Rust crate's declarations.
+fn rust() -> Declarations {
+    of_rust(&file("rust/src/raw.rs"))
+}
+
+/// What the Rattle sources export.
+fn rattle() -> Declarations {
+    let functions = file("crates/owfs/src/lib.rt");
+    of_rattle(&file("crates/answers/src/lib.rt"), &functions)
+}
+
+#[test]
+fn the_header_declares_seven_functions_and_four_structs() {
+    let declared = of_header(&header());
+    let names: Vec<&str> = declared.keys().map(String::as_str).collect();
+    let expected = [
+        "owfs_check",
+        "owfs_crc16",
+        "owfs_delete",
+        "owfs_format",
+        "owfs_list",
+        "owfs_put",
+        "owfs_read",
+        "struct owfs_answer",
+        "struct owfs_entry",
+        "struct owfs_length",
+        "struct owfs_totals",
+    ];
+    assert_eq!(names, expected);
+    let counts: Vec<usize> = declared.values().map(|one| one.items.len()).collect();
+    assert_eq!(counts, [6, 3, 8, 7, 7, 10, 10, 2, 9, 3, 5]);
+}
+
+#[test]
+fn the_rust_declarations_are_the_headers() {
+    let found = differences(&of_header(&header()), &rust());
+    assert!(found.is_empty(), "rust/src/raw.rs: {found:#?}");
+}
+
+#[test]
+fn the_rattle_exports_are_the_headers() {
+    let found = differences(&of_header(&header()), &rattle());
+    assert!(found.is_empty(), "crates/owfs, crates/answers: {found:#?}");
+}
+
+/// Changes of the header, each with the start of a line that must tell it.
+const CHANGES: [(&str, &str, &str); 10] = [
+    (
+        "uint32_t used;",
+        "uint16_t used;",
+        "struct owfs_totals, item 2",
+    ),
+    (
+        "uint32_t used;",
+        "uint32_t taken;",
+        "struct owfs_totals, item 2",
+    ),
+    ("uint32_t level;", "", "struct owfs_entry: 9 items"),
+    (
+        "struct owfs_length {",
+        "struct owfs_size {",
+        "struct owfs_size: only",
+    ),
+    (
+        "uint16_t owfs_crc16(",
+        "uint32_t owfs_crc16(",
+        "owfs_crc16: result",
+    ),
+    ("uint16_t start, ", "", "owfs_crc16: 3 items"),
+    (
+        "uint8_t *out, ",
+        "const uint8_t *out, ",
+        "owfs_read, item 6",
+    ),
+    (
+        "size_t out_length",
+        "uint32_t out_length",
+        "owfs_read, item 7",
+    ),
+    ("uint32_t position", "uint32_t place", "owfs_list, item 6"),
+    (
+        "owfs_delete(",
+        "owfs_remove(",
+        "owfs_delete: the header does not",
+    ),
+];
+
+#[test]
+fn a_change_of_the_header_is_told() {
+    for (text, other, told) in CHANGES {
+        let changed = header().replace(text, other);
+        assert_ne!(changed, header(), "{text}");
+        for other in [rust(), rattle()] {
+            let found = differences(&of_header(&changed), &other);
+            let is_told = found.iter().any(|line| line.starts_with(told));
+            assert!(is_told, "{text} for {other:?}: {found:#?}");
+        }
+    }
+}
