@@ -22,12 +22,12 @@ use Rattle.rules.specs.Check.{check}
 use Rattle.rules.specs.Owners.{totals, owners, tableAfter}
 use Rattle.rules.specs.Listing.{linesOf, lineAt}
 use Rattle.rules.specs.Calls.{readBytes, lengthOf, filled, inGeometry, asked, done, changed, checkCall, listCall, readCall, formatCall, putCall, deleteCall}
-use Rattle.rules.specs.CallLaws.{asked-fits, asked-wrong, check-wrong}
+use Rattle.rules.specs.CallLaws.{asked-fits, asked-wrong}
 use Rattle.rules.specs.Format.{format}
 use Rattle.rules.specs.Put.{put}
 use Rattle.rules.specs.Delete.{delete}
 use Rattle.table.specs.Table.{numbersOf, bytesWith}
-use Rattle.table.specs.TableLaws.{AreBytes, length-numbers, stored-same, stored-front}
+use Rattle.table.specs.TableLaws.{AreBytes, length-numbers, stored-front}
 use Rattle.answers.specs.declared.OwfsTotals.{OwfsTotals}
 use Rattle.answers.specs.declared.OwfsEntry.{OwfsEntry}
 use Rattle.answers.specs.declared.OwfsLength.{OwfsLength}
@@ -163,10 +163,3 @@ module _ (P N : ℕ) (image bytes : List ℕ) (n : ℕ) (en : n ≡ min (length 
   unfolding putCall putAnswer
   putted path text after q r e i =
       ap (λ (y : OwfsAnswer). (y, after, b)) i ∙ ap (λ (y : Res (Unit {0}) × List ℕ × List ℕ). (answerFor (y .0), y .1, y .2)) (seen-changed P N image bytes (λ g. put g path text image) n en are q after x b l e s)
-
--- refusal 1 changes no owner byte
-pub check-untouched : (P N : ℕ) (image bytes : List ℕ) → AreBytes bytes → geometryOf P N (length image) (length bytes / 2) ≡ Wrong
-    → checkAnswer P N image bytes ≡ (totalsFor (err 1 0), bytes)
-unfolding checkAnswer
-check-untouched P N image bytes are e =
-    rw (check-wrong P N image (numbersOf bytes) (rw (length-numbers bytes) e)) (ap (λ (l : List ℕ). (totalsFor (err 1 0), l)) (stored-same bytes are))

@@ -1,9 +1,6 @@
 -- What an answer tells fits the caller's 32 bits; a table lent from the front of 65,535 numbers has its length.
 use mathlib.Core.Path.{_≡_, subst}
-use Prim.Native.Nat.{ℕ, _≤_, _<_}
-use native.Mathlib.Omega.{arith}
-use lib.ListN.{length, take, replicate, length-replicate}
-use lib.Seq.{length-take-le}
+use Prim.Native.Nat.{ℕ, _<_}
 use Rattle.rules.specs.declared.Totals.{Totals}
 use Rattle.rules.specs.declared.Line.{Line}
 use Rattle.walk.specs.declared.Walk.{Walk}
@@ -38,6 +35,3 @@ no-length-told a n p h e = subst (λ (y : Length). Small LengthSmall (lengthTold
 
 pub edit-told : (a : Edited) (n p : ℕ) → Small DoneSmall (editTold a) → a ≡ edited.Refused n p → p < 131072
 edit-told a n p h e = subst (λ (y : Edited). Small DoneSmall (editTold y)) e h
-
-pub front : (n k x : ℕ) → n ≤ k → length (take n (replicate k x)) ≡ n
-front n k x h = length-take-le n (replicate k x) (omega (arith, length-replicate k x, h))

@@ -9,7 +9,7 @@ ghost use Rattle.query.specs.Told.{lineTold, lengthTold};
 ghost use Rattle.answers.specs.Answers.{totalsFor, entryFor, lengthFor, answerFor};
 ghost use Rattle.answers.specs.Small.{Small, TotalsSmall, LineSmall, LengthSmall, DoneSmall};
 
-// What check answers: 0 and the totals, or a fault's number and the page told.
+// What check answers: 0 and the totals, or the number of a refusal and its page.
 #[repr(C)]
 pub struct OwfsTotals {
     pub number: u32,
@@ -19,7 +19,7 @@ pub struct OwfsTotals {
     pub directories: u32,
 }
 
-// What listing answers: 0 and a line, or a fault's number and the page told.
+// What listing answers: 0 and a line, or the number of a refusal and its page.
 #[repr(C)]
 pub struct OwfsEntry {
     pub number: u32,
@@ -34,7 +34,7 @@ pub struct OwfsEntry {
     pub length: u32,
 }
 
-// What reading answers: 0 and the bytes read, or a fault's number and the page told.
+// What reading answers: 0 and the bytes read, or the number of a refusal and its page.
 #[repr(C)]
 pub struct OwfsLength {
     pub number: u32,
@@ -42,7 +42,7 @@ pub struct OwfsLength {
     pub length: u32,
 }
 
-// What an edit answers: 0, or a refusal's number and the page told.
+// What an edit answers: 0, or the number of a refusal and its page.
 #[repr(C)]
 pub struct OwfsAnswer {
     pub number: u32,

@@ -43,7 +43,7 @@ pub fn in_use(owners: &[u16], page: usize) -> usize
     0
 }
 
-// Compares the bits of some bytes of a bitmap, of which `at` bytes stand before them.
+// Compares some bytes of a bitmap with the table; `at` bytes of the bitmap stand before them.
 fn compare_bytes(bytes: &[u8], at: usize, owners: &[u16]) -> Bits
     requires { ⌜ (at ≤ 16777216) × (length (now bytes) ≤ 256) ⌝ }
     ensures { λ r. ⌜ ComparesPart (now (bytes .entry)) at (now (owners .entry)) r ⌝ }

@@ -25,7 +25,7 @@ pub struct Cursor {
 // One step: the page that was passed has so many data bytes, and the next position. The chain ends where the next page is 0.
 pub enum Step {
     Page(usize, Cursor),
-    // a number of document 01, and the page told
+    // the number of a refusal of document 01, and its page
     Refused(u8, usize),
 }
 

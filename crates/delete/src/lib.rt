@@ -29,7 +29,7 @@ fn unlink(image: &mut [u8], g: Geometry, slot: Slot, e: Entry, owners: &mut [u16
     marks::write_map(image, g, owners);
 }
 
-// Deletes the file at a path of an accepted image of which the table tells: 14, 15, 16.
+// Deletes the file at a path. The image is accepted, and the table has the owners of its pages. Refusals: 14, 15, 16.
 fn delete_path(image: &mut [u8], g: Geometry, path: &[u8], owners: &mut [u16]) -> Edited
     requires { ⌜ Fit g (now image) ⌝ }
     requires { ⌜ (length (now owners) ≡ g .pages) × TableOf g (now image) (now owners) ⌝ }

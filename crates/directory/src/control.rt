@@ -26,7 +26,7 @@ pub enum Root {
     Local,
     // start page and page count of the bitmap file
     Remote(usize, usize),
-    // a number of document 01; the page told is 0
+    // the number of a refusal of document 01; its page is 0
     Refused(u8),
 }
 

@@ -4,8 +4,8 @@ use mathlib.Core.Bool.{Bool, true, false}
 use mathlib.Core.List.{List}
 use Prim.Native.Nat.{ℕ, _-_, _≤_}
 use native.Mathlib.Omega.{arith}
-use lib.ListN.{length, take, drop, replicate, length-replicate, length-drop}
-use lib.Seq.{length-take-le, take-all}
+use lib.ListN.{length, take, drop, length-drop}
+use lib.Seq.{take-all}
 use borrow.Author.Tests.{le-leb}
 use Rattle.geometry.specs.declared.Geometry.{Geometry}
 use Rattle.geometry.specs.declared.Shape.the-variants.{Fits, Wrong}
@@ -58,10 +58,6 @@ image-is dump offset e =
     take-all (length dump - offset) (drop offset dump) (omega (arith, length-drop offset dump)) ∙ ap (λ (o : ℕ). drop o dump) (k .1)
 
 -- ---- the check
--- the front of the table
-pub front : (n k x : ℕ) → n ≤ k → length (take n (replicate k x)) ≡ n
-front n k x h = length-take-le n (replicate k x) (omega (arith, length-replicate k x, h))
-
 pub checks-wrong : (P N : ℕ) (image : List ℕ) → geometryOf P N (length image) 65535 ≡ Wrong → Checks P N image (checked.Refused 1 0)
 checks-wrong P N image e = rw e refl
 

@@ -26,7 +26,7 @@ enum Place {
     Malformed,
 }
 
-// What the check of an image told.
+// The answer of an image's check.
 enum Checked {
     Refused(u8, usize),
     Done(Geometry, Totals),

@@ -143,7 +143,7 @@ fn write_bits(image: &mut [u8], g: Geometry, owners: &[u16])
     write_bytes(image, g, page, 0, done, left, owners);
 }
 
-// Writes an image without entries with a bitmap file; the table is used to tell its bits.
+// Writes an image without entries with a bitmap file. The table serves to work out the bitmap's bits.
 fn write_file(image: &mut [u8], g: Geometry, owners: &mut [u16])
     requires { ⌜ Fit g (now image) ⌝ }
     requires { ⌜ length (now owners) ≡ g .pages ⌝ }

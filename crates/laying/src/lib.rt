@@ -8,7 +8,7 @@ ghost use lib.ListN.{length};
 ghost use Rattle.geometry.specs.Geometry.{Fit};
 ghost use Rattle.laying.specs.Layings.{Laying, Lays, Growing, Grows};
 
-// Stores a file in the lowest free pages and writes its entry in a page of its directory, in the place of those from one number to another. 17.
+// Stores a file in the lowest free pages, or refuses with 17, and writes its entry in a page of its directory: it replaces the page's entries `first` to `last`, `last` not among them.
 pub fn lay_file(
     image: &mut [u8],
     g: Geometry,

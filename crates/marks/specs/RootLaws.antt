@@ -10,11 +10,11 @@ use Rattle.rules.specs.PageSets.{hit, count, Within}
 use Rattle.rules.specs.PageSetLaws.{hit-same, range-le, range-of, within-length}
 use Rattle.rules.specs.Chain.{pages}
 use Rattle.rules.specs.ChainLaws.{length-pages}
-use Rattle.rules.specs.Tree.{Items, end, page, file, dir, startOf, allPages, Map, inRoot, inFile, mapPages, Image}
+use Rattle.rules.specs.Tree.{Items, end, page, file, dir, startOf, allPages, Map, inRoot, inFile, mapPages}
 use Rattle.rules.specs.Bitmap.{mapSize}
-use Rattle.rules.specs.WellFormed.{Stand, mapPackets, IsDirectory, MapHolds, WellFormedWith}
-use Rattle.reading.specs.Directory.{rest-zero, map-stands, root-holds}
-use Rattle.marks.specs.MapPages.{MapStands, RootHeld}
+use Rattle.rules.specs.WellFormed.{Stand, mapPackets, IsDirectory, MapHolds}
+use Rattle.reading.specs.Directory.{rest-zero}
+use Rattle.marks.specs.MapPages.{MapStands}
 
 -- page 0 is the root's
 pub zero-taken : (t : Items) → IsDirectory t → startOf t ≡ 0 → 1 ≤ count 0 (allPages t)
@@ -40,16 +40,3 @@ module _ (g : Geometry) (v : View) (bits : List ℕ) where
     },
     ap length (h .1) ∙ r,
   )
-
-  -- with any bits
-  pub root-stands : (i : Image) → WellFormedWith g v bits i → RootHeld g v bits (i .tree) (i .map)
-  root-stands i h =
-      let w = root-holds g v bits (i .map) (i .tree) h in
-      let z = zero-taken (i .tree) (h .isDirectory) (h .atZero) in
-      record {
-        isDirectory = h .isDirectory;
-        atZero = h .atZero;
-        room = h .room;
-        chain = w .chain;
-        map = map-holds (i .map) (h .map) (h .room) (map-stands g v bits (i .map) (i .tree) h) (omega (arith, w .clear 0, range-le 0 (g .pages), z)) (λ x. omega (arith, w .clear x));
-      }

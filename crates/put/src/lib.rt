@@ -49,7 +49,7 @@ fn insert_file(
     }
 }
 
-// Puts a file in the place of one that its directory has: the old chain counts as free.
+// Replaces a file that its directory has: the old chain counts as free.
 fn replace_file(
     image: &mut [u8],
     g: Geometry,
@@ -76,7 +76,7 @@ fn replace_file(
     )
 }
 
-// Puts bytes at a path of an accepted image of which the table tells: 14, 15, 16, 17.
+// Puts bytes at a path. The image is accepted, and the table has the owners of its pages. Refusals: 14, 15, 16, 17.
 fn put_path(image: &mut [u8], g: Geometry, path: &[u8], bytes: &[u8], owners: &mut [u16]) -> Edited
     requires { ⌜ Fit g (now image) ⌝ }
     requires { ⌜ (length (now owners) ≡ g .pages) × TableOf g (now image) (now owners) ⌝ }

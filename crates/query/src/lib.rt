@@ -17,13 +17,13 @@ ghost use Rattle.rules.specs.Promises.{TellsTree};
 ghost use Rattle.query.specs.Told.{lineTold, lengthTold};
 ghost use Rattle.query.specs.Questions.{LineOf, ChainRead, PathRead};
 
-// What listing answers: a line, or a number of document 01 and the page told.
+// What listing answers: a line, or the number of a refusal of document 01 and its page.
 pub enum Listed {
     Entry(Line),
     Refused(u8, usize),
 }
 
-// What reading answers: the bytes read, or a number of document 01 and the page told.
+// What reading answers: the bytes read, or the number of a refusal of document 01 and its page.
 pub enum Length {
     Done(usize),
     Refused(u8, usize),

@@ -11,7 +11,7 @@ use Rattle.geometry.specs.ChooseLaws.{choose-true, choose-false, on-choose}
 use Rattle.rules.specs.PageSets.{bit, hit, count}
 use Rattle.rules.specs.PageSetLaws.{hit-same, same, other, hits, count-append}
 use Rattle.rules.specs.Chain.{Link, pages}
-use Rattle.rules.specs.Tree.{Label, keyOf, Items, end, page, file, dir, ownPages, innerPages, allPages, keys}
+use Rattle.rules.specs.Tree.{Label, keyOf, Items, end, page, file, dir, ownPages, innerPages, keys}
 use Rattle.rules.specs.Paths.{Found, nothing, aFile, aDirectory, find}
 use Rattle.rules.specs.Put.{insert, isFull, replace}
 use Rattle.rules.specs.Delete.{remove}
@@ -79,9 +79,6 @@ pub record IsEntry (new : Items → Items) (k : ℕ) (ps : List ℕ) (found : Fo
 
 pub file-entry : (l : Label) (ls : List Link) → IsEntry (file l ls) (keyOf l) (pages ls) (aFile l ls)
 file-entry l ls = record { own-same = λ t. refl; inner-more = λ x t. count-append x (pages ls) (innerPages t); keys-more = λ x t. refl; finds = λ j t. refl }
-
-pub directory-entry : (l : Label) (d : Items) → IsEntry (dir l d) (keyOf l) (allPages d) (aDirectory l d)
-directory-entry l d = record { own-same = λ t. refl; inner-more = λ x t. simp count-append (omega arith); keys-more = λ x t. refl; finds = λ j t. refl }
 
 module _ (new : Items → Items) (k : ℕ) (ps : List ℕ) (found : Found) (is : IsEntry new k ps found) (later q : ℕ) where
   pub insert-keys : (next x r : ℕ) (t : Items) → count x (keys (insert new later q next r t)) ≡ hit x k + count x (keys t)

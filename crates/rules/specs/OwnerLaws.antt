@@ -4,14 +4,13 @@ use mathlib.Core.List.{List, [], _∷_, _++_}
 use Prim.Native.Nat.{ℕ, zero, suc, _+_, _≤_, _<_}
 use native.Mathlib.Omega.{arith}
 use native.Mathlib.Decide.{decLt}
-use lib.ListN.{length, getD, set, length-set, length-append, length-drop, replicate, length-replicate}
+use lib.ListN.{length, getD, set, length-set, replicate, length-replicate}
 use lib.Seq.{getD-set-same, getD-set-other}
-use Rattle.rules.specs.Result.{Res, ok, err}
 use Rattle.rules.specs.PageSets.{count, range, Within}
 use Rattle.rules.specs.PageSetLaws.{hit-same, same, other, hits, count-append, pigeon, range-below, range-of, within-length}
 use Rattle.rules.specs.Chain.{pages}
 use Rattle.rules.specs.Tree.{Items, end, page, file, dir, ownPages, innerPages, mapPages, Image, used}
-use Rattle.rules.specs.Owners.{fileCount, directoryCount, own, ownEntries, owners, tableAfter}
+use Rattle.rules.specs.Owners.{fileCount, directoryCount, own, ownEntries, owners}
 
 -- 1 for a number above 0
 abbrev pub nonzero : ℕ → ℕ
@@ -131,12 +130,6 @@ represents-owners N i c =
     let n₂ = length-own 1 root (own 2 map (replicate N 0)) ∙ n₁ in
     let r = represents-entries 0 (i .tree) (own 1 root (own 2 map (replicate N 0))) (root ++ (map ++ [])) b (λ x. rw n₂ (simp count-append (omega (arith, c′ x)))) in
     λ x. simp count-append (omega (arith, simp count-append at (r x)))
-
--- no call changes the length of the table
-pub length-after : (N : ℕ) (r : Res Image) (table : List ℕ) → N ≤ length table → length (tableAfter N r table) ≡ length table
-unfolding tableAfter
-length-after N (ok i) table h = simp (length-append, length-drop) (omega (arith, length-owners N i))
-length-after N (err n p) table h = simp (length-append, length-drop) (omega (arith, length-replicate {A = ℕ} N 0))
 
 -- ---- the pages of a table that have an owner
 abbrev consIf : ℕ → ℕ → List ℕ → List ℕ

@@ -58,11 +58,6 @@ unfolding andThen
 then-cong (ok a) f g h = h a refl
 then-cong (err n p) f g h = refl
 
-pub refuse-cong : {B : Type 0} (t : Bool) (n p : ℕ) (r s : Res B) → (t ≡ true → r ≡ s) → andAfter (refuse-unless t n p) r ≡ andAfter (refuse-unless t n p) s
-unfolding andThen refuse-unless
-refuse-cong true n p r s h = h refl
-refuse-cong false n p r s h = refl
-
 -- three steps, however they are bracketed
 pub then-assoc : {A B C : Type 0} (r : Res A) (f : A → Res B) (h : B → Res C) → andThen (andThen r f) h ≡ andThen r (λ a. andThen (f a) h)
 unfolding andThen

@@ -10,14 +10,14 @@ pub struct Entry {
     pub pages: usize,
 }
 
-// What a check that accepts tells.
+// The totals that an accepting check answers.
 pub struct Totals {
     pub used: usize,
     pub files: usize,
     pub directories: usize,
 }
 
-// What listing tells of an entry.
+// What a listing answers for an entry.
 pub struct Line {
     // 0 in the root
     pub level: usize,

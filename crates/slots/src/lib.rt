@@ -52,7 +52,7 @@ pub fn rewrite(
     }
 }
 
-// Writes a directory's page with the entries from one number to another exchanged for others; later entries of the page follow them.
+// Writes a directory's page with other bytes for its entries `first` to `last`, `last` not among them; later entries of the page follow them.
 pub fn exchange(image: &mut [u8], g: Geometry, slot: Slot, first: usize, last: usize, new: &[u8])
     requires { ⌜ Fit g (now image) ⌝ }
     requires { ⌜ (slot .page < g .pages) × HasSpan g (viewOf g (now image)) (slot .page) (entryFrom g slot first) (entryFrom g slot last) (length (now new)) ⌝ }
@@ -64,7 +64,7 @@ pub fn exchange(image: &mut [u8], g: Geometry, slot: Slot, first: usize, last: u
     rewrite(image, g, slot.page, from, to, new, slot.next.page);
 }
 
-// Writes an entry in a directory's page, in the place of those from one number to another.
+// Writes an entry in a directory's page: it replaces the page's entries `first` to `last`, `last` not among them.
 pub fn place_entry(image: &mut [u8], g: Geometry, slot: Slot, first: usize, last: usize, e: Entry)
     requires { ⌜ Fit g (now image) ⌝ }
     requires { ⌜ (slot .page < g .pages) × HasSpan g (viewOf g (now image)) (slot .page) (entryFrom g slot first) (entryFrom g slot last) (entrySize g) ⌝ }

@@ -24,7 +24,7 @@ ghost use Rattle.volume.specs.Told.{told};
 ghost use Rattle.volume.specs.Scans.{rootOf, MapClaimed, RootWalked, Scanned, IsScanned, BitsCompared, TableChecked};
 ghost use Rattle.rules.specs.Calls.{checkCall};
 
-// What an edit answers: done, or a number of document 01 and the page told.
+// What an edit answers: done, or the number of a refusal of document 01 and its page.
 pub enum Edited {
     Done,
     Refused(u8, usize),

@@ -18,7 +18,7 @@ ghost use Rattle.walk.specs.Walks.{Good, Ready, Remaining, EntryFault, B
 // The owner's number of the entry at walk position 0.
 const FIRST_OWNER: usize = 3;
 
-// What a walk answers: the totals so far, or a number of document 01 and the page told.
+// What a walk answers: the totals so far, or the number of a refusal of document 01 and its page.
 pub enum Walk {
     Done(Totals),
     Refused(u8, usize),

@@ -5,13 +5,13 @@ use Rattle.answers.proofs.tell.Statement.{statement}
 use Rattle.answers.proofs.tell.Tie as tie
 
 cast-t6 : tie.Need-cast-t6
-cast-t6 c = omega (arith, totals-told _ _ (c .before .before .before .before .pre) (c .before .before .answer .given .1) .0)
+cast-t6 c = omega (arith, totals-told _ _ (c .before .before .before .before .pre) (c .before .before .answer .given .1))
 
 cast-t7 : tie.Need-cast-t7
-cast-t7 c = omega (arith, totals-told _ _ (c .before .before .before .before .before .pre) (c .before .before .before .answer .given .1) .1)
+cast-t7 c = omega (arith, totals-told _ _ (c .before .before .before .before .before .pre) (c .before .before .before .answer .given .1))
 
 cast-t8 : tie.Need-cast-t8
-cast-t8 c = omega (arith, totals-told _ _ (c .before .before .before .before .before .before .pre) (c .before .before .before .before .answer .given .1) .2)
+cast-t8 c = omega (arith, totals-told _ _ (c .before .before .before .before .before .before .pre) (c .before .before .before .before .answer .given .1))
 
 cast-t10 : tie.Need-cast-t10
 cast-t10 c = omega (arith, fault-told _ _ _ (c .before .before .before .pre) (c .before .answer2 .given .1))

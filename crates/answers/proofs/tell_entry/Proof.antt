@@ -5,16 +5,16 @@ use Rattle.answers.proofs.tell_entry.Statement.{statement}
 use Rattle.answers.proofs.tell_entry.Tie as tie
 
 cast-t6 : tie.Need-cast-t6
-cast-t6 c = omega (arith, entry-told _ _ (c .before .before .before .before .pre) (c .before .before .answer .given .1) .0)
+cast-t6 c = omega (arith, entry-told _ _ (c .before .before .before .before .pre) (c .before .before .answer .given .1))
 
 cast-t9 : tie.Need-cast-t9
-cast-t9 c = omega (arith, entry-told _ _ (c .before .before .before .before .before .before .before .pre) (c .before .before .before .before .before .answer .given .1) .1)
+cast-t9 c = omega (arith, entry-told _ _ (c .before .before .before .before .before .before .before .pre) (c .before .before .before .before .before .answer .given .1))
 
 cast-t10 : tie.Need-cast-t10
-cast-t10 c = omega (arith, entry-told _ _ (c .before .before .before .before .before .before .before .before .pre) (c .before .before .before .before .before .before .answer .given .1) .2)
+cast-t10 c = omega (arith, entry-told _ _ (c .before .before .before .before .before .before .before .before .pre) (c .before .before .before .before .before .before .answer .given .1))
 
 cast-t11 : tie.Need-cast-t11
-cast-t11 c = omega (arith, entry-told _ _ (c .before .before .before .before .before .before .before .before .before .pre) (c .before .before .before .before .before .before .before .answer .given .1) .3)
+cast-t11 c = omega (arith, entry-told _ _ (c .before .before .before .before .before .before .before .before .before .pre) (c .before .before .before .before .before .before .before .answer .given .1))
 
 cast-t13 : tie.Need-cast-t13
 cast-t13 c = omega (arith, no-entry-told _ _ _ (c .before .before .before .pre) (c .before .answer2 .given .1))

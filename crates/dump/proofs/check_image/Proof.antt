@@ -1,5 +1,6 @@
 use mathlib.Core.Path.{sym, _∙_}
-use Rattle.dump.proofs.Judging.{front, checks-wrong, fits, few, checks-refused, checks-done}
+use Rattle.packet.proofs.Fronts.{zeros-front}
+use Rattle.dump.proofs.Judging.{checks-wrong, fits, few, checks-refused, checks-done}
 use borrow.Author.Needs.{needs}
 use Rattle.dump.proofs.check_image.Statement.{statement}
 use Rattle.dump.proofs.check_image.Tie as tie
@@ -12,13 +13,13 @@ array-borrow-prefix-owners c =
 slice-aggregate-check-table : tie.Need-slice-aggregate-check-table
 slice-aggregate-check-table c =
     let a = c .before .before .before .before .before .before .args in
-    sym (front _ 65535 0 (few (a .size) (a .pages) (a .image .now) _ (sym (c .before .before .before .before .new .ensures) ∙ c .before .before .g .given .1)))
+    sym (zeros-front _ 65535 (few (a .size) (a .pages) (a .image .now) _ (sym (c .before .before .before .before .new .ensures) ∙ c .before .before .g .given .1)))
 
 check-table-requires : tie.Need-check-table-requires
 check-table-requires c κs =
     let a = c .before .before .before .before .before .before .args in
     let e = sym (c .before .before .before .before .new .ensures) ∙ c .before .before .g .given .1 in
-    (fits (a .size) (a .pages) (a .image .now) _ e, front _ 65535 0 (few (a .size) (a .pages) (a .image .now) _ e))
+    (fits (a .size) (a .pages) (a .image .now) _ e, zeros-front _ 65535 (few (a .size) (a .pages) (a .image .now) _ e))
 
 returns : tie.Need-returns
 returns c =

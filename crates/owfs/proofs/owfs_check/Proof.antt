@@ -1,17 +1,17 @@
 use Rattle.geometry.specs.NumberLaws.{bytes-from}
 use mathlib.Core.Path.{sym, _∙_}
 use native.Mathlib.Omega.{arith}
-use Rattle.answers.proofs.Telling.{front}
+use Rattle.packet.proofs.Fronts.{zeros-front}
 use Rattle.answers.proofs.TreeLaws.{accepts-tree}
 use borrow.Author.Needs.{needs}
 use Rattle.owfs.proofs.owfs_check.Statement.{statement}
 use Rattle.owfs.proofs.owfs_check.Tie as tie
 
 slice-aggregate-check-over : tie.Need-slice-aggregate-check-over
-slice-aggregate-check-over c = sym (front (c .before .count .result) 65535 0 (omega (arith, c .before .count .ensures)))
+slice-aggregate-check-over c = sym (zeros-front (c .before .count .result) 65535 (omega (arith, c .before .count .ensures)))
 
 check-over-requires : tie.Need-check-over-requires
-check-over-requires c κs = front (c .before .before .count .result) 65535 0 (omega (arith, c .before .before .count .ensures)) ∙ c .before .before .count .ensures
+check-over-requires c κs = zeros-front (c .before .before .count .result) 65535 (omega (arith, c .before .before .count .ensures)) ∙ c .before .before .count .ensures
 
 returns : tie.Need-returns
 returns c =

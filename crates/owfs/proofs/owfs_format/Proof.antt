@@ -1,17 +1,17 @@
 use mathlib.Core.Path.{sym, _∙_}
 use Rattle.geometry.specs.NumberLaws.{bytes-from}
 use native.Mathlib.Omega.{arith}
-use Rattle.answers.proofs.Telling.{front}
+use Rattle.packet.proofs.Fronts.{zeros-front}
 use Rattle.answers.proofs.TreeLaws.{formats}
 use borrow.Author.Needs.{needs}
 use Rattle.owfs.proofs.owfs_format.Statement.{statement}
 use Rattle.owfs.proofs.owfs_format.Tie as tie
 
 slice-aggregate-format-over : tie.Need-slice-aggregate-format-over
-slice-aggregate-format-over c = sym (front (c .before .before .count .result) 65535 0 (omega (arith, c .before .before .count .ensures)))
+slice-aggregate-format-over c = sym (zeros-front (c .before .before .count .result) 65535 (omega (arith, c .before .before .count .ensures)))
 
 format-over-requires : tie.Need-format-over-requires
-format-over-requires c κs = front (c .before .before .before .count .result) 65535 0 (omega (arith, c .before .before .before .count .ensures)) ∙ c .before .before .before .count .ensures
+format-over-requires c κs = zeros-front (c .before .before .before .count .result) 65535 (omega (arith, c .before .before .before .count .ensures)) ∙ c .before .before .before .count .ensures
 
 returns : tie.Need-returns
 returns c =

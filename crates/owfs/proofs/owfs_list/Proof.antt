@@ -1,17 +1,17 @@
 use Rattle.geometry.specs.NumberLaws.{bytes-from}
 use mathlib.Core.Path.{sym, _∙_}
 use native.Mathlib.Omega.{arith}
-use Rattle.answers.proofs.Telling.{front}
+use Rattle.packet.proofs.Fronts.{zeros-front}
 use Rattle.answers.proofs.TreeLaws.{lists-tree}
 use borrow.Author.Needs.{needs}
 use Rattle.owfs.proofs.owfs_list.Statement.{statement}
 use Rattle.owfs.proofs.owfs_list.Tie as tie
 
 slice-aggregate-list-over : tie.Need-slice-aggregate-list-over
-slice-aggregate-list-over c = sym (front (c .before .count .result) 65535 0 (omega (arith, c .before .count .ensures)))
+slice-aggregate-list-over c = sym (zeros-front (c .before .count .result) 65535 (omega (arith, c .before .count .ensures)))
 
 list-over-requires : tie.Need-list-over-requires
-list-over-requires c κs = front (c .before .before .count .result) 65535 0 (omega (arith, c .before .before .count .ensures)) ∙ c .before .before .count .ensures
+list-over-requires c κs = zeros-front (c .before .before .count .result) 65535 (omega (arith, c .before .before .count .ensures)) ∙ c .before .before .count .ensures
 
 returns : tie.Need-returns
 returns c =

@@ -1,17 +1,17 @@
 use Rattle.geometry.specs.NumberLaws.{bytes-from}
 use mathlib.Core.Path.{sym, _∙_}
 use native.Mathlib.Omega.{arith}
-use Rattle.answers.proofs.Telling.{front}
+use Rattle.packet.proofs.Fronts.{zeros-front}
 use Rattle.answers.proofs.TreeLaws.{puts}
 use borrow.Author.Needs.{needs}
 use Rattle.owfs.proofs.owfs_put.Statement.{statement}
 use Rattle.owfs.proofs.owfs_put.Tie as tie
 
 slice-aggregate-put-over : tie.Need-slice-aggregate-put-over
-slice-aggregate-put-over c = sym (front (c .before .before .count .result) 65535 0 (omega (arith, c .before .before .count .ensures)))
+slice-aggregate-put-over c = sym (zeros-front (c .before .before .count .result) 65535 (omega (arith, c .before .before .count .ensures)))
 
 put-over-requires : tie.Need-put-over-requires
-put-over-requires c κs = front (c .before .before .before .count .result) 65535 0 (omega (arith, c .before .before .before .count .ensures)) ∙ c .before .before .before .count .ensures
+put-over-requires c κs = zeros-front (c .before .before .before .count .result) 65535 (omega (arith, c .before .before .before .count .ensures)) ∙ c .before .before .before .count .ensures
 
 returns : tie.Need-returns
 returns c =

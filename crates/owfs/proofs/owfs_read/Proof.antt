@@ -1,17 +1,17 @@
 use Rattle.geometry.specs.NumberLaws.{bytes-from}
 use mathlib.Core.Path.{sym, _∙_}
 use native.Mathlib.Omega.{arith}
-use Rattle.answers.proofs.Telling.{front}
+use Rattle.packet.proofs.Fronts.{zeros-front}
 use Rattle.answers.proofs.TreeLaws.{reads-tree}
 use borrow.Author.Needs.{needs}
 use Rattle.owfs.proofs.owfs_read.Statement.{statement}
 use Rattle.owfs.proofs.owfs_read.Tie as tie
 
 slice-aggregate-read-over : tie.Need-slice-aggregate-read-over
-slice-aggregate-read-over c = sym (front (c .before .before .count .result) 65535 0 (omega (arith, c .before .before .count .ensures)))
+slice-aggregate-read-over c = sym (zeros-front (c .before .before .count .result) 65535 (omega (arith, c .before .before .count .ensures)))
 
 read-over-requires : tie.Need-read-over-requires
-read-over-requires c κs = front (c .before .before .before .count .result) 65535 0 (omega (arith, c .before .before .before .count .ensures)) ∙ c .before .before .before .count .ensures
+read-over-requires c κs = zeros-front (c .before .before .before .count .result) 65535 (omega (arith, c .before .before .before .count .ensures)) ∙ c .before .before .before .count .ensures
 
 returns : tie.Need-returns
 returns c =

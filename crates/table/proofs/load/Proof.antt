@@ -19,13 +19,13 @@ loop-holds : tie.Need-loop-holds Inv-loop μ-loop
 loop-holds c = (omega arith, refl, refl)
 
 cast-table : tie.Need-cast-table Inv-loop μ-loop
-cast-table c = omega (arith, c .shared-slice-known .given (2 * c .before .before .loop .i))
+cast-table c = omega (arith, c .shared-slice-known .given (2 * c .before .before .loop .i), c .shared-slice-known .given (2 * c .before .before .loop .i + 1))
 
 cast-table-2 : tie.Need-cast-table-2 Inv-loop μ-loop
-cast-table-2 c = omega (arith, c .shared-slice-known2 .given (2 * c .before .before .before .loop .i + 1))
+cast-table-2 c = omega (arith, c .shared-slice-known2 .given (2 * c .before .before .before .loop .i), c .shared-slice-known2 .given (2 * c .before .before .before .loop .i + 1))
 
 mul-table-3 : tie.Need-mul-table-3 Inv-loop μ-loop
-mul-table-3 c = omega (arith, c .shared-slice-known2 .given (2 * c .before .before .before .loop .i + 1))
+mul-table-3 c = omega (arith, c .shared-slice-known2 .given (2 * c .before .before .before .loop .i), c .shared-slice-known2 .given (2 * c .before .before .before .loop .i + 1))
 
 add-table-2 : tie.Need-add-table-2 Inv-loop μ-loop
 add-table-2 c = omega (arith, c .shared-slice-known2 .given (2 * c .before .before .before .loop .i), c .shared-slice-known2 .given (2 * c .before .before .before .loop .i + 1))
