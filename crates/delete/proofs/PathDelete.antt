@@ -1,22 +1,20 @@
 -- A delete by path: each refusal in its place, and the file that can be deleted.
-use mathlib.Core.Path.{_≡_, ap, sym, _∙_, subst}
+use mathlib.Core.Path.{_≡_, ap, sym, _∙_}
 use mathlib.Core.List.{List}
 use Prim.Native.Nat.{ℕ, _≤_, _<_}
-use native.Mathlib.Omega.{arith}
-use borrow.Author.Tests.{eq-eqb, ne-eqb}
 use Rattle.geometry.specs.declared.Geometry.{Geometry}
 use Rattle.packet.specs.Packet.{View, viewOf}
 use Rattle.rules.specs.declared.Entry.{Entry}
 use Rattle.rules.specs.Result.{Res, ok, err, andThen}
-use Rattle.rules.specs.ResultLaws.{then-ok, then-err, refuse-true, refuse-false}
-use Rattle.rules.specs.Names.{attribute}
+use Rattle.rules.specs.ResultLaws.{then-ok, then-err}
 use Rattle.rules.specs.Paths.{fileKey, Found, nothing, aFile, find, Target, targetOf}
 use Rattle.rules.specs.Put.{writable, plainEdit}
 use Rattle.rules.specs.Delete.{present, deleteEdit, delete}
 use Rattle.entries.specs.declared.Slot.{Slot}
 use Rattle.lookup.specs.declared.PathLookup.{PathLookup}
 use Rattle.lookup.specs.declared.PathLookup.the-variants as lookup
-use Rattle.lookup.specs.Targets.{FileAbsent, FileAt, Stands, Looks}
+use Rattle.lookup.specs.Targets.{FileAbsent, FileAt, Looks}
+use Rattle.lookup.specs.TargetLaws.{looks-as, is-writable, not-writable}
 use Rattle.volume.specs.declared.Edited.the-variants as edited
 use Rattle.volume.specs.Edits.{leaves, TableOf}
 use Rattle.delete.specs.Deletes.{HasFile, Unlinks, PathDeleted}
@@ -27,9 +25,6 @@ module _ (g : Geometry) (image table path : List ℕ) (T : TableOf g image table
   abbrev v : View
   v = viewOf g image
 
-  is : (x : PathLookup) → r ≡ x → Stands g v path tree x
-  is x e = subst (Stands g v path tree) e (h tree accepted)
-
   refused : (n p : ℕ) → delete g path image ≡ err n p → PathDeleted g image path (edited.Refused n p) image
   refused n p e = sym (ap (leaves image) e)
 
@@ -38,10 +33,10 @@ module _ (g : Geometry) (image table path : List ℕ) (T : TableOf g image table
   no-target n p e = simp (accepted, then-ok, e, then-err)
 
   pub malformed : r ≡ lookup.Malformed → PathDeleted g image path (edited.Refused 14 0) image
-  malformed e = refused 14 0 (no-target 14 0 (is lookup.Malformed e))
+  malformed e = refused 14 0 (no-target 14 0 (looks-as g v path tree r h accepted lookup.Malformed e))
 
   pub nowhere : r ≡ lookup.Nowhere → PathDeleted g image path (edited.Refused 15 0) image
-  nowhere e = refused 15 0 (no-target 15 0 (is lookup.Nowhere e))
+  nowhere e = refused 15 0 (no-target 15 0 (looks-as g v path tree r h accepted lookup.Nowhere e))
 
   -- the last tests of the rule, of what is found in the directory
   abbrev last : Target → Found → Res (List ℕ)
@@ -53,7 +48,7 @@ module _ (g : Geometry) (image table path : List ℕ) (T : TableOf g image table
 
   pub absent : (start name extension : ℕ) → r ≡ lookup.Absent start name extension → PathDeleted g image path (edited.Refused 15 0) image
   absent start name extension e =
-      let m : FileAbsent g v path tree start name extension = is (lookup.Absent start name extension) e in
+      let m : FileAbsent g v path tree start name extension = looks-as g v path tree r h accepted (lookup.Absent start name extension) e in
       refused 15 0 (found (m .target) (m .reached) nothing (m .absent) ∙ gone (m .target))
     where
       gone : (x : Target) → last x nothing ≡ err 15 0
@@ -61,31 +56,20 @@ module _ (g : Geometry) (image table path : List ℕ) (T : TableOf g image table
 
   module _ (s : Slot) (e : Entry) (q : r ≡ lookup.At s e) where
     there : FileAt g v path tree s e
-    there = is (lookup.At s e) q
-
-    same-extension : e .extension ≡ there .label .extension
-    same-extension = ap (λ (x : Entry). x .extension) (there .entry-is)
+    there = looks-as g v path tree r h accepted (lookup.At s e) q
 
     found-there : delete g path image ≡ last (there .target) (aFile (there .label) (there .links))
     found-there = found (there .target) (there .reached) (aFile (there .label) (there .links)) (there .found)
 
-    not-writable : 127 < e .extension → last (there .target) (aFile (there .label) (there .links)) ≡ err 16 0
-    unfolding present writable
-    not-writable h =
-        let a : attribute (there .label .extension) ≡ 0 → ⊥ = λ z. omega (arith, same-extension, z, h) in
-        simp (then-ok, ne-eqb (attribute (there .label .extension)) 0 a, refuse-false, then-err)
-
     pub read-only : 127 < e .extension → PathDeleted g image path (edited.Refused 16 0) image
-    read-only h = refused 16 0 (found-there ∙ not-writable h)
+    read-only h = refused 16 0 (found-there ∙ (unfold present in simp (then-ok, not-writable there h, then-err)))
 
     pub has-file : HasFile g image table s e
     has-file = record { known = T; path = path; file = there }
 
     writes : e .extension ≤ 127 → last (there .target) (aFile (there .label) (there .links)) ≡ ok (plainEdit g (there .target .to .directories) (deleteEdit (there .target .to) (there .target .place)) tree image)
-    unfolding present writable
-    writes h =
-        let a : attribute (there .label .extension) ≡ 0 = omega (arith, same-extension, h) in
-        simp (then-ok, eq-eqb (attribute (there .label .extension)) 0 a, refuse-true)
+    unfolding present
+    writes h = simp (then-ok, is-writable there h)
 
     pub done : e .extension ≤ 127 → (after : List ℕ) → Unlinks g image table s e after → PathDeleted g image path edited.Done after
     unfolding Unlinks has-file

@@ -53,6 +53,7 @@ pub fn root_control(bytes: &[u8], g: Geometry) -> Root
     }
     let at = n + BITMAP_CONTROL_PAST;
     let flags = bytes[at];
+    // bit 0: work in progress
     if flags % 2 != 0 {
         return Root::Refused(5);
     }
@@ -97,6 +98,7 @@ pub fn page_fault(kind: Kind, i: usize, bytes: &[u8], g: Geometry) -> u8
             if i == 0 {
                 let skip = g.control_size();
                 if bytes.len() < skip {
+                    // a root without a whole control field was refused with 4 before its chain is walked
                     return entries::whole_fault(0, g);
                 }
                 return entries::whole_fault(bytes.len() - skip, g);

@@ -1,15 +1,10 @@
 // What an extension byte means.
+use geometry::ATTRIBUTE;
+use geometry::DIRECTORY;
+use geometry::MOST_FILE;
 ghost use mathlib.Core.Path.{_≡_};
 ghost use Rattle.rules.specs.Names.{directoryNumber};
 ghost use Rattle.directory.specs.Extensions.{Means};
-
-// The top bit, the attribute, and the numbers below it.
-pub const ATTRIBUTE: u8 = 128;
-
-// The greatest number of a file, and the number of a subdirectory.
-pub const MOST_FILE: u8 = 99;
-
-pub const DIRECTORY: u8 = 127;
 
 // What an entry stands for.
 pub enum EntryKind {

@@ -1,5 +1,6 @@
 // The text of `list` for a dump: P (2 bytes), N (2), offset of page 0 (4), low byte first; the image stands at that offset and ends the dump.
 use geometry::Geometry;
+use geometry::MOST_OWNERS;
 use geometry::Shape;
 use listing::Look;
 use rules::Totals;
@@ -50,9 +51,6 @@ const MOST_OFFSET: usize = 32768;
 
 const MOST_IMAGE: usize = 32768;
 
-// The most pages that an image has.
-const MOST_PAGES: usize = geometry::MOST_PAGES as usize;
-
 // Judges a dump's header and the dump's length.
 fn place_of(dump: &[u8]) -> Place
     ensures { λ r. ⌜ r ≡ placeOf (now (dump .entry)) ⌝ }
@@ -80,11 +78,11 @@ fn place_of(dump: &[u8]) -> Place
 fn check_image(image: &[u8], size: u32, pages: u32) -> Checked
     ensures { λ r. ⌜ Checks size pages (now (image .entry)) r ⌝ }
 {
-    match Geometry::new(size, pages, image.len(), MOST_PAGES) {
+    match Geometry::new(size, pages, image.len(), MOST_OWNERS) {
         Shape::Wrong => Checked::Refused(1, 0),
         Shape::Fits(g) => {
             let n = g.pages;
-            let mut owners = [0u16; MOST_PAGES];
+            let mut owners = [0u16; MOST_OWNERS];
             match volume::check_table(image, g, &mut owners[..n]) {
                 Walk::Refused(number, page) => Checked::Refused(number, page),
                 Walk::Done(totals) => Checked::Done(g, totals),

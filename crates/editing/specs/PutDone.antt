@@ -101,7 +101,7 @@ module _ (g : Geometry) (image path bytes : List ℕ) (a : Asked g image path by
         record {
           at = record { before = a .tree; accepted = a .well; to = a .to; formed = a .formed; place = a .place; there = a .there };
           edit = theEdit g image path bytes a spare;
-          made = edit-is g image path bytes a spare ∙ simp (le-leb _ _ room, refuse-true, then-ok);
+          planned = edit-is g image path bytes a spare ∙ simp (le-leb _ _ room, refuse-true, then-ok);
           tree = result g image path bytes a spare clear room;
           tree-is = refl;
           done = put-edited g image path bytes a spare clear room;

@@ -4,6 +4,7 @@ use chain::Step;
 use directory::entries::after_entry;
 use directory::entries::read_entry;
 use directory::extensions::extension_of;
+use geometry::ATTRIBUTE;
 use geometry::Geometry;
 use geometry::LENGTH_BYTES;
 use rules::Entry;
@@ -22,9 +23,6 @@ ghost use Rattle.chain.specs.KnownChain.{KnownChain};
 ghost use Rattle.chain.specs.Steps.{firstStep};
 ghost use Rattle.entries.specs.EntrySlots.{entryKey, keysFrom, Fits, openOf, advanced, HasEntries, CountsEntries, Repeats};
 
-// How many numbers an extension can have.
-const NUMBERS: u64 = 128;
-
 // A place in a directory: a page, the bytes before its entries, how many it has and the next of them; the position of the page after it.
 pub struct Slot {
     pub page: usize,
@@ -38,7 +36,7 @@ pub struct Slot {
 pub fn key_of(name: u32, extension: u8) -> u64
     ensures { λ r. ⌜ r ≡ key name extension ⌝ }
 {
-    (name as u64) * NUMBERS + (extension_of(extension).number as u64)
+    (name as u64) * (ATTRIBUTE as u64) + (extension_of(extension).number as u64)
 }
 
 impl Slot {
@@ -59,6 +57,7 @@ impl Slot {
                 next: c,
             },
             Step::Page(size, next) => {
+                // a page of a chain that was judged holds the bytes before its entries whole
                 let mut count = 0;
                 if skip <= size {
                     count = g.entries_in(size - skip);

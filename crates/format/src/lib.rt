@@ -13,6 +13,7 @@ use geometry::MARKER_BYTES;
 use geometry::MOST_CONTROL_BYTES;
 use geometry::MOST_DATA_BYTES;
 use geometry::Shape;
+use geometry::TAKEN;
 use volume::Edited;
 ghost use mathlib.Core.Path.{_≡_};
 ghost use mathlib.Core.Bool.{true, false, not, _||_};
@@ -89,7 +90,7 @@ fn mark_of(page: usize, last: usize) -> u16
     ensures { λ r. ⌜ count page (0 ∷ upward 1 last) ≡ nonzero r ⌝ }
 {
     if page <= last {
-        return 1;
+        return TAKEN;
     }
     0
 }

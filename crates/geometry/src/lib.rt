@@ -28,6 +28,11 @@ pub const LEAST_PAGES: u32 = 2;
 
 pub const MOST_PAGES: u32 = 65535;
 
+// The same as lengths in memory: a buffer for any page, an owner table for any image.
+pub const MOST_PAGE_BYTES: usize = MOST_SIZE as usize;
+
+pub const MOST_OWNERS: usize = MOST_PAGES as usize;
+
 // The greatest page count whose page numbers take one byte.
 pub const MOST_NARROW: usize = 256;
 
@@ -71,7 +76,7 @@ pub const BITMAP_FIELD_END: usize = BITMAP_FIELD_PAST + BITMAP_FIELD_BYTES;
 // Bytes of a control field whose page numbers take two bytes, and of the data of the longest packet.
 pub const MOST_CONTROL_BYTES: usize = BITMAP_FIELD_END + 2;
 
-pub const MOST_DATA_BYTES: usize = 256 - FRAME_BYTES - 1;
+pub const MOST_DATA_BYTES: usize = MOST_PAGE_BYTES - FRAME_BYTES - 1;
 
 // Where a subdirectory's control field has the name of the directory above, the zero byte and that directory's start page.
 pub const ABOVE_NAME_AT: usize = MARKER_BYTES;
@@ -91,6 +96,23 @@ pub const LEAST_FILE_PAGES: usize = 32;
 
 // Levels of subdirectories below the root.
 pub const MOST_LEVELS: usize = 8;
+
+// An extension byte: the top bit is the attribute, and the numbers stand below it; the greatest number of a file, and the number of a subdirectory.
+pub const ATTRIBUTE: u8 = 128;
+
+pub const MOST_FILE: u8 = 99;
+
+pub const DIRECTORY: u8 = 127;
+
+// The owner's numbers in the owner table: of the root, of the bitmap file, and of the entry at walk position 0; a free page has 0.
+pub const ROOT_OWNER: usize = 1;
+
+pub const MAP_OWNER: usize = 2;
+
+pub const FIRST_OWNER: usize = 3;
+
+// What marks a page that an edit takes; the check after the edit makes the table anew.
+pub const TAKEN: u16 = 3;
 
 impl Geometry {
     // Judges page length, page count, image length and owner table length.

@@ -1,6 +1,7 @@
 // A file laid into free pages and its entry written: in a page of its directory, or in a page that joins it.
 use entries::Slot;
 use geometry::Geometry;
+use geometry::TAKEN;
 use rules::Entry;
 use volume::Edited;
 ghost use mathlib.Core.Path.{_≡_};
@@ -62,7 +63,7 @@ pub fn grow(
     let joins = storing::next_free(owners, 0);
     let start = storing::next_free(owners, joins + 1);
     storing::store(image, g, owners, joins + 1, bytes);
-    owners[joins] = storing::TAKEN;
+    owners[joins] = TAKEN;
     let e = Entry {
         name,
         extension,

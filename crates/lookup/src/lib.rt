@@ -1,6 +1,6 @@
 // Entries found by name in an image that is known to be accepted: in a directory, and along the directories of a path.
-use directory::extensions::DIRECTORY;
 use entries::Slot;
+use geometry::DIRECTORY;
 use geometry::Geometry;
 use geometry::NAME_BYTES;
 use path::Parsed;

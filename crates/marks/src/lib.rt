@@ -8,6 +8,7 @@ use geometry::BITMAP_FIELD_PAST;
 use geometry::Geometry;
 use geometry::LENGTH_BYTES;
 use geometry::LOCAL_BITMAP;
+use geometry::MOST_PAGE_BYTES;
 use packet::Judged;
 ghost use mathlib.Core.Path.{_≡_};
 ghost use Prim.Native.Nat.{_+_, _*_, _≤_, _<_};
@@ -96,7 +97,7 @@ pub fn write_local(image: &mut [u8], g: Geometry, owners: &[u16])
     requires { ⌜ HasLocal g (viewOf g (now image)) ⌝ }
     ensures { λ _. ⌜ WritesLocal g (now (owners .entry)) (now (image .entry)) (now (image .exit)) ⌝ }
 {
-    let mut buffer = [0u8; 256];
+    let mut buffer = [0u8; MOST_PAGE_BYTES];
     write_root(image, g, owners, &mut buffer);
 }
 
@@ -132,7 +133,7 @@ pub fn write_file(image: &mut [u8], g: Geometry, start: usize, owners: &[u16])
     requires { ⌜ HasFile g (viewOf g (now image)) start ⌝ }
     ensures { λ _. ⌜ WritesFile g (now (owners .entry)) start (now (image .entry)) (now (image .exit)) ⌝ }
 {
-    let mut buffer = [0u8; 256];
+    let mut buffer = [0u8; MOST_PAGE_BYTES];
     write_pages(image, g, start, owners, &mut buffer);
 }
 

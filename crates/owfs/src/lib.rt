@@ -3,6 +3,7 @@ use answers::OwfsAnswer;
 use answers::OwfsEntry;
 use answers::OwfsLength;
 use answers::OwfsTotals;
+use geometry::MOST_OWNERS;
 ghost use mathlib.Core.Path.{_≡_};
 ghost use Prim.Native.Nat.{_/_, min};
 ghost use Rattle.crc16.specs.Crc16.{crc16};
@@ -11,9 +12,6 @@ ghost use Rattle.rules.specs.Calls.{readBytes, lengthOf, filled};
 ghost use Rattle.rules.specs.Promises.{Accepts, TellsTree, Formats, Puts, Deletes};
 ghost use Rattle.table.specs.Table.{numbersOf};
 ghost use Rattle.answers.specs.Answers.{entryFor, lengthFor, answerFor, asksLocal, checkAnswer, listAnswer, readAnswer, formatAnswer, putAnswer, deleteAnswer};
-
-// The greatest page count: no table has more numbers that a call needs.
-const MOST_PAGES: usize = geometry::MOST_PAGES as usize;
 
 // The CRC-16 register after the bytes of a slice, not inverted.
 #[no_mangle]
@@ -28,7 +26,7 @@ fn count(bytes: usize) -> usize
     ensures { λ r. ⌜ r ≡ min (bytes / 2) 65535 ⌝ }
 {
     let n = bytes / 2;
-    if n <= MOST_PAGES { n } else { MOST_PAGES }
+    if n <= MOST_OWNERS { n } else { MOST_OWNERS }
 }
 
 // Checks an image: pages in use, files and directories, or the first fault. Fills the owner table.
@@ -38,7 +36,7 @@ pub extern "C" fn owfs_check(size: u32, pages: u32, image: &[u8], owners: &mut [
     ensures { λ r. ⌜ Accepts size pages (now (image .entry)) (numbersOf (now (owners .entry))) (r .number ≡ 0) ⌝ }
 {
     let n = count(owners.len());
-    let mut table = [0u16; MOST_PAGES];
+    let mut table = [0u16; MOST_OWNERS];
     calls::check_over(size, pages, image, &mut table[..n], owners)
 }
 
@@ -55,7 +53,7 @@ pub extern "C" fn owfs_list(
     ensures { λ r. ⌜ TellsTree size pages (now (image .entry)) (numbersOf (now (owners .entry))) (λ i. lineAt position (linesOf 0 (i .tree))) (λ x. r ≡ entryFor x) (r .number ≡ 0) ⌝ }
 {
     let n = count(owners.len());
-    let mut table = [0u16; MOST_PAGES];
+    let mut table = [0u16; MOST_OWNERS];
     calls::list_over(size, pages, image, &mut table[..n], owners, position)
 }
 
@@ -73,7 +71,7 @@ pub extern "C" fn owfs_read(
     ensures { λ r. ⌜ TellsTree size pages (now (image .entry)) (numbersOf (now (owners .entry))) (readBytes (now (path .entry)) (now (out .entry))) (λ x. (r ≡ lengthFor (lengthOf x)) × (now (out .exit) ≡ filled (now (out .entry)) x)) (r .number ≡ 0) ⌝ }
 {
     let n = count(owners.len());
-    let mut table = [0u16; MOST_PAGES];
+    let mut table = [0u16; MOST_OWNERS];
     calls::read_over(size, pages, image, path, out, &mut table[..n], owners)
 }
 
@@ -90,7 +88,7 @@ pub extern "C" fn owfs_format(
     ensures { λ r. ⌜ Formats size pages (now (image .entry)) (numbersOf (now (owners .entry))) (asksLocal local) (r .number ≡ 0) (λ x. r ≡ answerFor x) (now (image .exit)) ⌝ }
 {
     let n = count(owners.len());
-    let mut table = [0u16; MOST_PAGES];
+    let mut table = [0u16; MOST_OWNERS];
     calls::format_over(size, pages, image, &mut table[..n], owners, local)
 }
 
@@ -108,7 +106,7 @@ pub extern "C" fn owfs_put(
     ensures { λ r. ⌜ Puts size pages (now (image .entry)) (numbersOf (now (owners .entry))) (now (path .entry)) (now (bytes .entry)) (r .number ≡ 0) (λ x. r ≡ answerFor x) (now (image .exit)) ⌝ }
 {
     let n = count(owners.len());
-    let mut table = [0u16; MOST_PAGES];
+    let mut table = [0u16; MOST_OWNERS];
     calls::put_over(size, pages, image, path, bytes, &mut table[..n], owners)
 }
 
@@ -125,6 +123,6 @@ pub extern "C" fn owfs_delete(
     ensures { λ r. ⌜ Deletes size pages (now (image .entry)) (numbersOf (now (owners .entry))) (now (path .entry)) (r .number ≡ 0) (now (image .exit)) ⌝ }
 {
     let n = count(owners.len());
-    let mut table = [0u16; MOST_PAGES];
+    let mut table = [0u16; MOST_OWNERS];
     calls::delete_over(size, pages, image, path, &mut table[..n], owners)
 }

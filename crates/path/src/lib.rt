@@ -1,6 +1,6 @@
 // Paths: none to eight four-byte directory names, then a four-byte file name and one byte 0 to 99.
-use directory::extensions::MOST_FILE;
 use geometry::EXTENSION_BYTES;
+use geometry::MOST_FILE;
 use geometry::MOST_LEVELS;
 use geometry::NAME_BYTES;
 ghost use mathlib.Core.Path.{_≡_};

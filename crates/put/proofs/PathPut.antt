@@ -4,14 +4,13 @@ use mathlib.Core.List.{List}
 use Prim.Native.Nat.{ℕ, _≤_, _<_}
 use native.Mathlib.Omega.{arith}
 use lib.ListN.{getD}
-use borrow.Author.Tests.{ne-eqb}
 use Rattle.geometry.specs.declared.Geometry.{Geometry}
 use Rattle.geometry.specs.Geometry.{Fit}
 use Rattle.geometry.specs.NumberLaws.{bytes-from}
 use Rattle.packet.specs.Packet.{View, viewOf}
 use Rattle.rules.specs.declared.Entry.{Entry}
 use Rattle.rules.specs.Result.{ok, err}
-use Rattle.rules.specs.ResultLaws.{then-ok, then-err, refuse-false}
+use Rattle.rules.specs.ResultLaws.{then-ok, then-err}
 use Rattle.rules.specs.Chain.{Link}
 use Rattle.rules.specs.Names.{attribute}
 use Rattle.rules.specs.Tree.{Label}
@@ -23,7 +22,8 @@ use Rattle.editing.specs.PutLaws.{Asked}
 use Rattle.entries.specs.declared.Slot.{Slot}
 use Rattle.lookup.specs.declared.PathLookup.{PathLookup}
 use Rattle.lookup.specs.declared.PathLookup.the-variants as lookup
-use Rattle.lookup.specs.Targets.{FileAbsent, FileAt, Stands, Looks}
+use Rattle.lookup.specs.Targets.{FileAbsent, FileAt, Looks}
+use Rattle.lookup.specs.TargetLaws.{looks-as, bit-clear, not-writable}
 use Rattle.volume.specs.declared.Edited.{Edited}
 use Rattle.volume.specs.declared.Edited.the-variants as edited
 use Rattle.volume.specs.Edits.{leaves, Answered, TableOf}
@@ -59,19 +59,16 @@ module _ (g : Geometry) (image table path bytes : List ℕ) (fit : Fit g image) 
   no-target n p e = simp (accepted, then-ok, e, then-err)
 
   module _ (r : PathLookup) (h : Looks g v path r) where
-    is : (x : PathLookup) → r ≡ x → Stands g v path tree x
-    is x e = subst (Stands g v path tree) e (h tree accepted)
-
     pub malformed : r ≡ lookup.Malformed → Answered image (put g path bytes image) (edited.Refused 14 0) image
-    malformed e = refused 14 0 (no-target 14 0 (is lookup.Malformed e))
+    malformed e = refused 14 0 (no-target 14 0 (looks-as g v path tree r h accepted lookup.Malformed e))
 
     pub nowhere : r ≡ lookup.Nowhere → Answered image (put g path bytes image) (edited.Refused 15 0) image
-    nowhere e = refused 15 0 (no-target 15 0 (is lookup.Nowhere e))
+    nowhere e = refused 15 0 (no-target 15 0 (looks-as g v path tree r h accepted lookup.Nowhere e))
 
     -- the file is absent
     module _ (start name extension : ℕ) (e : r ≡ lookup.Absent start name extension) where
       gap : FileAbsent g v path tree start name extension
-      gap = is (lookup.Absent start name extension) e
+      gap = looks-as g v path tree r h accepted (lookup.Absent start name extension) e
 
       pub to-insert : Inserting g image table bytes name extension start
       unfolding asked
@@ -92,24 +89,17 @@ module _ (g : Geometry) (image table path bytes : List ℕ) (fit : Fit g image) 
     -- the file is there
     module _ (s : Slot) (e : Entry) (q : r ≡ lookup.At s e) where
       there : FileAt g v path tree s e
-      there = is (lookup.At s e) q
-
-      same-extension : e .extension ≡ there .label .extension
-      same-extension = ap (λ (x : Entry). x .extension) (there .entry-is)
-
-      not-writable : 127 < e .extension → writable (aFile (there .label) (there .links)) ≡ err 16 0
-      unfolding writable
-      not-writable h = let a : attribute (there .label .extension) ≡ 0 → ⊥ = λ z. omega (arith, same-extension, z, h) in simp (ne-eqb (attribute (there .label .extension)) 0 a, refuse-false)
+      there = looks-as g v path tree r h accepted (lookup.At s e) q
 
       pub read-only : 127 < e .extension → Answered image (put g path bytes image) (edited.Refused 16 0) image
-      read-only h = refused 16 0 (unfold put in simp (accepted, then-ok, there .reached, there .found, not-writable h, then-err))
+      read-only h = refused 16 0 (unfold put in simp (accepted, then-ok, there .reached, there .found, not-writable there h, then-err))
 
       pub to-replace : e .extension ≤ 127 → Replacing g image table bytes s e
       unfolding asked
       to-replace h = record {
         path = path;
         asked = asked (there .target) (there .reached)
-            (λ l ls f. let i = there .found in let j : there .label ≡ l = cc in omega (arith, same-extension, ap (λ (x : Label). x .extension) j, h));
+            (λ l ls f. let i = there .found in let j : there .label ≡ l = cc in subst (λ (x : Label). attribute (x .extension) ≡ 0) j (bit-clear there h));
         table-is = table-is;
         old = there .label;
         links = there .links;

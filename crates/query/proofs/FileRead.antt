@@ -17,7 +17,8 @@ use Rattle.rules.specs.Calls.{bytesOf, fileAt, readBytes, lengthOf, filled}
 use Rattle.entries.specs.declared.Slot.{Slot}
 use Rattle.lookup.specs.declared.PathLookup.{PathLookup}
 use Rattle.lookup.specs.declared.PathLookup.the-variants as lookup
-use Rattle.lookup.specs.Targets.{FileAbsent, FileAt, Stands, Looks}
+use Rattle.lookup.specs.Targets.{FileAbsent, FileAt, Looks}
+use Rattle.lookup.specs.TargetLaws.{looks-as}
 use Rattle.query.specs.declared.Length.{Length}
 use Rattle.query.specs.declared.Length.the-variants as length′
 use Rattle.query.specs.Questions.{Gives, fitting, ChainRead}
@@ -35,9 +36,6 @@ long-enough out bytes after n h e q =
 
 -- ---- the file at a path
 module _ (g : Geometry) (v : View) (path out : List ℕ) (r : PathLookup) (h : Looks g v path r) (i : Image) (accepted : check g v ≡ ok i) where
-  is : (x : PathLookup) → r ≡ x → Stands g v path i x
-  is x e = subst (Stands g v path i) e (h i accepted)
-
   refused : (n p : ℕ) → fileAt path i ≡ err n p → Gives out (readBytes path out i) (length′.Refused n p) out
   unfolding readBytes
   refused n p e = let f : readBytes path out i ≡ err n p = simp (e, then-err) in ap (λ (r : Res (List ℕ)). (lengthOf r, filled out r)) (sym f)
@@ -47,10 +45,10 @@ module _ (g : Geometry) (v : View) (path out : List ℕ) (r : PathLookup) (h : L
   no-target n p e = simp (e, then-err)
 
   pub malformed : r ≡ lookup.Malformed → Gives out (readBytes path out i) (length′.Refused 14 0) out
-  malformed e = refused 14 0 (no-target 14 0 (is lookup.Malformed e))
+  malformed e = refused 14 0 (no-target 14 0 (looks-as g v path i r h accepted lookup.Malformed e))
 
   pub nowhere : r ≡ lookup.Nowhere → Gives out (readBytes path out i) (length′.Refused 15 0) out
-  nowhere e = refused 15 0 (no-target 15 0 (is lookup.Nowhere e))
+  nowhere e = refused 15 0 (no-target 15 0 (looks-as g v path i r h accepted lookup.Nowhere e))
 
   found : (x : Target) → targetOf path (i .tree) ≡ ok x → (f : Found) → find (fileKey (x .to)) (x .place .items) ≡ f → fileAt path i ≡ bytesOf f
   unfolding fileAt
@@ -58,7 +56,7 @@ module _ (g : Geometry) (v : View) (path out : List ℕ) (r : PathLookup) (h : L
 
   pub absent : (start name extension : ℕ) → r ≡ lookup.Absent start name extension → Gives out (readBytes path out i) (length′.Refused 15 0) out
   absent start name extension e =
-      let m : FileAbsent g v path i start name extension = is (lookup.Absent start name extension) e in
+      let m : FileAbsent g v path i start name extension = looks-as g v path i r h accepted (lookup.Absent start name extension) e in
       refused 15 0 (found (m .target) (m .reached) nothing (m .absent) ∙ gone)
     where
       gone : bytesOf nothing ≡ err 15 0
@@ -66,7 +64,7 @@ module _ (g : Geometry) (v : View) (path out : List ℕ) (r : PathLookup) (h : L
 
   module _ (s : Slot) (e : Entry) (q : r ≡ lookup.At s e) where
     pub there : FileAt g v path i s e
-    there = is (lookup.At s e) q
+    there = looks-as g v path i r h accepted (lookup.At s e) q
 
     fits-file : readBytes path out i ≡ fitting out (content (there .links))
     unfolding readBytes fitting bytesOf

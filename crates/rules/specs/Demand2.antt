@@ -55,7 +55,7 @@ pub record EditDone (g : Geometry) (image : List ℕ) (i j : Image) (ws : List W
   pub areBytes : Bytes after
   pub sized : length after ≡ length image
   pub mapPages-same : mapPages (j .map) ≡ mapPages (i .map)
-  -- in a page written only packet bytes change, every other byte stays: of the writes that change a packet
+  -- past the packets that change, every byte of a page stays
   pub rest : (p : ℕ) → drop (reach g p (made g ws image)) (pageOf g p after) ≡ drop (reach g p (made g ws image)) (pageOf g p image)
 
 -- a format: an accepted image without entries
@@ -65,7 +65,7 @@ pub record Formatted (g : Geometry) (local : Bool) (image after : List ℕ) : Ty
   pub noEntries : emptyImage g local .tree ≡ page 0 end
   pub sized : length after ≡ length image
   pub areBytes : Bytes after
-  -- in a page written only packet bytes change, every other byte stays: of the writes that change a packet
+  -- past the packets that change, every byte of a page stays
   pub rest : (p : ℕ) → drop (reach g p (made g (formatWrites g (emptyImage g local)) image)) (pageOf g p after) ≡ drop (reach g p (made g (formatWrites g (emptyImage g local)) image)) (pageOf g p image)
 
 -- the image was well formed, and the path's directory was there
@@ -98,7 +98,7 @@ pub record Deleted (g : Geometry) (path image after : List ℕ) : Type 0 where
 pub record PutDone (g : Geometry) (path bytes image after : List ℕ) : Type 0 where
   pub at : PathIn g path image
   pub edit : Edit
-  pub made : putEdit g (freePages (keptPages (at .to) (at .before)) (g .pages)) (at .to) bytes (at .place) ≡ ok edit
+  pub planned : putEdit g (freePages (keptPages (at .to) (at .before)) (g .pages)) (at .to) bytes (at .place) ≡ ok edit
   -- accepted, with the edited tree; bytes outside the packets written stay
   pub tree : Image
   pub tree-is : tree ≡ edited g (at .to .directories) edit (at .before)

@@ -112,11 +112,6 @@ represents-entries k (dir l d t) table claimed h c =
     let s = represents-entries (suc k + (fileCount d + directoryCount d)) t (ownEntries (suc k) d (own (3 + k) (ownPages d) table)) (innerPages d ++ (ownPages d ++ claimed)) r (λ x. rw o (simp count-append (omega (arith, c′ x)))) in
     λ x. simp count-append (omega (arith, simp count-append at (s x)))
 
-pub length-owners : (N : ℕ) (i : Image) → length (owners N i) ≡ N
-length-owners N i =
-    let t = own 2 (mapPages (i .map)) (replicate N 0) in
-    length-entries 0 (i .tree) (own 1 (ownPages (i .tree)) t) ∙ length-own 1 (ownPages (i .tree)) t ∙ length-own 2 (mapPages (i .map)) (replicate N 0) ∙ length-replicate {A = ℕ} N 0
-
 -- the table of an image whose chains are clear has an owner at just the pages in use
 pub represents-owners : (N : ℕ) (i : Image) → Within N (used i) → Represents (owners N i) (used i)
 represents-owners N i c =

@@ -3,6 +3,7 @@ use chain::Cursor;
 use chain::Step;
 use entries::Slot;
 use geometry::Geometry;
+use geometry::MOST_PAGE_BYTES;
 use geometry::WIDE_ENTRY_BYTES;
 use rules::Entry;
 ghost use mathlib.Core.Path.{_≡_};
@@ -43,7 +44,7 @@ pub fn rewrite(
             return;
         }
         Step::Page(size, _) => {
-            let mut kept = [0u8; 256];
+            let mut kept = [0u8; MOST_PAGE_BYTES];
             let bytes = packet::data_of(geometry::page_of(image, g, page), size);
             splice(bytes, from, to, new, &mut kept);
             let end = from + new.len() + (size - to);

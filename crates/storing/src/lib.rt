@@ -1,14 +1,12 @@
 // A file's bytes laid into free pages: free pages counted and found in the owner table, and the packets of a new chain written.
 use geometry::Geometry;
+use geometry::TAKEN;
 ghost use mathlib.Core.Path.{_≡_};
 ghost use Prim.Native.Nat.{_≤_};
 ghost use lib.ListN.{length};
 ghost use Rattle.geometry.specs.Geometry.{Fit};
 ghost use Rattle.rules.specs.Chain.{pagesFor};
 ghost use Rattle.storing.specs.Free.{CountsFree, NextFree, HasRoom, Stores};
-
-// What marks a page taken for a new chain; a check makes the table anew afterwards.
-pub const TAKEN: u16 = 3;
 
 // How many pages have no owner.
 pub fn count_free(owners: &[u16]) -> usize

@@ -1,5 +1,6 @@
 // The text that the program `list` prints. A writer writes what falls inside the output, drops the rest, and hands back the position after the text.
 // A position is named after what is written there.
+use geometry::DIRECTORY;
 use geometry::Geometry;
 use rules::Line;
 use rules::Totals;
@@ -91,7 +92,7 @@ fn letter_of(line: Line) -> u8
     if line.attribute == 0 {
         return b'-';
     }
-    if line.extension == 127 {
+    if line.extension == DIRECTORY {
         return b'h';
     }
     b'r'

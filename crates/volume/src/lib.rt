@@ -7,7 +7,9 @@ use geometry::BITMAP_FIELD_BYTES;
 use geometry::BITMAP_FIELD_PAST;
 use geometry::Geometry;
 use geometry::LENGTH_BYTES;
+use geometry::MAP_OWNER;
 use geometry::MOST_LEVELS;
+use geometry::ROOT_OWNER;
 use geometry::Shape;
 use packet::Judged;
 use rules::Totals;
@@ -32,11 +34,6 @@ pub enum Edited {
 
 // `ROOT`, the first byte lowest.
 const ROOT: u32 = 0x544F4F52;
-
-// The owner's numbers of the root and of the bitmap file.
-const ROOT_OWNER: usize = 1;
-
-const MAP_OWNER: usize = 2;
 
 // Where the four bitmap bytes stand in page 0, past the map address.
 const FIELD_AT: usize = LENGTH_BYTES + BITMAP_FIELD_PAST;

@@ -3,6 +3,7 @@ use chain::Claim;
 use directory::control::Kind;
 use directory::extensions::is_directory;
 use entries::Slot;
+use geometry::FIRST_OWNER;
 use geometry::Geometry;
 use rules::Entry;
 use rules::Totals;
@@ -14,9 +15,6 @@ ghost use Rattle.packet.specs.Packet.{viewOf};
 ghost use Rattle.directory.specs.Faults.{testOf};
 ghost use Rattle.entries.specs.EntrySlots.{HasEntries};
 ghost use Rattle.walk.specs.Walks.{Good, Ready, Remaining, EntryFault, BelowFault, FileWalked, EntryWalked, DirectoryWalked};
-
-// The owner's number of the entry at walk position 0.
-const FIRST_OWNER: usize = 3;
 
 // What a walk answers: the totals so far, or the number of a refusal of document 01 and its page.
 pub enum Walk {

@@ -1,20 +1,22 @@
 use native.Mathlib.Omega.{arith}
-use Rattle.answers.proofs.Telling.{totals-told, fault-told}
+use Rattle.volume.specs.Told.{told}
+use Rattle.answers.specs.Small.{TotalsSmall}
+use Rattle.answers.proofs.Telling.{small-as}
 use borrow.Author.Needs.{needs}
 use Rattle.answers.proofs.tell.Statement.{statement}
 use Rattle.answers.proofs.tell.Tie as tie
 
 cast-t6 : tie.Need-cast-t6
-cast-t6 c = omega (arith, totals-told _ _ (c .before .before .before .before .pre) (c .before .before .answer .given .1))
+cast-t6 c = omega (arith, small-as TotalsSmall told _ _ (c .before .before .before .before .pre) (c .before .before .answer .given .1))
 
 cast-t7 : tie.Need-cast-t7
-cast-t7 c = omega (arith, totals-told _ _ (c .before .before .before .before .before .pre) (c .before .before .before .answer .given .1))
+cast-t7 c = omega (arith, small-as TotalsSmall told _ _ (c .before .before .before .before .before .pre) (c .before .before .before .answer .given .1))
 
 cast-t8 : tie.Need-cast-t8
-cast-t8 c = omega (arith, totals-told _ _ (c .before .before .before .before .before .before .pre) (c .before .before .before .before .answer .given .1))
+cast-t8 c = omega (arith, small-as TotalsSmall told _ _ (c .before .before .before .before .before .before .pre) (c .before .before .before .before .answer .given .1))
 
 cast-t10 : tie.Need-cast-t10
-cast-t10 c = omega (arith, fault-told _ _ _ (c .before .before .before .pre) (c .before .answer2 .given .1))
+cast-t10 c = omega (arith, small-as TotalsSmall told _ _ (c .before .before .before .pre) (c .before .answer2 .given .1))
 
 returns : tie.Need-returns
 returns c = rw (c .before .before .before .before .answer .given .1)

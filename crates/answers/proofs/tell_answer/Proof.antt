@@ -1,11 +1,13 @@
 use native.Mathlib.Omega.{arith}
-use Rattle.answers.proofs.Telling.{edit-told}
+use Rattle.volume.specs.Told.{editTold}
+use Rattle.answers.specs.Small.{DoneSmall}
+use Rattle.answers.proofs.Telling.{small-as}
 use borrow.Author.Needs.{needs}
 use Rattle.answers.proofs.tell_answer.Statement.{statement}
 use Rattle.answers.proofs.tell_answer.Tie as tie
 
 cast-t6 : tie.Need-cast-t6
-cast-t6 c = omega (arith, edit-told _ _ _ (c .before .before .before .pre) (c .before .answer .given .1))
+cast-t6 c = omega (arith, small-as DoneSmall editTold _ _ (c .before .before .before .pre) (c .before .answer .given .1))
 
 returns : tie.Need-returns
 returns c = rw (c .enum-told .given .1)

@@ -1,23 +1,25 @@
 use native.Mathlib.Omega.{arith}
-use Rattle.answers.proofs.Telling.{entry-told, no-entry-told}
+use Rattle.query.specs.Told.{lineTold}
+use Rattle.answers.specs.Small.{LineSmall}
+use Rattle.answers.proofs.Telling.{small-as}
 use borrow.Author.Needs.{needs}
 use Rattle.answers.proofs.tell_entry.Statement.{statement}
 use Rattle.answers.proofs.tell_entry.Tie as tie
 
 cast-t6 : tie.Need-cast-t6
-cast-t6 c = omega (arith, entry-told _ _ (c .before .before .before .before .pre) (c .before .before .answer .given .1))
+cast-t6 c = omega (arith, small-as LineSmall lineTold _ _ (c .before .before .before .before .pre) (c .before .before .answer .given .1))
 
 cast-t9 : tie.Need-cast-t9
-cast-t9 c = omega (arith, entry-told _ _ (c .before .before .before .before .before .before .before .pre) (c .before .before .before .before .before .answer .given .1))
+cast-t9 c = omega (arith, small-as LineSmall lineTold _ _ (c .before .before .before .before .before .before .before .pre) (c .before .before .before .before .before .answer .given .1))
 
 cast-t10 : tie.Need-cast-t10
-cast-t10 c = omega (arith, entry-told _ _ (c .before .before .before .before .before .before .before .before .pre) (c .before .before .before .before .before .before .answer .given .1))
+cast-t10 c = omega (arith, small-as LineSmall lineTold _ _ (c .before .before .before .before .before .before .before .before .pre) (c .before .before .before .before .before .before .answer .given .1))
 
 cast-t11 : tie.Need-cast-t11
-cast-t11 c = omega (arith, entry-told _ _ (c .before .before .before .before .before .before .before .before .before .pre) (c .before .before .before .before .before .before .before .answer .given .1))
+cast-t11 c = omega (arith, small-as LineSmall lineTold _ _ (c .before .before .before .before .before .before .before .before .before .pre) (c .before .before .before .before .before .before .before .answer .given .1))
 
 cast-t13 : tie.Need-cast-t13
-cast-t13 c = omega (arith, no-entry-told _ _ _ (c .before .before .before .pre) (c .before .answer2 .given .1))
+cast-t13 c = omega (arith, small-as LineSmall lineTold _ _ (c .before .before .before .pre) (c .before .answer2 .given .1))
 
 returns : tie.Need-returns
 returns c = rw (c .before .before .before .before .before .before .before .answer .given .1)

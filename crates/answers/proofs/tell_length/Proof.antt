@@ -1,14 +1,16 @@
 use native.Mathlib.Omega.{arith}
-use Rattle.answers.proofs.Telling.{length-told, no-length-told}
+use Rattle.query.specs.Told.{lengthTold}
+use Rattle.answers.specs.Small.{LengthSmall}
+use Rattle.answers.proofs.Telling.{small-as}
 use borrow.Author.Needs.{needs}
 use Rattle.answers.proofs.tell_length.Statement.{statement}
 use Rattle.answers.proofs.tell_length.Tie as tie
 
 cast-t6 : tie.Need-cast-t6
-cast-t6 c = omega (arith, length-told _ _ (c .before .before .before .pre) (c .before .answer .given .1))
+cast-t6 c = omega (arith, small-as LengthSmall lengthTold _ _ (c .before .before .before .pre) (c .before .answer .given .1))
 
 cast-t8 : tie.Need-cast-t8
-cast-t8 c = omega (arith, no-length-told _ _ _ (c .before .before .before .pre) (c .before .answer2 .given .1))
+cast-t8 c = omega (arith, small-as LengthSmall lengthTold _ _ (c .before .before .before .pre) (c .before .answer2 .given .1))
 
 returns : tie.Need-returns
 returns c = rw (c .before .answer .given .1)

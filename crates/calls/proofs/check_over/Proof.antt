@@ -11,8 +11,7 @@ use Rattle.calls.proofs.check_over.Tie as tie
 
 tell-requires : tie.Need-tell-requires
 tell-requires c κs =
-    let a = c .before .before .before .before .before .before .before .before .before .before .before .before .before .before .before .before .before .args in
-    check-small (a .size) (a .pages) (a .image .now) (c .before .before .before .before .before .before .before .before .before .before .before .load .last .1 .0) (told (c .before .before .before .before .before .before .before .check .result)) (c .before .before .before .before .before .before .before .check .last .1 .1 .1 .0) (c .before .before .before .before .before .before .before .check .ensures .0)
+    check-small _ _ _ _ _ _ (c .before .before .before .before .before .before .before .check .ensures .0)
 
 returns : tie.Need-returns
 returns c =

@@ -14,8 +14,7 @@ use Rattle.calls.proofs.format_over.Tie as tie
 
 tell-answer-requires : tie.Need-tell-answer-requires
 tell-answer-requires c κs =
-    let a = c .before .before .before .before .before .before .before .before .before .before .before .before .before .before .before .before .before .before .before .before .args in
-    format-small (a .size) (a .pages) (a .image .now) (c .before .before .before .before .before .before .before .before .before .before .before .before .before .before .load .last .1 .0) (asksLocal (a .local)) (editTold (c .before .before .before .before .before .before .before .before .before .format .result)) (c .before .before .before .before .before .before .before .before .before .format .last .0) (c .before .before .before .before .before .before .before .before .before .format .last .1 .1 .1 .0) (c .before .before .before .before .before .before .before .before .before .format .ensures .0)
+    format-small _ _ _ _ _ _ _ _ (c .before .before .before .before .before .before .before .before .before .format .ensures .0)
 
 returns : tie.Need-returns
 returns c =

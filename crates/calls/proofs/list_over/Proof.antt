@@ -13,8 +13,7 @@ use Rattle.calls.proofs.list_over.Tie as tie
 
 tell-entry-requires : tie.Need-tell-entry-requires
 tell-entry-requires c κs =
-    let a = c .before .before .before .before .before .before .before .before .before .before .before .before .before .before .before .before .before .args in
-    list-small (a .size) (a .pages) (a .image .now) (c .before .before .before .before .before .before .before .before .before .before .before .load .last .1 .0) (a .position) (lineTold (c .before .before .before .before .before .before .before .list .result)) (c .before .before .before .before .before .before .before .list .last .1 .1 .1 .0) (c .before .before .before .before .before .before .before .list .ensures .0)
+    list-small _ _ _ _ _ _ _ (c .before .before .before .before .before .before .before .list .ensures .0)
 
 returns : tie.Need-returns
 returns c =

@@ -13,8 +13,7 @@ use Rattle.calls.proofs.put_over.Tie as tie
 
 tell-answer-requires : tie.Need-tell-answer-requires
 tell-answer-requires c κs =
-    let a = c .before .before .before .before .before .before .before .before .before .before .before .before .before .before .before .before .before .before .before .before .before .before .args in
-    put-small (a .size) (a .pages) (a .image .now) (c .before .before .before .before .before .before .before .before .before .before .before .before .before .before .load .last .1 .0) (a .path .now) (a .bytes .now) (editTold (c .before .before .before .before .before .before .before .before .before .put .result)) (c .before .before .before .before .before .before .before .before .before .put .last .0) (c .before .before .before .before .before .before .before .before .before .put .last .1 .1 .1 .1 .1 .0) (c .before .before .before .before .before .before .before .before .before .put .ensures .0)
+    put-small _ _ _ _ _ _ _ _ _ (c .before .before .before .before .before .before .before .before .before .put .ensures .0)
 
 returns : tie.Need-returns
 returns c =

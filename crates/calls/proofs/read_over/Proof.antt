@@ -13,8 +13,7 @@ use Rattle.calls.proofs.read_over.Tie as tie
 
 tell-length-requires : tie.Need-tell-length-requires
 tell-length-requires c κs =
-    let a = c .before .before .before .before .before .before .before .before .before .before .before .before .before .before .before .before .before .before .before .before .before .before .args in
-    read-small (a .size) (a .pages) (a .image .now) (c .before .before .before .before .before .before .before .before .before .before .before .before .before .before .load .last .1 .0) (a .path .now) (a .out .now) (c .before .before .before .before .before .before .before .before .before .read .last .1 .1 .1 .1 .0) (lengthTold (c .before .before .before .before .before .before .before .before .before .read .result)) (c .before .before .before .before .before .before .before .before .before .read .last .1 .1 .1 .1 .1 .0) (c .before .before .before .before .before .before .before .before .before .read .ensures .0)
+    read-small _ _ _ _ _ _ _ _ _ (c .before .before .before .before .before .before .before .before .before .read .ensures .0)
 
 returns : tie.Need-returns
 returns c =

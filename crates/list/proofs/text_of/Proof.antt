@@ -1,4 +1,4 @@
--- `list::text_of` meets its contract: the text of the bytes read is the text of every dump that begins with them, and the output has room for it.
+-- `list::text_of` meets its contract: the text of the bytes read is the text of every dump that they are the whole or the front of, and the output has room for it.
 use mathlib.Core.Path.{refl, sym}
 use lib.Seq.{length-take-le}
 use Rattle.list.proofs.Room.{never-short, laid}

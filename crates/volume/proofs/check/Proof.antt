@@ -10,20 +10,18 @@ use Rattle.volume.proofs.check.Tie as tie
 
 slice-relend-prefix-check-table : tie.Need-slice-relend-prefix-check-table
 slice-relend-prefix-check-table c =
-    let a = c .before .before .before .before .before .before .args in
-    sized-of (a .size) (a .pages) _ _ _ (sym (c .before .before .before .new .ensures) ∙ c .before .g .given .1) .room
+    sized-of _ _ _ _ _ (sym (c .before .before .before .new .ensures) ∙ c .before .g .given .1) .room
 
 slice-aggregate-check-table : tie.Need-slice-aggregate-check-table
 slice-aggregate-check-table c =
-    let a = c .before .before .before .before .before .before .before .args in
-    let z = sized-of (a .size) (a .pages) _ _ _ (sym (c .before .before .before .before .new .ensures) ∙ c .before .before .g .given .1) in
+    let z = sized-of _ _ _ _ _ (sym (c .before .before .before .before .new .ensures) ∙ c .before .before .g .given .1) in
     sym (length-take-le _ _ (z .room))
 
 check-table-requires : tie.Need-check-table-requires
 check-table-requires c κs =
     let a = c .before .before .before .before .before .before .before .args in
     let e = sym (c .before .before .before .before .new .ensures) ∙ c .before .before .g .given .1 in
-    (fit-of (a .size) (a .pages) (a .image .now) (a .owners .now) _ e, length-take-le _ (a .owners .now) (sized-of (a .size) (a .pages) _ _ _ e .room))
+    (fit-of _ _ (a .image .now) (a .owners .now) _ e, length-take-le _ (a .owners .now) (sized-of _ _ _ _ _ e .room))
 
 returns : tie.Need-returns
 returns c =
