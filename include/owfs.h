@@ -30,7 +30,7 @@ struct owfs_totals {
  *      1  page length, page count, image length or owner table     0
  *      2  packet length or check                                   that page
  *      3  marker                                                   that page
- *      4  control field; local bitmap with 32 pages or more        that page
+ *      4  control field; local bitmap with more than 32 pages      that page
  *      5  in progress                                              0
  *      6  start page 0 or past the last page; pointer past it      page that holds the number
  *      7  page in two chains or twice in one                       that page
@@ -109,12 +109,13 @@ struct owfs_answer {
 };
 
 /* Formats an image: page 0 is made an empty root and, if `local` is 0, a bitmap file is laid from page 1 upward, all its packets full but the last.
- * With any other `local` the bitmap stands in page 0, which only an image of less than 32 pages may have. The image may hold any bytes before.
+ * With any other `local` the bitmap stands in page 0, which only an image of at most 32 pages may have; more pages need a bitmap file. The image
+ * may hold any bytes before.
  *
  * number  meaning, in the order in which it is judged              page
  *      0  done                                                     0
  *      1  page length, page count, image length or owner table     0
- *      4  local bitmap with 32 pages or more                       0
+ *      4  local bitmap with more than 32 pages                     0
  *
  * In a page written only the bytes of its packet change; every other byte of the image stays. A refusal changes no byte of the image.
  * `owners` are bytes, two for each page, low byte first; at least 2 * page_count of them are needed (1). After 0 they tell of the new image: the

@@ -26,7 +26,7 @@ impl Geometry {
 /// Where a formatted image has its bitmap.
 #[derive(Clone, Copy, Debug, PartialEq, Eq, Hash)]
 pub enum Bitmap {
-    /// In page 0; only an image of less than 32 pages may have it there.
+    /// In page 0, for images of up to 32 pages; more pages need a file.
     Local,
     /// In a file from page 1 upward.
     File,
@@ -164,7 +164,7 @@ pub fn read_to_vec(
 ///
 /// # Errors
 ///
-/// 1 if page length, page count or image length is wrong or the owner table is too short; 4 if a local bitmap is asked for with 32 pages or more.
+/// 1 if page length, page count or image length is wrong or the owner table is too short; 4 if a local bitmap is asked for with more than 32 pages.
 pub fn format(
     geometry: Geometry,
     image: &mut [u8],

@@ -31,7 +31,7 @@ pub enum Reason {
     Packet,
     /// 3: marker is wrong. That page.
     Marker,
-    /// 4: control field is wrong, or local bitmap with 32 pages or more. That page.
+    /// 4: control field is wrong, or local bitmap with more than 32 pages. That page.
     Control,
     /// 5: work is in progress. No page.
     InProgress,
@@ -129,7 +129,7 @@ impl Reason {
             Reason::Arguments => "page length, page count, image length or owner table is wrong",
             Reason::Packet => "packet length or check is wrong",
             Reason::Marker => "marker is wrong",
-            Reason::Control => "control field is wrong, or local bitmap with 32 pages or more",
+            Reason::Control => "control field is wrong, or local bitmap with more than 32 pages",
             Reason::InProgress => "work is in progress",
             Reason::PageNumber => "start page is 0 or past the last page, or pointer is past it",
             Reason::Crossed => "page is in two chains or twice in one",

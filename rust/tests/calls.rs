@@ -231,10 +231,11 @@ fn arguments_that_do_not_fit_are_1_and_change_nothing() {
 }
 
 #[test]
-fn local_bitmap_is_refused_from_32_pages_on() {
+fn local_bitmap_is_refused_from_33_pages_on() {
     for (page_count, local, file) in [
         (31, Ok(()), Ok(())),
-        (32, Err(refusal(4, 0)), Ok(())),
+        (32, Ok(()), Ok(())),
+        (33, Err(refusal(4, 0)), Ok(())),
         (300, Err(refusal(4, 0)), Ok(())),
     ] {
         let geometry = Geometry::new(32, page_count);

@@ -11,7 +11,7 @@
 
 #include "owfs.h"
 
-/* A DS1993: 16 pages of 32 bytes. With less than 32 pages the bitmap may stand in page 0. */
+/* A DS1993: 16 pages of 32 bytes. With up to 32 pages the bitmap may stand in page 0. */
 enum { PAGE_LENGTH = 32, PAGE_COUNT = 16, LOCAL_BITMAP = 1 };
 
 /* The numbers of owfs.h that this program meets. */

@@ -21,7 +21,7 @@ use common::generators::{
     any_case, case_of, large_image, random_case, random_sizes, worn_plan, Case, Kind, Made,
     OWNER_TABLES,
 };
-use common::plans::{formatted_plan, geometry};
+use common::plans::{formatted_plan, geometry, may_be_local};
 use common::puts::used_plan;
 use common::trials::Trial;
 use common::{agreed, Button, Tally};
@@ -63,8 +63,8 @@ fn length_class(page_length: u32) -> &'static str {
 /// The class of a page count.
 fn count_class(page_count: u32) -> &'static str {
     match page_count {
-        ..=31 => "     2 to 31",
-        32..=255 => "    32 to 255",
+        ..=32 => "     2 to 32",
+        33..=255 => "    33 to 255",
         256 => "   256",
         257..=999 => "   257 to 999",
         1_000..=5_000 => " 1,000 to 5,000",
@@ -145,7 +145,7 @@ impl Soak {
             self.begin_run("edits of an image in use", &plan);
             return Run::generated(plan, rng, &mut self.calls).run(steps);
         }
-        let most = [31, 300, 300, 2_000][rng.below(4)];
+        let most = [32, 300, 300, 2_000][rng.below(4)];
         let sizes = random_sizes(rng, most);
         self.formatted_edits("edits of a formatted image", sizes, steps, rng);
     }
@@ -153,7 +153,7 @@ impl Soak {
     /// A run of calls on a formatted image.
     fn formatted_edits(&mut self, kind: &str, sizes: (u32, u32), steps: usize, rng: &mut Rng) {
         let (page_length, page_count) = sizes;
-        let local = u32::from(page_count < 32 && rng.chance(50));
+        let local = u32::from(may_be_local(page_count) && rng.chance(50));
         self.begin_run(kind, &formatted_plan(page_length, page_count, local != 0));
         Run::formatted(page_length, page_count, local, rng, &mut self.calls).run(steps);
     }

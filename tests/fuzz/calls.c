@@ -11,6 +11,7 @@
  *   - a fault of the image is told by each call that checks it; the calls agree on what a path leads to
  *   - after a put that is done the image is accepted and the file reads back, after a delete it is accepted and the file is absent, after a format it
  *     is accepted and empty; the owner table is the one that a check leaves
+ *   - format is refused with 4 exactly if a local bitmap is asked for with more than 32 pages; no image of more has one and is accepted
  */
 #define _GNU_SOURCE
 #include <stdio.h>
@@ -119,6 +120,12 @@ static void after_call(enum kind kind, uint32_t number, uint32_t page)
     see_owners(number, kind == FORMATTED);
 }
 
+/* Whether page 0 of an accepted image has the bitmap: bit 7 of the byte after length byte, marker and map address. */
+static int has_local_bitmap(const uint8_t *bytes)
+{
+    return bytes[arguments.page_count <= ONE_BYTE_PAGES ? 3 : 4] >> 7;
+}
+
 /* A check of an image. */
 static struct owfs_totals check(const uint8_t *bytes)
 {
@@ -130,6 +137,7 @@ static struct owfs_totals check(const uint8_t *bytes)
     demand(told.number <= LAST_FAULT, "a check's number");
     demand(told.number == DONE || (told.used | told.files | told.directories) == 0, "no totals in a refusal");
     if (told.number == DONE) {
+        demand(arguments.page_count <= MOST_LOCAL_PAGES || !has_local_bitmap(bytes), "no local bitmap with more than 32 pages");
         meet(USED, told.used);
         meet(FILES, told.files);
         meet(DIRECTORIES, told.directories);
@@ -240,10 +248,14 @@ static void see_format(struct owfs_totals before)
     struct owfs_totals after = after_edit(FORMATTED, told, edited);
     demand(told.page == 0, "format tells no page");
     demand((told.number == ARGUMENTS) == (before.number == ARGUMENTS), "format and check judge arguments alike");
-    if (told.number == DONE)
-        demand(after.files + after.directories == 0, "a formatted image is empty");
-    else
-        demand(told.number == ARGUMENTS || (told.number == CONTROL && arguments.local != 0), "format's refusals");
+    if (told.number == ARGUMENTS)
+        return;
+    int is_refused = arguments.local != 0 && arguments.page_count > MOST_LOCAL_PAGES;
+    demand(told.number == (is_refused ? CONTROL : DONE), "a local bitmap with more than 32 pages is 4, and nothing else is");
+    if (is_refused)
+        return;
+    demand(after.files + after.directories == 0, "a formatted image is empty");
+    demand(has_local_bitmap(edited) == (arguments.local != 0), "the bitmap that was asked for");
 }
 
 /* Demands that read, put and delete agree on what a path of an accepted image leads to. */

@@ -29,7 +29,9 @@ enum {
     MOST_IMAGE = 32768,
     MOST_PATH = 255,
     MOST_FILE = 65535,
-    MOST_OWNERS = 2 * 65535 + 256
+    MOST_OWNERS = 2 * 65535 + 256,
+    ONE_BYTE_PAGES = 256, /* the most pages with page numbers of one byte */
+    MOST_LOCAL_PAGES = 32 /* the most pages with a local bitmap */
 };
 
 /* An input in its parts. */

@@ -4,7 +4,7 @@
 
 #include "fuzz.h"
 
-enum { LEAST_PAGE = 32, MOST_PAGE = 256, ONE_BYTE_PAGES = 256, DIRECTORY = 127, LEVELS = 8, NAME = 4 };
+enum { LEAST_PAGE = 32, MOST_PAGE = 256, DIRECTORY = 127, LEVELS = 8, NAME = 4 };
 
 /* The number of a check that only the bitmap refuses, the most bits that are repaired, and the most bytes of settings in a new input. */
 enum { BITMAP = 13, MOST_FLIPS = 64, NEW_SETTINGS = MOST_SETTINGS / 4 };

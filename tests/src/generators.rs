@@ -1,6 +1,6 @@
 //! Seeded images, paths, positions and lengths, for the tests of the library's calls.
 
-use crate::plans::geometry;
+use crate::plans::{geometry, may_be_local};
 use crate::{answer, Button, Tally};
 use referee::builder::fault::{
     with_fault, with_random_changes, with_sealed_flips, with_two_faults,
@@ -334,7 +334,8 @@ pub fn misfit(button: &mut Button, rng: &mut Rng) {
 
 /// An image that was formatted and has had some files put into it.
 pub fn written(page_length: u32, page_count: u32, rng: &mut Rng) -> Vec<u8> {
-    let mut button = Button::formatted(page_length, page_count, page_count < 32 && rng.chance(50));
+    let local = may_be_local(page_count) && rng.chance(50);
+    let mut button = Button::formatted(page_length, page_count, local);
     for _ in 0..rng.below(6) {
         let mut path = random_name(rng).to_vec();
         path.push(rng.below(100) as u8);
@@ -442,7 +443,7 @@ pub fn any_length(fitting: u64, rng: &mut Rng) -> usize {
 /// Any bytes with numbers that they often fit, and bytes of an owner table.
 pub fn any_button(rng: &mut Rng) -> (Button, usize) {
     let page_length = any_number(&[0, 31, 32, 33, 64, 256, 257, 65_568], rng);
-    let page_count = any_number(&[0, 1, 2, 16, 31, 32, 256, 257, 65_535, 65_536], rng);
+    let page_count = any_number(&[0, 1, 2, 16, 31, 32, 33, 256, 257, 65_535, 65_536], rng);
     let image_bytes = any_length(u64::from(page_length) * u64::from(page_count), rng);
     let table = any_length(2 * u64::from(page_count), rng);
     let button = Button {

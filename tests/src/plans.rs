@@ -4,7 +4,7 @@ use crate::Button;
 use referee::builder::plan::{
     BitmapPlan, Built, Chain, DirectoryPlan, FilePlan, Fill, ImagePlan, Item,
 };
-use referee::geometry::Geometry;
+use referee::geometry::{Geometry, MOST_LOCAL_PAGES};
 
 /// The bytes that a name may have before its blanks.
 const NAME_BYTES: &[u8] = b"ABCDEFGHIJKLMNOPQRSTUVWXYZ0123456789!#$%&'@^_`{}~";
@@ -12,6 +12,11 @@ const NAME_BYTES: &[u8] = b"ABCDEFGHIJKLMNOPQRSTUVWXYZ0123456789!#$%&'@^_`{}~";
 /// The sizes that follow from page length and page count.
 pub fn geometry(page_length: u32, page_count: u32) -> Geometry {
     Geometry::new(page_length, page_count).expect("P and N within their limits")
+}
+
+/// Whether an image of so many pages may have a local bitmap.
+pub fn may_be_local(page_count: u32) -> bool {
+    page_count as usize <= MOST_LOCAL_PAGES
 }
 
 /// The plan of a formatted image: an empty root, and from page 1 upward a bitmap file with full packets unless the bitmap is local.

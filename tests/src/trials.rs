@@ -4,7 +4,7 @@ use crate::generators::{
     counted_owner_bytes, files, is_enough, labelled_local, labelled_out_bytes, labelled_position,
     random_path, Case, Made, Wanted,
 };
-use crate::plans::{formatted_plan, overlaid};
+use crate::plans::{formatted_plan, may_be_local, overlaid};
 use crate::{answer, both, Button, Tally};
 use referee::geometry::Geometry;
 use referee::rng::Rng;
@@ -189,7 +189,7 @@ pub fn format_known(button: &mut Button, owner_bytes: usize, local: u32, rng: &m
     let fits = Geometry::new(p, n).is_some_and(|known| known.image_length() == before.image.len());
     if !fits || !is_enough(n, owner_bytes) {
         assert_eq!(told, answer(1, 0), "arguments");
-    } else if local != 0 && n >= 32 {
+    } else if local != 0 && !may_be_local(n) {
         assert_eq!(told, answer(4, 0), "local bitmap");
     } else {
         assert_eq!(told, answer(0, 0), "known by construction");

@@ -66,7 +66,10 @@ fn calls_with_any_arguments_answer_and_refusals_change_nothing() {
         let _seed = Seed(seed);
         let mut rng = Rng::new(seed);
         let page_length = random_number(&mut rng, &[0, 31, 32, 33, 64, 256, 257]);
-        let page_count = random_number(&mut rng, &[0, 1, 2, 16, 31, 32, 256, 257, 65_535, 65_536]);
+        let page_count = random_number(
+            &mut rng,
+            &[0, 1, 2, 16, 31, 32, 33, 256, 257, 65_535, 65_536],
+        );
         let fitting = u64::from(page_length) * u64::from(page_count);
         let image_length = random_length(&mut rng, fitting);
         let table_length = random_length(&mut rng, 2 * u64::from(page_count));
@@ -138,7 +141,7 @@ fn use_image(button: &mut Button, rng: &mut Rng) -> u32 {
 /// Images of sound packets at random, with one-byte and two-byte numbers.
 #[test]
 fn all_calls_agree_on_images_of_random_packets() {
-    for (seeds, low, high) in [(60_000..90_000, 2, 31), (90_000..93_000, 257, 270)] {
+    for (seeds, low, high) in [(60_000..90_000, 2, 32), (90_000..93_000, 257, 270)] {
         let mut met = [0_u32; 20];
         for seed in seeds {
             let _seed = Seed(seed);

@@ -692,7 +692,7 @@ fn delete_takes_a_file_and_a_directory_of_one_name_for_two() {
 fn delete_and_format_judge_the_arguments_first() {
     run_seeds(0xAE00_0000..0xAE00_0000 + 300, |seed, rng| {
         let (page_length, page_count) = random_sizes(rng, 80);
-        let mut button = Button::zeros(page_length, page_count.max(32));
+        let mut button = Button::zeros(page_length, page_count.max(33));
         misfit(&mut button, rng);
         let table = 2 * (button.page_count as usize).min(70_000);
         let local = (seed % 2) as u32;

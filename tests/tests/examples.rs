@@ -1,4 +1,4 @@
-//! The examples of document 01, byte for byte, by their numbers there.
+//! The examples of document 01 (case 9 as A3 has it), byte for byte, by their numbers there.
 //!
 //! Programs: the library and the second program. Each call is made by both; every answer and every lent byte is compared.
 //! The archive is made by `rt staticlib owfs`.
@@ -202,22 +202,24 @@ fn example_08_fourth_file() {
     owned(&button.check().1, &[1, 3, 4, 5, 1, 6]);
 }
 
-/// N 31 with a local bitmap is formatted; N 32 is 4 and changes nothing, and its owners are those of the image as it stands.
+/// N 32 with a local bitmap is formatted; N 33 is 4 and changes nothing, and its owners are those of the image as it stands.
 #[test]
 fn example_09_format() {
-    let mut button = filled(31, 0xFF);
-    let (done, owners) = button.format(true);
-    assert_eq!(done, answer(0, 0));
-    owned(&owners, &[1]);
-    assert_eq!(button.page(0)[..11], PAGE_0_FORMATTED);
-    assert!(button.image[11..].iter().all(|&byte| byte == 0xFF));
-    assert_eq!(button.check().0, totals(1, 0, 0));
+    for page_count in [31, 32] {
+        let mut button = filled(page_count, 0xFF);
+        let (done, owners) = button.format(true);
+        assert_eq!(done, answer(0, 0));
+        owned(&owners, &[1]);
+        assert_eq!(button.page(0)[..11], PAGE_0_FORMATTED);
+        assert!(button.image[11..].iter().all(|&byte| byte == 0xFF));
+        assert_eq!(button.check().0, totals(1, 0, 0));
+    }
 
-    let mut button = filled(32, 0xFF);
+    let mut button = filled(33, 0xFF);
     let (done, owners) = button.format(true);
     assert_eq!(done, answer(4, 0));
     owned(&owners, &[]);
-    assert_eq!(button, filled(32, 0xFF));
+    assert_eq!(button, filled(33, 0xFF));
     let (done, owners) = button.format(false);
     assert_eq!(done, answer(0, 0));
     owned(&owners, &[1, 2]);
@@ -228,13 +230,13 @@ fn example_09_format() {
     assert_eq!(button, accepted);
 }
 
-/// N 31 with a local bitmap is accepted; the same page 0 with N 32 is 4.
+/// N 32 with a local bitmap is accepted; the same page 0 with N 33 is 4.
 #[test]
 fn example_09_local_bitmap() {
-    let mut button = Button::formatted(32, 31, true);
+    let mut button = Button::formatted(32, 32, true);
     assert_eq!(button.check().0, totals(1, 0, 0));
-    button.page_count = 32;
-    button.image.resize(32 * 32, 0);
+    button.page_count = 33;
+    button.image.resize(32 * 33, 0);
     let (told, owners) = button.check();
     assert_eq!(answer(told.number, told.page), answer(4, 0));
     owned(&owners, &[]);

@@ -260,7 +260,7 @@ fn in_progress_comes_after_the_marker_and_before_the_rest() {
     refused(&pages, 5, 0);
     pages.packet(0, &[0xAB, 0, 0x01, 9, 9, 99, 0], 0);
     refused(&pages, 3, 0);
-    let mut pages = Pages::new(32, 40);
+    let mut pages = Pages::new(32, 33);
     pages.packet(0, &[0xAA, 0, 0x81, 1, 0, 0, 0], 0);
     refused(&pages, 5, 0);
     pages.packet(0, &[0xAA, 0, 0x80, 1, 0, 0, 0], 0);
@@ -290,14 +290,14 @@ fn map_address_and_bits_1_to_6_of_the_root_must_be_zero() {
 }
 
 #[test]
-fn local_bitmap_with_32_pages_or_more_is_4() {
-    for page_count in [32, 33, 40, 255, 256, 257, 1_000] {
+fn local_bitmap_with_more_than_32_pages_is_4() {
+    for page_count in [33, 34, 40, 255, 256, 257, 1_000] {
         let mut pages = Pages::new(32, page_count);
         let root = pages.local_control(&[0]);
         pages.packet(0, &root, 0);
         refused(&pages, 4, 0);
     }
-    for page_count in [2, 16, 31] {
+    for page_count in [2, 16, 31, 32] {
         let mut pages = Pages::new(32, page_count);
         let root = pages.local_control(&[0]);
         pages.packet(0, &root, 0);

@@ -7,7 +7,7 @@ use common::generators::{
     any_button, counted_owner_bytes, deep_image, faulty_case, files, flip, is_enough,
     labelled_local, largest_image, misfit, random_sizes, OWNER_TABLES,
 };
-use common::plans::{formatted_plan, is_path, overlaid, plan_with, Room};
+use common::plans::{formatted_plan, is_path, may_be_local, overlaid, plan_with, Room};
 use common::puts::{
     count_room, done_features, labelled_path, random_bytes, thinned_plan, used_plan, DONE, ENTRIES,
     ROOM,
@@ -205,7 +205,7 @@ fn file_on_all_free_pages_is_put_and_one_byte_more_is_17() {
         let page_count = (seed - 0xC300_0000) as u32;
         let table = 2 * page_count as usize;
         for local in [false, true] {
-            if local && page_count >= 32 {
+            if local && !may_be_local(page_count) {
                 continue;
             }
             let built = formatted_plan(32, page_count, local).build();

@@ -5,7 +5,7 @@
 //! The archive is made by `rt staticlib owfs`.
 
 use common::generators::{damaged_case, deep_image, fault_case, files, Case, Made};
-use common::plans::geometry;
+use common::plans::{geometry, may_be_local};
 use common::{agreed, answer, Button, Seed};
 use referee::builder::plan::Built;
 use referee::rng::Rng;
@@ -619,7 +619,7 @@ fn format_number_1_arguments() {
 /// An owner table that is too short is 1 and is not touched, before a local bitmap is 4.
 #[test]
 fn format_number_1_owner_table() {
-    for page_count in [2, 31, 32, 300] {
+    for page_count in [2, 31, 32, 33, 300] {
         let button = Button::formatted(32, page_count, false);
         let needed = 2 * page_count as usize;
         for owner_bytes in [0, 1, needed / 2, needed - 2, needed - 1] {
@@ -633,14 +633,14 @@ fn format_number_1_owner_table() {
     }
 }
 
-/// A local bitmap with 32 pages or more: the table tells of the old image as it stands, which may be accepted.
+/// A local bitmap with more than 32 pages: the table tells of the old image as it stands, which may be accepted.
 #[test]
 fn format_number_4_over_an_accepted_image() {
     let mut met = 0;
     for seed in 0x6C00_0000..0x6C00_0000 + 100 {
         let _seed = Seed(seed);
         let built = deep_image(&mut Rng::new(seed));
-        if built.page_count < 32 {
+        if may_be_local(built.page_count) {
             continue;
         }
         let button = Button::from(&built);
@@ -654,7 +654,7 @@ fn format_number_4_over_an_accepted_image() {
     assert!(met >= 300, "met {met} times");
 }
 
-/// A local bitmap with 32 pages or more: if the old image is not accepted, for any fault, the owner numbers are all 0.
+/// A local bitmap with more than 32 pages: if the old image is not accepted, for any fault, the owner numbers are all 0.
 #[test]
 fn format_number_4_over_a_refused_image() {
     let mut met = [0; 14];
@@ -663,7 +663,7 @@ fn format_number_4_over_a_refused_image() {
         let mut rng = Rng::new(seed);
         let number = 2 + (seed % 12) as u32;
         let case = fault_case(number, &mut rng);
-        if case.button.page_count < 32 {
+        if may_be_local(case.button.page_count) {
             continue;
         }
         let mut lent = Lent::new(&case.button, 0);
@@ -674,12 +674,12 @@ fn format_number_4_over_a_refused_image() {
     assert!(met[2..].iter().all(|&times| times >= 5), "{met:?}");
 }
 
-/// A local bitmap with 32 pages or more over any bytes.
+/// A local bitmap with more than 32 pages over any bytes.
 #[test]
 fn format_number_4_over_any_bytes() {
     let seed = Seed(0x6E00_0000);
     let mut rng = Rng::new(seed.0);
-    for page_count in (32..=300).chain([65_535]) {
+    for page_count in (33..=300).chain([65_535]) {
         let button = Button {
             page_length: 32,
             page_count,

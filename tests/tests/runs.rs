@@ -5,6 +5,7 @@
 
 use std::collections::{BTreeMap, BTreeSet};
 
+use common::plans::may_be_local;
 use common::{answer, Button, Seed};
 use referee::builder::pages::Pages;
 use referee::builder::plan::{Built, ChainOf};
@@ -495,7 +496,7 @@ fn runs_on_formatted_buttons_agree_with_the_model() {
     for page_length in lengths {
         for page_count in sizes {
             for local in [true, false] {
-                if local && page_count >= 32 {
+                if local && !may_be_local(page_count) {
                     continue;
                 }
                 seed += 1;
@@ -525,7 +526,7 @@ fn runs_on_generated_buttons_agree_with_the_model() {
         } else {
             rng.between(65, 256)
         };
-        let most = [12, 31, 80, 256, 400][rng.below(5)];
+        let most = [12, 32, 80, 256, 400][rng.below(5)];
         let page_count = rng.between(2, most);
         let built = random_image(page_length as u32, page_count as u32, &mut rng);
         let mut world = World::generated(&built);
@@ -542,6 +543,7 @@ fn long_runs_agree_with_the_model() {
     let buttons = [
         (32, 16, true),
         (32, 31, true),
+        (32, 32, true),
         (32, 16, false),
         (40, 60, false),
         (32, 270, false),
@@ -571,7 +573,7 @@ fn format_of_a_used_button_leaves_an_empty_one() {
         let before = world.button.clone();
         let local = rng.chance(50);
         let (done, owners) = world.button.format(local);
-        if local && page_count >= 32 {
+        if local && !may_be_local(page_count) {
             assert_eq!(done, answer(4, 0));
             assert_eq!(owners, world.owners);
             continue;

@@ -1,4 +1,4 @@
--- The starred examples of document 01, "Examples with their numbers", over the rules: one list, one claim, by computation.
+-- The starred examples of document 01, "Examples with their numbers" (case 9 as A3 has it), over the rules: one list, one claim, by computation.
 use mathlib.Core.Path.{_≡_, refl}
 use mathlib.Core.Bool.{true}
 use mathlib.Core.List.{List, [], _∷_, map}
@@ -115,9 +115,9 @@ cases =
     ∷ record { given = numberOf (andThen (fileOf 420) (put g DEMO (replicate 420 0x42))) ∷ []; printed = 0 ∷ [] }
     -- 8. three one-page files, then a fourth: two pages more
     ∷ record { given = valueOf (andThen threeFiles usedIn) ∷ valueOf (andThen fourFiles usedIn) ∷ []; printed = 4 ∷ 6 ∷ [] }
-    -- 9. N 31 local is formatted; N 32 local is 4
+    -- 9. N 32 local is formatted; N 33 local is 4 (A3)
     ∷ record {
-      given = numberOf (format (sizes 31) true (replicate 992 0)) ∷ numberOf (format (sizes 32) true (replicate 1024 0)) ∷ [];
+      given = numberOf (format (sizes 32) true (replicate 1024 0)) ∷ numberOf (format (sizes 33) true (replicate 1056 0)) ∷ [];
       printed = 0 ∷ 4 ∷ [];
     }
     ∷ []

@@ -6,7 +6,7 @@ use Prim.Native.Nat.{ℕ, zero, suc, _+_, _-_, _*_, _%_, _≤_, _<_}
 use native.Mathlib.Omega.{arith}
 use lib.ListN.{length, getD, take, drop, length-drop}
 use lib.Seq.{take-take, drop-drop}
-use borrow.Author.Tests.{le-leb, lt-leb, lt-ltb, le-ltb, eq-eqb, ne-eqb}
+use borrow.Author.Tests.{le-leb, lt-leb, eq-eqb, ne-eqb}
 use Rattle.geometry.specs.declared.Geometry.{Geometry}
 use Rattle.geometry.specs.ChooseLaws.{choose-true, choose-false}
 use Rattle.geometry.specs.Geometry.{controlSize}
@@ -14,7 +14,7 @@ use Rattle.geometry.specs.ListLaws.{drop-take}
 use Rattle.geometry.specs.Number.{number}
 use Rattle.rules.specs.Result.{andThen, refuse-unless}
 use Rattle.rules.specs.Chain.{anyPage}
-use Rattle.rules.specs.Control.{marker, Above, controlAt, fieldAt, placeZeros, headOf, rootPage, subPage}
+use Rattle.rules.specs.Control.{marker, Above, controlAt, fieldAt, mostLocal, placeZeros, headOf, rootPage, subPage}
 use Rattle.directory.specs.declared.control.Root.{Root}
 use Rattle.directory.specs.declared.control.Root.the-variants.{Local, Remote, Refused}
 use Rattle.directory.specs.declared.control.Kind.{Kind}
@@ -83,13 +83,13 @@ module _ (g : Geometry) (b : List ℕ) (k : ℕ) (q : k ≡ controlSize g) where
             pub root-remote : controlAt (g .width) b < 128 → (r : Root) → r ≡ place (g .width) (fieldAt (g .width) b) → r ≡ control (g .width) (headOf g b)
             root-remote u r f = f ∙ remote u (placeZeros (g .width) (fieldAt (g .width) b)) refl
 
-            pub root-local : 128 ≤ controlAt (g .width) b → g .pages < 32 → Local ≡ control (g .width) (headOf g b)
+            pub root-local : 128 ≤ controlAt (g .width) b → g .pages ≤ mostLocal → Local ≡ control (g .width) (headOf g b)
             unfolding headOf andThen refuse-unless marker
-            root-local u l = simp (headOf, ← q, le-leb k (length b) h, ← e, marker, eq-eqb m (169 + g .width) z, eq-eqb (controlAt (g .width) b % 2) 0 y, ← d, eq-eqb a 0 w, eq-eqb (controlAt (g .width) b % 128) 0 v, le-leb 128 (controlAt (g .width) b) u, choose-true, lt-ltb (g .pages) 32 l)
+            root-local u l = simp (headOf, ← q, le-leb k (length b) h, ← e, marker, eq-eqb m (169 + g .width) z, eq-eqb (controlAt (g .width) b % 2) 0 y, ← d, eq-eqb a 0 w, eq-eqb (controlAt (g .width) b % 128) 0 v, le-leb 128 (controlAt (g .width) b) u, choose-true, le-leb (g .pages) mostLocal l)
 
-            pub root-large : 128 ≤ controlAt (g .width) b → 32 ≤ g .pages → Refused 4 ≡ control (g .width) (headOf g b)
+            pub root-large : 128 ≤ controlAt (g .width) b → mostLocal < g .pages → Refused 4 ≡ control (g .width) (headOf g b)
             unfolding headOf andThen refuse-unless marker
-            root-large u l = simp (headOf, ← q, le-leb k (length b) h, ← e, marker, eq-eqb m (169 + g .width) z, eq-eqb (controlAt (g .width) b % 2) 0 y, ← d, eq-eqb a 0 w, eq-eqb (controlAt (g .width) b % 128) 0 v, le-leb 128 (controlAt (g .width) b) u, choose-true, le-ltb (g .pages) 32 l)
+            root-large u l = simp (headOf, ← q, le-leb k (length b) h, ← e, marker, eq-eqb m (169 + g .width) z, eq-eqb (controlAt (g .width) b % 2) 0 y, ← d, eq-eqb a 0 w, eq-eqb (controlAt (g .width) b % 128) 0 v, le-leb 128 (controlAt (g .width) b) u, choose-true, lt-leb (g .pages) mostLocal l)
 
 -- a subdirectory's first page, test after test
 module _ (g : Geometry) (up : Above) (b : List ℕ) (k : ℕ) (q : k ≡ controlSize g) where

@@ -8,10 +8,10 @@ use geometry::BITMAP_FIELD_BYTES;
 use geometry::BITMAP_FIELD_END;
 use geometry::BITMAP_FIELD_PAST;
 use geometry::Geometry;
-use geometry::LEAST_FILE_PAGES;
 use geometry::LOCAL_BITMAP;
 use geometry::MAP_ADDRESS_AT;
 use geometry::MARKER;
+use geometry::MOST_LOCAL_PAGES;
 use geometry::NAME_BYTES;
 ghost use mathlib.Core.Path.{_≡_};
 ghost use Prim.Native.Nat.{_+_, _≤_};
@@ -66,7 +66,7 @@ pub fn root_control(bytes: &[u8], g: Geometry) -> Root
     if flags < LOCAL_BITMAP {
         return remote_map(bytes, n);
     }
-    if g.pages < LEAST_FILE_PAGES {
+    if g.pages <= MOST_LOCAL_PAGES {
         Root::Local
     } else {
         Root::Refused(4)

@@ -1,13 +1,13 @@
--- Format: the image after it is well formed without entries; it refuses only a local bitmap with N of 32 or more; other bytes stay.
+-- Format: the image after it is well formed without entries; it refuses only a local bitmap with N above 32; other bytes stay.
 use mathlib.Core.Path.{_≡_, refl, ap, sym, _∙_, subst}
 use mathlib.Core.Bool.{Bool, true, false, not, _||_}
 use mathlib.Core.List.{List, [], _∷_, _++_}
 use Prim.Native.Nat.{ℕ, suc, _+_, _-_, _*_, _/_, _≤_, _<_}
 use native.Mathlib.Nat.{mul-le-mul-left}
 use native.Mathlib.Omega.{arith}
-use lib.Dec.{ltb}
+use lib.Dec.{leb}
 use lib.ListN.{length, length-append}
-use borrow.Author.Tests.{ltb-true, ltb-false, le-ltb}
+use borrow.Author.Tests.{leb-true, leb-false, lt-leb}
 use Rattle.geometry.specs.declared.Geometry.{Geometry}
 use Rattle.geometry.specs.ChooseLaws.{choose-true, choose-false}
 use Rattle.geometry.specs.Geometry.{Fit, Valid, dataCapacity, bitmapSize}
@@ -21,7 +21,7 @@ use Rattle.rules.specs.PageSetLaws.{range-le}
 use Rattle.rules.specs.Chain.{Link, pages, content, linked, spread, pagesFor}
 use Rattle.rules.specs.ChainLaws.{pages-spread, content-spread, pages-enough, pages-least}
 use Rattle.rules.specs.Tree.{end, page, Map, inRoot, inFile, Image, used}
-use Rattle.rules.specs.Control.{rootControl, localAllowed}
+use Rattle.rules.specs.Control.{rootControl, mostLocal, localAllowed}
 use Rattle.rules.specs.Bitmap.{bitmapFrom, bitmapOf, mapSize, refill}
 use Rattle.rules.specs.BitmapLaws.{length-bitmap, bytes-bitmap, refill-same}
 use Rattle.rules.specs.WellFormed.{Stand, WellFormed}
@@ -93,7 +93,7 @@ module _ (g : Geometry) (valid : Valid g) where
     abbrev Leaves : Map → Type 0
     Leaves m = WritesFit g (formatWrites g (emptyWith m)) × WellFormed g (play g (formatWrites g (emptyWith m)) image) (emptyWith m)
 
-    local-leaves : g .pages < 32 → Leaves inRoot
+    local-leaves : g .pages ≤ mostLocal → Leaves inRoot
     unfolding formatWrites
     local-leaves h =
         let bits = bitmapOf g (used (emptyWith inRoot)) inRoot in
@@ -129,7 +129,7 @@ module _ (g : Geometry) (valid : Valid g) where
 
     leaves : (local : Bool) → (not local || localAllowed g) ≡ true → Leaves (emptyImage g local .map)
     unfolding emptyImage
-    leaves true e = rw choose-true (local-leaves (ltb-true (g .pages) 32 e))
+    leaves true e = rw choose-true (local-leaves (leb-true (g .pages) mostLocal e))
     leaves false e = rw choose-false map-leaves
 
 -- ---- format
@@ -152,21 +152,21 @@ unfolding atPath emptyImage
 format-paths g local k [] = refl
 format-paths g local k (j ∷ ks) = refl
 
--- it refuses exactly a local bitmap with N of 32 or more, and then with 4
-pub format-refuses : (g : Geometry) (image : List ℕ) → 32 ≤ g .pages → format g true image ≡ err 4 0
+-- it refuses exactly a local bitmap with N above 32, and then with 4
+pub format-refuses : (g : Geometry) (image : List ℕ) → mostLocal < g .pages → format g true image ≡ err 4 0
 unfolding format
-format-refuses g image h = simp (le-ltb (g .pages) 32 h, refuse-false, then-err)
+format-refuses g image h = simp (lt-leb (g .pages) mostLocal h, refuse-false, then-err)
 
-pub format-fault : (g : Geometry) (local : Bool) (image : List ℕ) (n p : ℕ) → format g local image ≡ err n p → (n ≡ 4) × (p ≡ 0) × (local ≡ true) × (32 ≤ g .pages)
+pub format-fault : (g : Geometry) (local : Bool) (image : List ℕ) (n p : ℕ) → format g local image ≡ err n p → (n ≡ 4) × (p ≡ 0) × (local ≡ true) × (mostLocal < g .pages)
 unfolding format
 format-fault g false image n p e = clash (sym (simp (refuse-true, then-ok) at e))
-format-fault g true image n p e = go (ltb (g .pages) 32) refl e
+format-fault g true image n p e = go (leb (g .pages) mostLocal) refl e
   where
-    go : (t : Bool) → ltb (g .pages) 32 ≡ t → andAfter (refuse-unless t 4 0) (ok (play g (formatWrites g (emptyImage g true)) image)) ≡ err n p
-        → (n ≡ 4) × (p ≡ 0) × (true ≡ true) × (32 ≤ g .pages)
+    go : (t : Bool) → leb (g .pages) mostLocal ≡ t → andAfter (refuse-unless t 4 0) (ok (play g (formatWrites g (emptyImage g true)) image)) ≡ err n p
+        → (n ≡ 4) × (p ≡ 0) × (true ≡ true) × (mostLocal < g .pages)
     go true q e = clash (sym (simp (refuse-true, then-ok) at e))
     go false q e =
         let r : err 4 0 ≡ err n p = simp (refuse-false, then-err) at e in
         let e₁ : n ≡ 4 = cc in
         let e₂ : p ≡ 0 = cc in
-        (e₁, e₂, refl, omega (arith, ltb-false (g .pages) 32 q))
+        (e₁, e₂, refl, omega (arith, leb-false (g .pages) mostLocal q))

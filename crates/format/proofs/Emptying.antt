@@ -3,7 +3,7 @@ use mathlib.Core.Path.{_≡_, refl, ap, ap₂, sym, _∙_, subst}
 use mathlib.Core.Bool.{Bool, true, false, not, _||_}
 use mathlib.Core.List.{List, [], _∷_, _++_, append-nil}
 use Prim.Native.Nat.{ℕ}
-use lib.Dec.{ltb}
+use lib.Dec.{leb}
 use Rattle.geometry.specs.declared.Geometry.{Geometry}
 use Rattle.geometry.specs.ChooseLaws.{choose-true, choose-false}
 use Rattle.geometry.specs.Geometry.{dataCapacity, bitmapSize, Valid, Fit}
@@ -16,7 +16,7 @@ use Rattle.rules.specs.PageSetLaws.{range-le}
 use Rattle.rules.specs.Chain.{Link, linked, spread, pagesFor}
 use Rattle.rules.specs.ChainLaws.{length-spread}
 use Rattle.rules.specs.Tree.{inRoot, inFile}
-use Rattle.rules.specs.Control.{rootControl, placeBytes, localAllowed}
+use Rattle.rules.specs.Control.{rootControl, placeBytes, mostLocal, localAllowed}
 use Rattle.rules.specs.Bitmap.{bitmapFrom, refill}
 use Rattle.rules.specs.BitmapLaws.{length-bitmap, bytes-bitmap, refill-same}
 use Rattle.rules.specs.OwnerLaws.{Represents}
@@ -97,7 +97,7 @@ module _ (g : Geometry) (local : Bool) (image : List ℕ) (t : Bool) (e : t ≡ 
   leaves-refused h = simp (sym e ∙ h, refuse-false, then-err)
 
 -- ---- where the bitmap may stand
-pub allowed-local : (g : Geometry) (local : Bool) → local ≡ true → ltb (g .pages) 32 ≡ (not local || localAllowed g)
+pub allowed-local : (g : Geometry) (local : Bool) → local ≡ true → leb (g .pages) mostLocal ≡ (not local || localAllowed g)
 allowed-local g local h = rw h refl
 
 pub allowed-file : (g : Geometry) (local : Bool) → local ≡ false → true ≡ (not local || localAllowed g)

@@ -5,13 +5,13 @@ use geometry::BITMAP_FIELD_BYTES;
 use geometry::BITMAP_FIELD_END;
 use geometry::BITMAP_FIELD_PAST;
 use geometry::Geometry;
-use geometry::LEAST_FILE_PAGES;
 use geometry::LOCAL_BITMAP;
 use geometry::MAP_ADDRESS_AT;
 use geometry::MARKER;
 use geometry::MARKER_BYTES;
 use geometry::MOST_CONTROL_BYTES;
 use geometry::MOST_DATA_BYTES;
+use geometry::MOST_LOCAL_PAGES;
 use geometry::Shape;
 use geometry::TAKEN;
 use volume::Edited;
@@ -176,12 +176,12 @@ fn is_allowed(g: Geometry, local: bool) -> bool
     ensures { λ r. ⌜ r ≡ (not local || localAllowed g) ⌝ }
 {
     if local {
-        return g.pages < LEAST_FILE_PAGES;
+        return g.pages <= MOST_LOCAL_PAGES;
     }
     true
 }
 
-// Formats an image whose geometry is known: 4 for a local bitmap with N of 32 or more.
+// Formats an image whose geometry is known: 4 for a local bitmap with N above 32.
 fn format_in(image: &mut [u8], g: Geometry, owners: &mut [u16], local: bool) -> Edited
     requires { ⌜ Fit g (now image) ⌝ }
     requires { ⌜ length (now owners) ≡ g .pages ⌝ }

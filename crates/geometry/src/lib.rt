@@ -91,8 +91,8 @@ pub const MARKER: usize = 0xA9;
 // Bitmap control: bit 7 says that the four bytes are the bitmap; clear, they place a bitmap file. Bit 0 is work in progress.
 pub const LOCAL_BITMAP: u8 = 128;
 
-// The least page count that needs a bitmap file: fewer pages may have their bitmap in the root's control field.
-pub const LEAST_FILE_PAGES: usize = 32;
+// The most pages whose bitmap may stand in the root's control field; more need a bitmap file.
+pub const MOST_LOCAL_PAGES: usize = 32;
 
 // Levels of subdirectories below the root.
 pub const MOST_LEVELS: usize = 8;

@@ -2,7 +2,7 @@
 use mathlib.Core.Path.{_≡_}
 use mathlib.Core.Bool.{Bool}
 use mathlib.Core.List.{List, _++_}
-use Prim.Native.Nat.{ℕ, _<_}
+use Prim.Native.Nat.{ℕ, _<_, _≤_}
 use lib.ListN.{length, drop}
 use Rattle.geometry.specs.declared.Geometry.{Geometry}
 use Rattle.geometry.specs.Geometry.{bitmapSize}
@@ -12,7 +12,7 @@ use Rattle.packet.specs.Judged.{judged}
 use Rattle.rules.specs.PageSets.{Once}
 use Rattle.rules.specs.Chain.{Link, pages, first, content, linked}
 use Rattle.rules.specs.Tree.{Items, startOf, directoryLinks, Map, inRoot, inFile}
-use Rattle.rules.specs.Control.{rootControl}
+use Rattle.rules.specs.Control.{rootControl, mostLocal}
 use Rattle.rules.specs.Bitmap.{mapSize, bitmapOf, refill}
 use Rattle.rules.specs.WellFormed.{Stand, IsDirectory}
 use Rattle.rules.specs.Writes.{mapWrites}
@@ -62,7 +62,7 @@ WritesFile g table start before after = (ls : List Link) → FileStands g (viewO
 
 -- ---- the bitmap where the root places it
 abbrev pub MapStands : Geometry → View → Map → Type 0
-MapStands g v inRoot = g .pages < 32
+MapStands g v inRoot = g .pages ≤ mostLocal
 MapStands g v (inFile ls) = FileStands g v (first ls) ls × (length (content ls) ≡ bitmapSize g)
 
 -- the root's chain and the bitmap's pages stand, with these bits

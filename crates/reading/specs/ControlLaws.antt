@@ -7,7 +7,7 @@ use native.Mathlib.Omega.{arith}
 use lib.Dec.{leb}
 use lib.ListN.{length, getD, take, drop, replicate, length-append, length-drop, length-replicate, take-append-drop}
 use lib.Seq.{take-at, drop-at, getD-at, take-add, drop-drop, drop-cons, take-all, length-take-le}
-use borrow.Author.Tests.{leb-true, leb-false, ltb-true, eqb-true, le-leb, lt-ltb, eq-eqb}
+use borrow.Author.Tests.{leb-true, leb-false, eqb-true, le-leb, eq-eqb}
 use Rattle.geometry.specs.declared.Geometry.{Geometry}
 use Rattle.geometry.specs.Choose.{choose}
 use Rattle.geometry.specs.ChooseLaws.{choose-true, choose-false}
@@ -19,7 +19,7 @@ use Rattle.rules.specs.ResultLaws.{ok-inj, on-refuse, refuse-inv, then-ok, refu
 use Rattle.rules.specs.Chain.{Link, first}
 use Rattle.rules.specs.Tree.{Map, inRoot, inFile}
 use Rattle.rules.specs.Control.{marker, placeBytes, bitmapField, rootControl, wholeEntries}
-use Rattle.rules.specs.Control.{Head, controlAt, fieldAt, localAllowed, placeZeros, headOf, mapStart, mapCount}
+use Rattle.rules.specs.Control.{Head, controlAt, fieldAt, mostLocal, localAllowed, placeZeros, headOf, mapStart, mapCount}
 use Rattle.reading.specs.ByteLaws.{number-back, bytes-are, number-front, byte-at, zero-bytes, zero-number}
 
 -- ---- whole entries
@@ -65,7 +65,7 @@ headFor n bits m = record { local = isLocal m; field = bitmapField n bits m }
 
 -- the map's numbers fit its field
 abbrev pub MapFits : Geometry → List ℕ → Map → Type 0
-MapFits g bits inRoot = (g .pages < 32) × (length bits ≡ 4)
+MapFits g bits inRoot = (g .pages ≤ mostLocal) × (length bits ≡ 4)
 MapFits g bits (inFile ls) = (first ls < 256 ^ g .width) × (length ls < 256 ^ g .width)
 
 pub control-size : (g : Geometry) → controlSize g ≡ 6 + g .width
@@ -109,7 +109,7 @@ module _ (g : Geometry) (one : 1 ≤ g .width) (two : g .width ≤ 2) where
   pub head-written : (bits : List ℕ) (m : Map) (rest : List ℕ) → MapFits g bits m
       → headOf g (rootControl (g .width) bits m ++ rest) ≡ ok (headFor (g .width) bits m)
   unfolding rootControl
-  head-written bits inRoot rest f = head-parts 128 bits rest (f .1) refl (simp choose-true (lt-ltb (g .pages) 32 (f .0)))
+  head-written bits inRoot rest f = head-parts 128 bits rest (f .1) refl (simp choose-true (le-leb (g .pages) mostLocal (f .0)))
   head-written bits (inFile ls) rest f =
       head-parts 0 (placeBytes (g .width) (first ls) (length ls)) rest (length-place (first ls) (length ls)) refl (simp (choose-false, place-zeros))
 
@@ -171,7 +171,7 @@ place-read n field one two h bytes z =
 pub record HeadRead (g : Geometry) (b : List ℕ) (h : Head) : Type 0 where
   pub size : length (h .field) ≡ 4
   pub bytes : Bytes (h .field)
-  pub inside : h .local ≡ true → (g .pages < 32) × (take (controlSize g) b ≡ rootControl (g .width) (h .field) inRoot)
+  pub inside : h .local ≡ true → (g .pages ≤ mostLocal) × (take (controlSize g) b ≡ rootControl (g .width) (h .field) inRoot)
   pub outside : h .local ≡ false → (bits : List ℕ) (ls : List Link) → first ls ≡ mapStart (g .width) h → length ls ≡ mapCount (g .width) h
       → take (controlSize g) b ≡ rootControl (g .width) bits (inFile ls)
 
@@ -201,7 +201,7 @@ module _ (g : Geometry) (one : 1 ≤ g .width) (two : g .width ≤ 2) (b : List 
       size = field-length;
       bytes = field-bytes;
       inside = λ e. (
-        ltb-true (g .pages) 32 (simp (e, choose-true) at t),
+        leb-true (g .pages) mostLocal (simp (e, choose-true) at t),
         head-cut 128 (fieldAt (g .width) b) (omega (arith, byte-at (g .width + 1) b bytes, leb-true 128 (controlAt (g .width) b) e)) refl,
       );
       outside = λ e bits ls s k.

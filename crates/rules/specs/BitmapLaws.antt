@@ -9,7 +9,9 @@ use native.Mathlib.Decide.{decLt}
 use lib.ListN.{length, getD, take, drop, length-append, length-drop, take-append-drop}
 use lib.Seq.{take-at, drop-at}
 use borrow.Author.Tests.{eqb-true, eq-eqb, ne-eqb}
+use Rattle.geometry.specs.declared.Geometry.{Geometry}
 use Rattle.geometry.specs.ChooseLaws.{choose-true, choose-false}
+use Rattle.geometry.specs.Geometry.{bitmapSize}
 use Rattle.geometry.specs.Number.{Bytes}
 use Rattle.rules.specs.Result.{ok, refuse-unless}
 use Rattle.rules.specs.ResultLaws.{refuse-inv, refuse-true}
@@ -17,9 +19,10 @@ use Rattle.rules.specs.PageSets.{bit, mem}
 use Rattle.rules.specs.PageSetLaws.{same, other, hits}
 use Rattle.rules.specs.Chain.{Link, link, pages, first, content}
 use Rattle.rules.specs.ChainLaws.{no-bytes}
-use Rattle.rules.specs.Tree.{Map, inRoot, inFile, mapPages}
-use Rattle.rules.specs.Bitmap.{bitAt, lowestDifference, byteFor, bitmapFrom, refill, remap}
+use Rattle.rules.specs.Tree.{Map, inRoot, inFile, mapPages, Image, used}
+use Rattle.rules.specs.Bitmap.{bitAt, lowestDifference, byteFor, bitmapFrom, mapSize, bitmapOf, refill, remap}
 use Rattle.rules.specs.Check.{judgeBits}
+use Rattle.rules.specs.WellFormed.{MapHolds, WellFormed}
 
 bit-le : (b : Bool) → bit b ≤ 1
 bit-le true = omega arith
@@ -67,6 +70,15 @@ bits-bitmap used n k h =
     let e : 0 + 8 * (k / 8) + k % 8 ≡ k = omega arith in
     ap (λ (x : ℕ). x / 2 ^ (k % 8) % 2) (byte-at used 0 n (k / 8) (omega arith))
     ∙ byte-bit used (0 + 8 * (k / 8)) 8 (k % 8) (omega arith) ∙ ap (λ (x : ℕ). bit (mem x used)) e
+
+-- every page of a well-formed image has its bit
+page-has-bit : (g : Geometry) (bits : List ℕ) (m : Map) → MapHolds g bits m → g .pages ≤ 8 * mapSize g m
+unfolding bitmapSize
+page-has-bit g bits inRoot h = omega (arith, h)
+page-has-bit g bits (inFile ls) h = omega arith
+
+pub page-bits : (g : Geometry) (image : List ℕ) (i : Image) → WellFormed g image i → (k : ℕ) → k < g .pages → bitAt (bitmapOf g (used i) (i .map)) k ≡ bit (mem k (used i))
+page-bits g image i w k h = bits-bitmap (used i) (mapSize g (i .map)) k (omega (arith, h, page-has-bit g _ (i .map) (w .holds .map)))
 
 -- ---- the lowest bit that differs
 pub record IsLowest (bits used : List ℕ) (k n d : ℕ) : Type 0 where

@@ -2,7 +2,7 @@
 use mathlib.Core.Bool.{Bool, _&&_}
 use mathlib.Core.List.{List, _∷_, _++_}
 use Prim.Native.Nat.{ℕ, zero, suc, _+_, _-_, _*_, _%_}
-use lib.Dec.{leb, ltb, eqb}
+use lib.Dec.{leb, eqb}
 use lib.ListN.{length, getD, take, drop, replicate}
 use Rattle.geometry.specs.declared.Geometry.{Geometry}
 use Rattle.geometry.specs.Choose.{choose}
@@ -58,9 +58,13 @@ controlAt n b = getD b (n + 1) 0
 abbrev pub fieldAt : ℕ → List ℕ → List ℕ
 fieldAt n b = take 4 (drop (n + 2) b)
 
--- a local bitmap is allowed only for N below 32
+-- the four bytes of a local bitmap have a bit for 32 pages
+abbrev pub mostLocal : ℕ
+mostLocal = 32
+
+-- a local bitmap is allowed for N up to 32
 abbrev pub localAllowed : Geometry → Bool
-localAllowed g = ltb (g .pages) 32
+localAllowed g = leb (g .pages) mostLocal
 
 -- a bitmap file's place begins with zeros for n = 1
 abbrev pub placeZeros : ℕ → List ℕ → Bool

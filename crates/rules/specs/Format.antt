@@ -33,7 +33,7 @@ formatWrites g i =
     let bits = bitmapOf g (used i) (i .map) in
     linked (directoryLinks g (rootControl (g .width) bits (i .map)) (i .tree)) ++ mapWrites g bits (i .tree) (i .map)
 
--- the image after a format; 4 for a local bitmap with N of 32 or more
+-- the image after a format; 4 for a local bitmap with N above 32
 unfoldable pub format : Geometry → Bool → List ℕ → Res (List ℕ)
 format g local image = do
   refuse-unless (not local || localAllowed g) 4 0

@@ -2,7 +2,7 @@
 use mathlib.Core.Path.{_≡_}
 use mathlib.Core.Bool.{true}
 use mathlib.Core.List.{List, [], _∷_, _++_}
-use Prim.Native.Nat.{ℕ, zero, suc, _^_, _<_}
+use Prim.Native.Nat.{ℕ, zero, suc, _^_, _<_, _≤_}
 use lib.ListN.{length}
 use Rattle.geometry.specs.declared.Geometry.{Geometry}
 use Rattle.geometry.specs.Geometry.{Fit}
@@ -12,7 +12,7 @@ use Rattle.rules.specs.PageSets.{Once, Within}
 use Rattle.rules.specs.Chain.{content, linked}
 use Rattle.rules.specs.Names.{validName, fileNumber, directoryNumber}
 use Rattle.rules.specs.Tree.{Label, Items, end, page, file, dir, startOf, directoryLinks, keys, Map, inRoot, inFile, Image, used}
-use Rattle.rules.specs.Control.{rootControl, subControl, Above, theRoot}
+use Rattle.rules.specs.Control.{rootControl, mostLocal, subControl, Above, theRoot}
 use Rattle.rules.specs.Bitmap.{bitmapOf, mapSize}
 
 -- these packets stand in the image
@@ -63,9 +63,9 @@ Entries levels (file l ls t) = Named l × (fileNumber (l .extension) ≡ true) �
 Entries levels (dir l d t) =
     Named l × (directoryNumber (l .extension) ≡ true) × IsDirectory d × Once (keys d) × Under levels (λ below. Entries below d) × Entries levels t
 
--- a local bitmap only for N below 32; a bitmap file holds the bitmap's bytes
+-- a local bitmap only for N up to 32; a bitmap file holds the bitmap's bytes
 abbrev pub MapHolds : Geometry → List ℕ → Map → Type 0
-MapHolds g bits inRoot = g .pages < 32
+MapHolds g bits inRoot = g .pages ≤ mostLocal
 MapHolds g bits (inFile ls) = (0 < length ls) × (content ls ≡ bits)
 
 -- all but the agreement of the bitmap: well formed with any bitmap bytes

@@ -6,7 +6,7 @@ use Prim.Native.Nat.{ℕ, suc, _+_, _-_, _≤_, _<_}
 use native.Mathlib.Omega.{arith}
 use lib.Seq.{drop-drop, take-take}
 use lib.ListN.{length, getD, take, drop, replicate, length-append, length-replicate}
-use borrow.Author.Tests.{ltb-true, leb-true}
+use borrow.Author.Tests.{leb-true}
 use Rattle.geometry.specs.declared.Geometry.{Geometry}
 use Rattle.geometry.specs.Choose.{choose}
 use Rattle.geometry.specs.ChooseLaws.{choose-true, choose-false}
@@ -26,7 +26,7 @@ use Rattle.rules.specs.PageSetLaws.{count-append}
 use Rattle.rules.specs.Chain.{Link, content, packetAt, anyPage}
 use Rattle.rules.specs.ChainLaws.{packet-good, length-pages, walk-sound}
 use Rattle.rules.specs.Tree.{Items, ownPages, innerPages, allPages, Map, inRoot, inFile, mapPages, used}
-use Rattle.rules.specs.Control.{theRoot, Head, headOf, mapStart, mapCount, rootPage, localAllowed, placeZeros, fieldAt}
+use Rattle.rules.specs.Control.{theRoot, Head, headOf, mapStart, mapCount, rootPage, mostLocal, localAllowed, placeZeros, fieldAt}
 use Rattle.rules.specs.Owners.{own, owners}
 use Rattle.rules.specs.OwnerLaws.{nonzero, Represents, represents-none, represents-own, represents-length, inUse, length-own, represents-owners}
 use Rattle.rules.specs.Check.{Scan, rawBits, judgeBits, judgeMap, judgeDirectory, judgeSub, scan, check, scanWith, judgeMapFile}
@@ -59,12 +59,12 @@ head-page g b n p e =
     on-fault _ _ _ _ n p e (λ q. q) λ e. on-fault _ _ _ _ n p e (λ q. q) λ e. clash (sym e)
 
 -- a bitmap in the root is for few pages
-head-local : (g : Geometry) (b : List ℕ) (h : Head) → headOf g b ≡ ok h → h .local ≡ true → g .pages < 32
+head-local : (g : Geometry) (b : List ℕ) (h : Head) → headOf g b ≡ ok h → h .local ≡ true → g .pages ≤ mostLocal
 unfolding headOf
 head-local g b h e l =
     on-refuse _ _ _ _ _ e λ g₁ e. on-refuse _ _ _ _ _ e λ g₂ e. on-refuse _ _ _ _ _ e λ g₃ e. on-refuse _ _ _ _ _ e λ g₄ e. on-refuse _ _ _ _ _ e λ g₅ e. on-refuse _ _ _ _ _ e λ g₆ e.
     let q = ap (λ (x : Head). x .local) (ok-inj e) ∙ l in
-    ltb-true (g .pages) 32 (sym (choose-true _ _) ∙ ap (λ (x : Bool). choose x (localAllowed g) (placeZeros (g .width) (fieldAt (g .width) b))) (sym q) ∙ g₆)
+    leb-true (g .pages) mostLocal (sym (choose-true _ _) ∙ ap (λ (x : Bool). choose x (localAllowed g) (placeZeros (g .width) (fieldAt (g .width) b))) (sym q) ∙ g₆)
 
 -- ---- what the root's control field says
 module _ (g : Geometry) (v : View) where
@@ -139,7 +139,7 @@ module _ (g : Geometry) (v : View) where
     pub head : Head
     pub is-head : IsHead head
     pub scan-is : scan g v ≡ rest head inRoot
-    pub few : g .pages < 32
+    pub few : g .pages ≤ mostLocal
 
   pub scan-local : (r : Root) → r ≡ rootOf g (v 0) → r ≡ root.Local → InRoot
   unfolding judgeMap

@@ -8,7 +8,7 @@ use crate::packet;
 use crate::path::{self, Path};
 use crate::tree::{Bitmap, Content, Directory, Entry, Tree};
 
-/// Writes page 0 and, if asked, the bitmap file from page 1 upward; a local bitmap with N of 32 or more is 4.
+/// Writes page 0 and, if asked, the bitmap file from page 1 upward; a local bitmap with N above 32 is 4.
 pub(crate) fn format(geometry: &Geometry, image: &mut [u8], local: bool) -> Result<(), Answer> {
     if local && !geometry.allows_local_bitmap() {
         return Err(Fault::Control.at(0));

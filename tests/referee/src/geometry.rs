@@ -1,4 +1,7 @@
-//! Sizes that follow from page length and page count (document 01, "Geometry").
+//! Sizes that follow from page length and page count (document 01, "Geometry"; A3).
+
+/// The greatest N with a local bitmap: its four bytes have a bit for each page.
+pub const MOST_LOCAL_PAGES: usize = 32;
 
 /// A page length P and a page count N within their limits.
 #[derive(Clone, Copy, Debug, PartialEq, Eq)]
@@ -87,9 +90,9 @@ impl Geometry {
         }
     }
 
-    /// Whether a local bitmap is allowed: only for N below 32.
+    /// Whether a local bitmap is allowed, for check and format: only for N up to 32.
     pub fn allows_local_bitmap(&self) -> bool {
-        self.page_count < 32
+        self.page_count <= MOST_LOCAL_PAGES
     }
 
     /// A page number stored low byte first in the first n of `bytes`; missing bytes count as zero.
@@ -127,6 +130,15 @@ mod tests {
         assert_eq!(sizes(32, 256), Some([28, 7, 7, 3, 4]));
         assert_eq!(sizes(32, 257), Some([27, 9, 8, 2, 3]));
         assert_eq!(sizes(128, 16).map(|sizes| sizes[4]), Some(17));
+    }
+
+    #[test]
+    fn local_bitmap_is_allowed_up_to_32_pages() {
+        for page_count in 2..=65_535 {
+            let geometry = Geometry::new(32, page_count);
+            let allowed = geometry.map(|geometry| geometry.allows_local_bitmap());
+            assert_eq!(allowed, Some(page_count <= 32), "{page_count} pages");
+        }
     }
 
     #[test]

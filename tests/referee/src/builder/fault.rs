@@ -282,7 +282,7 @@ impl<'a> Alteration<'a> {
         Some(page)
     }
 
-    /// 4 on page 0: too short, map address, bits 1 to 6, the two zero bytes, or local with N of 32 or more.
+    /// 4 on page 0: too short, map address, bits 1 to 6, the two zero bytes, or local with N above 32.
     fn root_control(&mut self) -> Option<usize> {
         let control = self.bitmap_control();
         let bits = self.nonzero();
@@ -300,7 +300,7 @@ impl<'a> Alteration<'a> {
                 let place = control + 1 + self.rng.below(2);
                 self.flip(0, place, bits);
             }
-            4 if self.built.page_count >= 32 => self.flip(0, control, 0x80),
+            4 if !self.pages.geometry.allows_local_bitmap() => self.flip(0, control, 0x80),
             _ => return None,
         }
         Some(0)

@@ -36,12 +36,12 @@ returns-6 c =
 returns-7 : tie.Need-returns-7
 returns-7 c =
     root-local _ _ _ (c .before .before .before .before .before .before .before .before .before .before .before .before .control-size .ensures .0) (c .before .before .before .before .before .before .before .before .before .before .before .if1 .left) _ (c .before .before .before .before .before .before .before .before .before .wide .ensures .0) (c .before .before .before .before .before .before .before .before .if2 .left) (c .before .before .before .before .before .before .if3 .left) _
-    (c .before .before .before .before .before .number-at .ensures .0) (c .before .before .before .before .if4 .left) (c .before .before .before .if5 .left) (c .before .before .if6 .left) (c .if7 .taken)
+    (c .before .before .before .before .before .number-at .ensures .0) (c .before .before .before .before .if4 .left) (c .before .before .before .if5 .left) (c .before .before .if6 .left) (omega (arith, c .if7 .taken))
 
 returns-8 : tie.Need-returns-8
 returns-8 c =
     root-large _ _ _ (c .before .before .before .before .before .before .before .before .before .before .before .before .control-size .ensures .0) (c .before .before .before .before .before .before .before .before .before .before .before .if1 .left) _ (c .before .before .before .before .before .before .before .before .before .wide .ensures .0) (c .before .before .before .before .before .before .before .before .if2 .left) (c .before .before .before .before .before .before .if3 .left) _
-    (c .before .before .before .before .before .number-at .ensures .0) (c .before .before .before .before .if4 .left) (c .before .before .before .if5 .left) (c .before .before .if6 .left) (c .if7 .left)
+    (c .before .before .before .before .before .number-at .ensures .0) (c .before .before .before .before .if4 .left) (c .before .before .before .if5 .left) (c .before .before .if6 .left) (omega (arith, c .if7 .left))
 
 pub root-control-spec : {M : Type 1} → statement M
 root-control-spec =
