@@ -411,8 +411,8 @@ fn growth(full: Full, words: &str) {
 fn print_method() {
     println!("Library time over the second program's, built for release.");
     println!(
-        "Check sums: both programs work four bits at a time over a table of 16 numbers, \
-         each with its own table."
+        "Check sums: both programs are written bit by bit. The library mixes a byte in and takes eight steps, of which its compiler \
+         makes a table of 256; the second program takes in a bit of the byte at each step, without a table."
     );
     println!(
         "Repeated names: the library searches the directory's earlier entries, \

@@ -1,33 +1,57 @@
 //! The check sum: known vectors, and the pages that document 001 prints.
 //!
-//! Programs: the library and the second program, each sum by both; and the sum worked bit by bit here.
+//! Programs: the library and the second program, each sum by both; and the sum worked here a whole byte at a time, from a table of 256.
 //! The archive is made by `rt staticlib owfs`.
 
 use common::agreed::{check_bytes, crc16};
 use referee::rng::Rng;
 
-/// The register after `bytes`, worked bit by bit: each bit that leaves it and is 1 subtracts the polynomial.
-fn bit_by_bit(start: u16, bytes: &[u8]) -> u16 {
+/// What each byte that leaves adds to the register: the sum of what its bits add. The last bit to leave adds the polynomial, each bit before
+/// it one step more of that.
+fn table_of_256() -> [u16; 256] {
+    let mut of_bit = [0xA001_u16; 8];
+    for bit in (0..7).rev() {
+        let later = of_bit[bit + 1];
+        of_bit[bit] = (later >> 1) ^ if later & 1 == 1 { 0xA001 } else { 0 };
+    }
+    let mut table = [0; 256];
+    for (byte, place) in table.iter_mut().enumerate() {
+        for (bit, worth) in of_bit.iter().enumerate() {
+            if byte >> bit & 1 == 1 {
+                *place ^= worth;
+            }
+        }
+    }
+    table
+}
+
+/// The register after `bytes`, worked a byte at a time.
+fn byte_by_byte(table: &[u16; 256], start: u16, bytes: &[u8]) -> u16 {
     let mut register = start;
     for byte in bytes {
-        for bit in 0..8 {
-            let leaving = (register ^ u16::from(byte >> bit)) & 1;
-            register = (register >> 1) ^ (leaving * 0xA001);
-        }
+        let [low, high] = register.to_le_bytes();
+        register = u16::from(high) ^ table[usize::from(low ^ byte)];
     }
     register
 }
 
 #[test]
-fn four_bits_at_a_time_is_bit_by_bit() {
+fn bit_by_bit_is_byte_by_byte() {
+    let table = table_of_256();
     for start in 0..=u16::MAX {
-        assert_eq!(crc16(start, &[0x5A]), bit_by_bit(start, &[0x5A]));
+        assert_eq!(crc16(start, &[0x5A]), byte_by_byte(&table, start, &[0x5A]));
+    }
+    for byte in 0..=u8::MAX {
+        for start in [0x0000, 0x90F1, 0xFFFF] {
+            assert_eq!(crc16(start, &[byte]), byte_by_byte(&table, start, &[byte]));
+        }
     }
     let mut rng = Rng::new(0x27);
     for length in 0..600 {
         let bytes = rng.bytes(length);
         let start = rng.next_u64() as u16;
-        assert_eq!(crc16(start, &bytes), bit_by_bit(start, &bytes), "{length}");
+        let expected = byte_by_byte(&table, start, &bytes);
+        assert_eq!(crc16(start, &bytes), expected, "{length}");
     }
 }
 

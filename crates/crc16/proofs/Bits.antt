@@ -1,4 +1,4 @@
--- Exclusive or, digit by digit: it is associative, and flipping one bit is an exclusive or with a power of two.
+-- Exclusive or, digit by digit: it is associative, flipping one bit is an exclusive or with a power of two, and the three flips of a bit step are one with A001h.
 use mathlib.Core.Path.{_≡_, refl, sym, ap, ap₂, _∙_}
 use Prim.Native.Nat.{ℕ, zero, suc, _+_, _-_, _*_, _/_, _%_, _^_, _<_}
 use native.Mathlib.Nat.{mod-lt}
@@ -28,10 +28,10 @@ differ-assoc (suc zero) (suc zero) (suc (suc z)) h k l = absurd (omega arith)
 differ-assoc (suc zero) (suc (suc y)) z h k l = absurd (omega arith)
 differ-assoc (suc (suc x)) y z h k l = absurd (omega arith)
 
-pub xor-half : (a b : ℕ) → bitXor a b / 2 ≡ bitXor (a / 2) (b / 2)
+xor-half : (a b : ℕ) → bitXor a b / 2 ≡ bitXor (a / 2) (b / 2)
 xor-half a b = rw (xor-step a b) (digits-div (bitXor (a / 2) (b / 2)) (differ-bit (a % 2) (b % 2) (is-bit a) (is-bit b)))
 
-pub xor-odd : (a b : ℕ) → bitXor a b % 2 ≡ differ (a % 2) (b % 2)
+xor-odd : (a b : ℕ) → bitXor a b % 2 ≡ differ (a % 2) (b % 2)
 xor-odd a b = rw (xor-step a b) (digits-mod (bitXor (a / 2) (b / 2)) (differ-bit (a % 2) (b % 2) (is-bit a) (is-bit b)))
 
 xor-assoc : (a b c : ℕ) → bitXor (bitXor a b) c ≡ bitXor a (bitXor b c)
@@ -57,6 +57,6 @@ flip-xor k x =
     by-digit (x / 2 ^ k % 2) x (2 ^ k) (bitXor x (2 ^ k)) (is-bit (x / 2 ^ k))
     (ap (λ (y : ℕ). bitXor x (2 ^ k) + y * 2) (sym (one-bit k x)) ∙ xor-add-and x (2 ^ k))
 
--- a flip passes an exclusive or
-pub flip-past : (k h x : ℕ) → flipBit k (bitXor h x) ≡ bitXor h (flipBit k x)
-flip-past k h x = flip-xor k (bitXor h x) ∙ xor-assoc h x (2 ^ k) ∙ sym (ap (bitXor h) (flip-xor k x))
+-- the three flips of a bit step are one exclusive or with A001h
+pub flips : (x : ℕ) → flipBit 15 (flipBit 13 (flipBit 0 x)) ≡ bitXor x 0xA001
+flips x = simp flip-xor (xor-assoc (bitXor x 1) 0x2000 0x8000 ∙ xor-assoc x 1 0xA000)

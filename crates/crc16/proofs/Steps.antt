@@ -1,29 +1,37 @@
--- Four bit steps at once: what stands above the low four bits goes down by four and meets what the four alone give.
+-- A bit step by the bit that leaves, and the eight of a byte counted up.
 use mathlib.Core.Path.{_≡_, refl, sym, ap, _∙_}
-use Prim.Native.Nat.{ℕ, zero, suc, _*_, _/_, _%_}
-use native.Mathlib.Nat.{mod-lt, div-add-mod', mul-mod-left, mul-div-cancel}
+use Prim.Native.Nat.{ℕ, suc, _+_, _-_, _/_, _%_, _≤_, _<_}
+use native.Mathlib.Nat.{mod-lt}
 use native.Mathlib.Omega.{arith}
-use lib.Bits.{bitXor, xor-shifted}
+use lib.Bits.{bitXor}
 use lib.Dec.{lit<}
-use Rattle.crc16.specs.Crc16.{byBit, flipBit, bitStep, bitSteps}
-use Rattle.crc16.proofs.Bits.{xor-half, xor-odd, flip-past}
+use Rattle.crc16.specs.Crc16.{bitStep, bitSteps}
+use Rattle.crc16.proofs.Bits.{flips}
 
-by-past : (b h x y z : ℕ) → y ≡ bitXor h z → byBit b (bitXor h x) y ≡ bitXor h (byBit b x z)
-by-past zero h x y z e = refl
-by-past (suc b) h x y z e = e
-
-step-past : (h l : ℕ) → bitStep (bitXor (h * 2) l) ≡ bitXor h (bitStep l)
+-- a 1 leaves
+pub odd-step : (r : ℕ) → r % 2 ≡ 1 → bitXor (r / 2) 0xA001 ≡ bitStep r
 unfolding bitStep
-step-past h l =
-    simp (xor-half, xor-odd, flip-past, mul-mod-left, mul-div-cancel h {n = 2} (lit< tt))
-    (by-past (l % 2) h (l / 2) (bitXor h (flipBit 15 (flipBit 13 (flipBit 0 (l / 2))))) (flipBit 15 (flipBit 13 (flipBit 0 (l / 2)))) refl)
+odd-step r h = rw h (sym (flips (r / 2)))
 
-four-past : (h l : ℕ) → bitSteps 4 (bitXor (h * 2 * 2 * 2 * 2) l) ≡ bitXor h (bitSteps 4 l)
+-- a 0 leaves
+pub even-step : (r : ℕ) → (r % 2 ≡ 1 → ⊥) → r / 2 ≡ bitStep r
+unfolding bitStep
+even-step r h =
+    let zero-leaves : r % 2 ≡ 0 = omega (arith, h, mod-lt r {m = 2} (lit< tt)) in
+    rw zero-leaves refl
+
+-- k of the eight bit steps of x are done, and r stands in the register
+abbrev pub After : ℕ → ℕ → ℕ → Type 0
+After x k r = (k ≤ 8) × (bitSteps 8 x ≡ bitSteps (8 - k) r)
+
+pub one-more : (x k r next : ℕ) → k < 8 → After x k r → next ≡ bitStep r → After x (k + 1) next
 unfolding bitSteps
-four-past h l = simp step-past
+one-more x k r next h a e =
+    let one-left : 8 - k ≡ suc (8 - (k + 1)) = omega arith in
+    (omega arith, a .1 ∙ ap (λ (n : ℕ). bitSteps n r) one-left ∙ sym (ap (bitSteps (8 - (k + 1))) e))
 
-pub four-steps : (r : ℕ) → bitSteps 4 r ≡ bitXor (r / 16) (bitSteps 4 (r % 16))
-four-steps r =
-    let e : r / 16 * 16 ≡ r / 16 * 2 * 2 * 2 * 2 = omega arith in
-    ap (bitSteps 4) (sym (xor-shifted (r / 16) 4 (r % 16) (mod-lt r (lit< tt)) ∙ div-add-mod' r 16))
-    ∙ ap (λ (x : ℕ). bitSteps 4 (bitXor x (r % 16))) e ∙ four-past (r / 16) (r % 16)
+pub all-eight : (x k r : ℕ) → 8 ≤ k → After x k r → r ≡ bitSteps 8 x
+unfolding bitSteps
+all-eight x k r h a =
+    let none-left : 8 - k ≡ 0 = omega arith in
+    sym (a .1 ∙ ap (λ (n : ℕ). bitSteps n r) none-left)

@@ -3,38 +3,22 @@
 /// The polynomial x^16 + x^15 + x^2 + 1 with its bits reversed, since the least significant bit comes first.
 const POLYNOMIAL: u16 = 0xA001;
 
-/// The register after four bit steps, for each register below 16.
-const AFTER_FOUR_STEPS: [u16; 16] = after_four_steps();
-
-/// The CRC-16 register after `bytes`, started with `start`, worked four bits at a time and not inverted.
+/// The CRC-16 register after `bytes`, started with `start`, not inverted: the bits of each byte go in one by one, the lowest first.
 pub fn crc16(start: u16, bytes: &[u8]) -> u16 {
     bytes.iter().fold(start, |register, &byte| {
-        four_steps(four_steps(register ^ u16::from(byte)))
+        (0..8).fold(register, |register, bit| data_bit(register, byte >> bit))
     })
 }
 
-/// Four bits of the division: the low four decide what is subtracted from the rest.
-fn four_steps(register: u16) -> u16 {
-    (register >> 4) ^ AFTER_FOUR_STEPS[usize::from(register & 15)]
-}
-
-/// The table of four steps, worked bit by bit.
-const fn after_four_steps() -> [u16; 16] {
-    let mut table = [0; 16];
-    let mut low = 0;
-    while low < table.len() {
-        table[low] = step(step(step(step(low as u16))));
-        low += 1;
-    }
-    table
-}
-
-/// One bit of the division: shift right, and subtract the polynomial if a 1 was shifted out.
-const fn step(register: u16) -> u16 {
-    if register & 1 == 1 {
-        (register >> 1) ^ POLYNOMIAL
+/// The register after the lowest bit of `data`: the bit that leaves is that of the register changed by it; if it is 1, the polynomial is
+/// subtracted from what was shifted.
+fn data_bit(register: u16, data: u8) -> u16 {
+    let leaving = (register ^ u16::from(data)) & 1;
+    let shifted = register >> 1;
+    if leaving == 1 {
+        shifted ^ POLYNOMIAL
     } else {
-        register >> 1
+        shifted
     }
 }
 
