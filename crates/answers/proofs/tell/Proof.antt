@@ -7,19 +7,33 @@ use Rattle.answers.proofs.tell.Statement.{statement}
 use Rattle.answers.proofs.tell.Tie as tie
 
 cast-t6 : tie.Need-cast-t6
-cast-t6 c = omega (arith, small-as TotalsSmall told _ _ (c .before .before .before .before .pre) (c .before .before .answer .given .1))
+cast-t6 c =
+    let at-answer = c .before .before in
+    let start = at-answer .before .before in
+    omega (arith, small-as TotalsSmall told _ _ (start .pre) (at-answer .answer .given .1))
 
 cast-t7 : tie.Need-cast-t7
-cast-t7 c = omega (arith, small-as TotalsSmall told _ _ (c .before .before .before .before .before .pre) (c .before .before .before .answer .given .1))
+cast-t7 c =
+    let at-answer = c .before .before .before in
+    let start = at-answer .before .before in
+    omega (arith, small-as TotalsSmall told _ _ (start .pre) (at-answer .answer .given .1))
 
 cast-t8 : tie.Need-cast-t8
-cast-t8 c = omega (arith, small-as TotalsSmall told _ _ (c .before .before .before .before .before .before .pre) (c .before .before .before .before .answer .given .1))
+cast-t8 c =
+    let at-answer = c .before .before .before .before in
+    let start = at-answer .before .before in
+    omega (arith, small-as TotalsSmall told _ _ (start .pre) (at-answer .answer .given .1))
 
 cast-t10 : tie.Need-cast-t10
-cast-t10 c = omega (arith, small-as TotalsSmall told _ _ (c .before .before .before .pre) (c .before .answer2 .given .1))
+cast-t10 c =
+    let at-answer2 = c .before in
+    let start = at-answer2 .before .before in
+    omega (arith, small-as TotalsSmall told _ _ (start .pre) (at-answer2 .answer2 .given .1))
 
 returns : tie.Need-returns
-returns c = rw (c .before .before .before .before .answer .given .1)
+returns c =
+    let at-answer = c .before .before .before .before in
+    rw (at-answer .answer .given .1)
 
 returns-2 : tie.Need-returns-2
 returns-2 c = rw (c .before .answer2 .given .1)

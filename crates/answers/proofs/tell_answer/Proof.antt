@@ -7,7 +7,10 @@ use Rattle.answers.proofs.tell_answer.Statement.{statement}
 use Rattle.answers.proofs.tell_answer.Tie as tie
 
 cast-t6 : tie.Need-cast-t6
-cast-t6 c = omega (arith, small-as DoneSmall editTold _ _ (c .before .before .before .pre) (c .before .answer .given .1))
+cast-t6 c =
+    let at-answer = c .before in
+    let start = at-answer .before .before in
+    omega (arith, small-as DoneSmall editTold _ _ (start .pre) (at-answer .answer .given .1))
 
 returns : tie.Need-returns
 returns c = rw (c .enum-told .given .1)

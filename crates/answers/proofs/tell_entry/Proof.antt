@@ -7,22 +7,41 @@ use Rattle.answers.proofs.tell_entry.Statement.{statement}
 use Rattle.answers.proofs.tell_entry.Tie as tie
 
 cast-t6 : tie.Need-cast-t6
-cast-t6 c = omega (arith, small-as LineSmall lineTold _ _ (c .before .before .before .before .pre) (c .before .before .answer .given .1))
+cast-t6 c =
+    let at-answer = c .before .before in
+    let start = at-answer .before .before in
+    omega (arith, small-as LineSmall lineTold _ _ (start .pre) (at-answer .answer .given .1))
 
 cast-t9 : tie.Need-cast-t9
-cast-t9 c = omega (arith, small-as LineSmall lineTold _ _ (c .before .before .before .before .before .before .before .pre) (c .before .before .before .before .before .answer .given .1))
+cast-t9 c =
+    let at-answer = c .before .before .before .before .before in
+    let start = at-answer .before .before in
+    omega (arith, small-as LineSmall lineTold _ _ (start .pre) (at-answer .answer .given .1))
 
 cast-t10 : tie.Need-cast-t10
-cast-t10 c = omega (arith, small-as LineSmall lineTold _ _ (c .before .before .before .before .before .before .before .before .pre) (c .before .before .before .before .before .before .answer .given .1))
+cast-t10 c =
+    let at-answer = c .before .before .before .before .before .before in
+    let start = at-answer .before .before in
+    omega (arith, small-as LineSmall lineTold _ _ (start .pre) (at-answer .answer .given .1))
 
 cast-t11 : tie.Need-cast-t11
-cast-t11 c = omega (arith, small-as LineSmall lineTold _ _ (c .before .before .before .before .before .before .before .before .before .pre) (c .before .before .before .before .before .before .before .answer .given .1))
+cast-t11 c =
+    let at-known-told = c .before .before .before .before .before .before in
+    let at-answer = at-known-told .before in
+    let start = at-answer .before .before in
+    omega (arith, small-as LineSmall lineTold _ _ (start .pre) (at-answer .answer .given .1))
 
 cast-t13 : tie.Need-cast-t13
-cast-t13 c = omega (arith, small-as LineSmall lineTold _ _ (c .before .before .before .pre) (c .before .answer2 .given .1))
+cast-t13 c =
+    let at-answer2 = c .before in
+    let start = at-answer2 .before .before in
+    omega (arith, small-as LineSmall lineTold _ _ (start .pre) (at-answer2 .answer2 .given .1))
 
 returns : tie.Need-returns
-returns c = rw (c .before .before .before .before .before .before .before .answer .given .1)
+returns c =
+    let at-known-told = c .before .before .before .before .before .before in
+    let at-answer = at-known-told .before in
+    rw (at-answer .answer .given .1)
 
 returns-2 : tie.Need-returns-2
 returns-2 c = rw (c .before .answer2 .given .1)

@@ -7,10 +7,16 @@ use Rattle.answers.proofs.tell_length.Statement.{statement}
 use Rattle.answers.proofs.tell_length.Tie as tie
 
 cast-t6 : tie.Need-cast-t6
-cast-t6 c = omega (arith, small-as LengthSmall lengthTold _ _ (c .before .before .before .pre) (c .before .answer .given .1))
+cast-t6 c =
+    let at-answer = c .before in
+    let start = at-answer .before .before in
+    omega (arith, small-as LengthSmall lengthTold _ _ (start .pre) (at-answer .answer .given .1))
 
 cast-t8 : tie.Need-cast-t8
-cast-t8 c = omega (arith, small-as LengthSmall lengthTold _ _ (c .before .before .before .pre) (c .before .answer2 .given .1))
+cast-t8 c =
+    let at-answer2 = c .before in
+    let start = at-answer2 .before .before in
+    omega (arith, small-as LengthSmall lengthTold _ _ (start .pre) (at-answer2 .answer2 .given .1))
 
 returns : tie.Need-returns
 returns c = rw (c .before .answer .given .1)

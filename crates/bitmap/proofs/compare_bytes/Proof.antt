@@ -18,23 +18,36 @@ loop-holds c = (omega arith, λ j h. absurd (omega arith))
 
 returns : tie.Need-returns Inv-loop μ-loop
 returns c =
-    let a = c .before .before .before .before .before .before .before .before .args in
-    let l = c .before .before .before .before .before .loop in
-    part-differ (a .bytes .now) _ (a .owners .now) (l .k) (c .before .before .before .before .loop-test .taken) (l .inv .1) (λ e. c .if1 .taken (c .before .before .bit-of .ensures ∙ e ∙ sym (c .before .in-use .ensures .0)))
+    let at-in-use = c .before in
+    let at-bit-of = at-in-use .before in
+    let at-loop-test = at-bit-of .before .before in
+    let at-loop = at-loop-test .before in
+    let start = at-loop .before .before .before in
+    let a = start .args in
+    let l = at-loop .loop in
+    part-differ (a .bytes .now) _ (a .owners .now) (l .k) (at-loop-test .loop-test .taken) (l .inv .1) (λ e. c .if1 .taken (at-bit-of .bit-of .ensures ∙ e ∙ sym (at-in-use .in-use .ensures .0)))
 
 loop-again : tie.Need-loop-again Inv-loop μ-loop
 loop-again c =
-    let a = c .before .before .before .before .before .before .before .before .args in
-    let l = c .before .before .before .before .before .loop in
-    (omega (arith, c .before .before .before .before .loop-test .taken), right-on (a .bytes .now) _ (a .owners .now) (l .k) (l .inv .1) (sym (c .before .before .bit-of .ensures) ∙ c .if1 .left ∙ c .before .in-use .ensures .0))
+    let at-in-use = c .before in
+    let at-bit-of = at-in-use .before in
+    let at-loop-test = at-bit-of .before .before in
+    let at-loop = at-loop-test .before in
+    let start = at-loop .before .before .before in
+    let a = start .args in
+    let l = at-loop .loop in
+    (omega (arith, at-loop-test .loop-test .taken), right-on (a .bytes .now) _ (a .owners .now) (l .k) (l .inv .1) (sym (at-bit-of .bit-of .ensures) ∙ c .if1 .left ∙ at-in-use .in-use .ensures .0))
 
 returns-2 : tie.Need-returns-2 Inv-loop μ-loop
 returns-2 c =
-    let a = c .before .before .before .before .args in
-    let l = c .before .loop in
+    let at-loop = c .before in
+    let start = at-loop .before .before .before in
+    let a = start .args in
+    let l = at-loop .loop in
     part-same (a .bytes .now) _ (a .owners .now) (l .k) (l .inv .0) (omega (arith, c .loop-test .left)) (l .inv .1)
 
 pub compare-bytes-spec : {M : Type 1} → statement M
 compare-bytes-spec =
     tie.close
-    (tie.spec Inv-loop μ-loop (λ c. search needs) loop-holds (λ c. search needs) (λ c. search needs) (λ c. search needs) (λ c κs. search needs) (λ c κs. search needs) returns (λ c. search needs) (λ c. search needs) loop-again returns-2)
+    (tie.spec Inv-loop μ-loop (λ c. search needs) loop-holds (λ c. search needs) (λ c. search needs) (λ c. search needs) (λ c κs. search needs) (λ c κs. search needs) returns
+    (λ c. search needs) (λ c. search needs) loop-again returns-2)

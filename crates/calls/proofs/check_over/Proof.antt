@@ -11,14 +11,22 @@ use Rattle.calls.proofs.check_over.Tie as tie
 
 tell-requires : tie.Need-tell-requires
 tell-requires c κs =
-    check-small _ _ _ _ _ _ (c .before .before .before .before .before .before .before .check .ensures .0)
+    let at-table2 = c .before .before .before .before .before .before in
+    let at-check = at-table2 .before in
+    check-small _ _ _ _ _ _ (at-check .check .ensures .0)
 
 returns : tie.Need-returns
 returns c =
-    let a = c .before .before .before .before .before .before .before .before .before .before .before .before .before .before .before .before .before .before .args in
-    checked (a .size) (a .pages) (a .image .now) (a .owners .now) (length (a .table .now)) (c .before .before .before .before .before .before .before .before .before .before .before .before .before .before .before .before .before .before .pre) (λ i. omega (arith, c .before .before .before .before .before .before .before .before .before .before .before .before .before .before .before .slice-known2 .given i)) (c .before .before .before .before .before .before .before .before .check .last .1 .1 .1 .0) _
-    (c .before .before .before .before .before .before .before .before .check .kept .1 .1 .1 .0 ∙ c .before .before .before .before .before .before .before .before .before .before .before .before .load .kept .1 .0) (c .before .before .before .store .ensures) (told (c .before .before .before .before .before .before .before .before .check .result)) _
-    (c .before .before .before .before .before .before .before .before .check .ensures .0 ∙ ap (checkCall (a .size) (a .pages) (a .image .now)) (c .before .before .before .before .before .before .before .before .before .before .before .before .load .ensures)) (c .tell .ensures)
+    let at-store = c .before .before .before in
+    let at-check = at-store .before .before .before .before .before in
+    let at-load = at-check .before .before .before .before in
+    let at-slice-known2 = at-load .before .before .before in
+    let start = at-slice-known2 .before .before .before in
+    let a = start .args in
+    checked (a .size) (a .pages) (a .image .now) (a .owners .now) (length (a .table .now)) (start .pre) (λ i. omega (arith, at-slice-known2 .slice-known2 .given i))
+    (at-check .check .last .1 .1 .1 .0) _
+    (at-check .check .kept .1 .1 .1 .0 ∙ at-load .load .kept .1 .0) (at-store .store .ensures) (told (at-check .check .result)) _
+    (at-check .check .ensures .0 ∙ ap (checkCall (a .size) (a .pages) (a .image .now)) (at-load .load .ensures)) (c .tell .ensures)
 
 pub check-over-spec : {M : Type 1} → statement M
 check-over-spec =

@@ -13,14 +13,23 @@ use Rattle.calls.proofs.delete_over.Tie as tie
 
 tell-answer-requires : tie.Need-tell-answer-requires
 tell-answer-requires c κs =
-    delete-small _ _ _ _ _ _ _ _ (c .before .before .before .before .before .before .before .before .before .delete .ensures .0)
+    let at-table2 = c .before .before .before .before .before .before in
+    let at-delete = at-table2 .before .before .before in
+    delete-small _ _ _ _ _ _ _ _ (at-delete .delete .ensures .0)
 
 returns : tie.Need-returns
 returns c =
-    let a = c .before .before .before .before .before .before .before .before .before .before .before .before .before .before .before .before .before .before .before .before .before .before .args in
-    deleted (a .size) (a .pages) (a .image .now) (a .owners .now) (length (a .table .now)) (c .before .before .before .before .before .before .before .before .before .before .before .before .before .before .before .before .before .before .before .before .before .before .pre) (λ i. omega (arith, c .before .before .before .before .before .before .before .before .before .before .before .before .before .before .before .before .before .before .slice-known3 .given i)) (c .before .before .before .before .before .before .before .before .before .before .delete .last .1 .1 .1 .1 .0) _
-    (c .before .before .before .before .before .before .before .before .before .before .delete .kept .1 .1 .1 .1 .0 ∙ c .before .before .before .before .before .before .before .before .before .before .before .before .before .before .before .load .kept .1 .0) (c .before .before .before .store .ensures) (a .path .now) (c .before .before .before .before .before .before .before .before .before .before .delete .last .0) (editTold (c .before .before .before .before .before .before .before .before .before .before .delete .result)) _
-    (c .before .before .before .before .before .before .before .before .before .before .delete .ensures .0 ∙ ap (λ (t : List ℕ). deleteCall (a .size) (a .pages) (a .image .now) t (a .path .now)) (c .before .before .before .before .before .before .before .before .before .before .before .before .before .before .before .load .ensures)) (c .tell-answer .ensures)
+    let at-store = c .before .before .before in
+    let at-image = at-store .before .before .before .before .before .before in
+    let at-delete = at-image .before in
+    let at-load = at-delete .before .before .before .before .before in
+    let at-slice-known3 = at-load .before .before .before in
+    let start = at-slice-known3 .before .before .before .before in
+    let a = start .args in
+    deleted (a .size) (a .pages) (a .image .now) (a .owners .now) (length (a .table .now)) (start .pre) (λ i. omega (arith, at-slice-known3 .slice-known3 .given i))
+    (at-delete .delete .last .1 .1 .1 .1 .0) _
+    (at-delete .delete .kept .1 .1 .1 .1 .0 ∙ at-load .load .kept .1 .0) (at-store .store .ensures) (a .path .now) (at-delete .delete .last .0) (editTold (at-delete .delete .result)) _
+    (at-delete .delete .ensures .0 ∙ ap (λ (t : List ℕ). deleteCall (a .size) (a .pages) (a .image .now) t (a .path .now)) (at-load .load .ensures)) (c .tell-answer .ensures)
 
 pub delete-over-spec : {M : Type 1} → statement M
 delete-over-spec =

@@ -14,14 +14,23 @@ use Rattle.calls.proofs.format_over.Tie as tie
 
 tell-answer-requires : tie.Need-tell-answer-requires
 tell-answer-requires c κs =
-    format-small _ _ _ _ _ _ _ _ (c .before .before .before .before .before .before .before .before .before .format .ensures .0)
+    let at-table2 = c .before .before .before .before .before .before in
+    let at-format = at-table2 .before .before .before in
+    format-small _ _ _ _ _ _ _ _ (at-format .format .ensures .0)
 
 returns : tie.Need-returns
 returns c =
-    let a = c .before .before .before .before .before .before .before .before .before .before .before .before .before .before .before .before .before .before .before .before .before .args in
-    formatted (a .size) (a .pages) (a .image .now) (a .owners .now) (length (a .table .now)) (c .before .before .before .before .before .before .before .before .before .before .before .before .before .before .before .before .before .before .before .before .before .pre) (λ i. omega (arith, c .before .before .before .before .before .before .before .before .before .before .before .before .before .before .before .before .before .before .slice-known3 .given i)) (c .before .before .before .before .before .before .before .before .before .before .format .last .1 .1 .1 .0) _
-    (c .before .before .before .before .before .before .before .before .before .before .format .kept .1 .1 .1 .0 ∙ c .before .before .before .before .before .before .before .before .before .before .before .before .before .before .before .load .kept .1 .0) (c .before .before .before .store .ensures) (a .local) (c .before .before .before .before .before .before .before .before .before .before .format .last .0) (editTold (c .before .before .before .before .before .before .before .before .before .before .format .result)) _
-    (c .before .before .before .before .before .before .before .before .before .before .format .ensures .0 ∙ ap (λ (t : List ℕ). formatCall (a .size) (a .pages) (a .image .now) t (asksLocal (a .local))) (c .before .before .before .before .before .before .before .before .before .before .before .before .before .before .before .load .ensures)) (c .tell-answer .ensures)
+    let at-store = c .before .before .before in
+    let at-image = at-store .before .before .before .before .before .before in
+    let at-format = at-image .before in
+    let at-load = at-format .before .before .before .before .before in
+    let at-slice-known3 = at-load .before .before .before in
+    let start = at-slice-known3 .before .before .before in
+    let a = start .args in
+    formatted (a .size) (a .pages) (a .image .now) (a .owners .now) (length (a .table .now)) (start .pre) (λ i. omega (arith, at-slice-known3 .slice-known3 .given i))
+    (at-format .format .last .1 .1 .1 .0) _
+    (at-format .format .kept .1 .1 .1 .0 ∙ at-load .load .kept .1 .0) (at-store .store .ensures) (a .local) (at-format .format .last .0) (editTold (at-format .format .result)) _
+    (at-format .format .ensures .0 ∙ ap (λ (t : List ℕ). formatCall (a .size) (a .pages) (a .image .now) t (asksLocal (a .local))) (at-load .load .ensures)) (c .tell-answer .ensures)
 
 pub format-over-spec : {M : Type 1} → statement M
 format-over-spec =

@@ -13,14 +13,21 @@ use Rattle.calls.proofs.list_over.Tie as tie
 
 tell-entry-requires : tie.Need-tell-entry-requires
 tell-entry-requires c κs =
-    list-small _ _ _ _ _ _ _ (c .before .before .before .before .before .before .before .list .ensures .0)
+    let at-table2 = c .before .before .before .before .before .before in
+    let at-list = at-table2 .before in
+    list-small _ _ _ _ _ _ _ (at-list .list .ensures .0)
 
 returns : tie.Need-returns
 returns c =
-    let a = c .before .before .before .before .before .before .before .before .before .before .before .before .before .before .before .before .before .before .args in
-    listed (a .size) (a .pages) (a .image .now) (a .owners .now) (length (a .table .now)) (c .before .before .before .before .before .before .before .before .before .before .before .before .before .before .before .before .before .before .pre) (λ i. omega (arith, c .before .before .before .before .before .before .before .before .before .before .before .before .before .before .before .slice-known2 .given i)) (c .before .before .before .before .before .before .before .before .list .last .1 .1 .1 .0) _
-    (c .before .before .before .before .before .before .before .before .list .kept .1 .1 .1 .0 ∙ c .before .before .before .before .before .before .before .before .before .before .before .before .load .kept .1 .0) (c .before .before .before .store .ensures) (a .position) (lineTold (c .before .before .before .before .before .before .before .before .list .result)) _
-    (c .before .before .before .before .before .before .before .before .list .ensures .0 ∙ ap (λ (t : List ℕ). listCall (a .size) (a .pages) (a .image .now) t (a .position)) (c .before .before .before .before .before .before .before .before .before .before .before .before .load .ensures)) (c .tell-entry .ensures)
+    let at-store = c .before .before .before in
+    let at-list = at-store .before .before .before .before .before in
+    let at-load = at-list .before .before .before .before in
+    let at-slice-known2 = at-load .before .before .before in
+    let start = at-slice-known2 .before .before .before in
+    let a = start .args in
+    listed (a .size) (a .pages) (a .image .now) (a .owners .now) (length (a .table .now)) (start .pre) (λ i. omega (arith, at-slice-known2 .slice-known2 .given i)) (at-list .list .last .1 .1 .1 .0) _
+    (at-list .list .kept .1 .1 .1 .0 ∙ at-load .load .kept .1 .0) (at-store .store .ensures) (a .position) (lineTold (at-list .list .result)) _
+    (at-list .list .ensures .0 ∙ ap (λ (t : List ℕ). listCall (a .size) (a .pages) (a .image .now) t (a .position)) (at-load .load .ensures)) (c .tell-entry .ensures)
 
 pub list-over-spec : {M : Type 1} → statement M
 list-over-spec =

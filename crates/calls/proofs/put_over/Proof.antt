@@ -13,14 +13,23 @@ use Rattle.calls.proofs.put_over.Tie as tie
 
 tell-answer-requires : tie.Need-tell-answer-requires
 tell-answer-requires c κs =
-    put-small _ _ _ _ _ _ _ _ _ (c .before .before .before .before .before .before .before .before .before .put .ensures .0)
+    let at-table2 = c .before .before .before .before .before .before in
+    let at-put = at-table2 .before .before .before in
+    put-small _ _ _ _ _ _ _ _ _ (at-put .put .ensures .0)
 
 returns : tie.Need-returns
 returns c =
-    let a = c .before .before .before .before .before .before .before .before .before .before .before .before .before .before .before .before .before .before .before .before .before .before .before .args in
-    putted (a .size) (a .pages) (a .image .now) (a .owners .now) (length (a .table .now)) (c .before .before .before .before .before .before .before .before .before .before .before .before .before .before .before .before .before .before .before .before .before .before .before .pre) (λ i. omega (arith, c .before .before .before .before .before .before .before .before .before .before .before .before .before .before .before .before .before .before .slice-known3 .given i)) (c .before .before .before .before .before .before .before .before .before .before .put .last .1 .1 .1 .1 .1 .0) _
-    (c .before .before .before .before .before .before .before .before .before .before .put .kept .1 .1 .1 .1 .1 .0 ∙ c .before .before .before .before .before .before .before .before .before .before .before .before .before .before .before .load .kept .1 .0) (c .before .before .before .store .ensures) (a .path .now) (a .bytes .now) (c .before .before .before .before .before .before .before .before .before .before .put .last .0) (editTold (c .before .before .before .before .before .before .before .before .before .before .put .result)) _
-    (c .before .before .before .before .before .before .before .before .before .before .put .ensures .0 ∙ ap (λ (t : List ℕ). putCall (a .size) (a .pages) (a .image .now) t (a .path .now) (a .bytes .now)) (c .before .before .before .before .before .before .before .before .before .before .before .before .before .before .before .load .ensures)) (c .tell-answer .ensures)
+    let at-store = c .before .before .before in
+    let at-image = at-store .before .before .before .before .before .before in
+    let at-put = at-image .before in
+    let at-load = at-put .before .before .before .before .before in
+    let at-slice-known3 = at-load .before .before .before in
+    let start = at-slice-known3 .before .before .before .before .before in
+    let a = start .args in
+    putted (a .size) (a .pages) (a .image .now) (a .owners .now) (length (a .table .now)) (start .pre) (λ i. omega (arith, at-slice-known3 .slice-known3 .given i))
+    (at-put .put .last .1 .1 .1 .1 .1 .0) _
+    (at-put .put .kept .1 .1 .1 .1 .1 .0 ∙ at-load .load .kept .1 .0) (at-store .store .ensures) (a .path .now) (a .bytes .now) (at-put .put .last .0) (editTold (at-put .put .result)) _
+    (at-put .put .ensures .0 ∙ ap (λ (t : List ℕ). putCall (a .size) (a .pages) (a .image .now) t (a .path .now) (a .bytes .now)) (at-load .load .ensures)) (c .tell-answer .ensures)
 
 pub put-over-spec : {M : Type 1} → statement M
 put-over-spec =

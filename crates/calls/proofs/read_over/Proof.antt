@@ -13,14 +13,24 @@ use Rattle.calls.proofs.read_over.Tie as tie
 
 tell-length-requires : tie.Need-tell-length-requires
 tell-length-requires c κs =
-    read-small _ _ _ _ _ _ _ _ _ (c .before .before .before .before .before .before .before .before .before .read .ensures .0)
+    let at-table2 = c .before .before .before .before .before .before in
+    let at-read = at-table2 .before .before .before in
+    read-small _ _ _ _ _ _ _ _ _ (at-read .read .ensures .0)
 
 returns : tie.Need-returns
 returns c =
-    let a = c .before .before .before .before .before .before .before .before .before .before .before .before .before .before .before .before .before .before .before .before .before .before .before .args in
-    read (a .size) (a .pages) (a .image .now) (a .owners .now) (length (a .table .now)) (c .before .before .before .before .before .before .before .before .before .before .before .before .before .before .before .before .before .before .before .before .before .before .before .pre) (λ i. omega (arith, c .before .before .before .before .before .before .before .before .before .before .before .before .before .before .before .before .before .before .slice-known3 .given i)) (c .before .before .before .before .before .before .before .before .before .before .read .last .1 .1 .1 .1 .1 .0) _
-    (c .before .before .before .before .before .before .before .before .before .before .read .kept .1 .1 .1 .1 .1 .0 ∙ c .before .before .before .before .before .before .before .before .before .before .before .before .before .before .before .load .kept .1 .0) (c .before .before .before .store .ensures) (a .path .now) (a .out .now) (c .before .before .before .before .before .before .before .before .before .before .read .last .1 .1 .1 .1 .0) (lengthTold (c .before .before .before .before .before .before .before .before .before .before .read .result)) _
-    (c .before .before .before .before .before .before .before .before .before .before .read .ensures .0 ∙ ap (λ (t : List ℕ). readCall (a .size) (a .pages) (a .image .now) t (a .path .now) (a .out .now)) (c .before .before .before .before .before .before .before .before .before .before .before .before .before .before .before .load .ensures)) (c .tell-length .ensures)
+    let at-store = c .before .before .before in
+    let at-out = at-store .before .before .before .before .before .before in
+    let at-read = at-out .before in
+    let at-load = at-read .before .before .before .before .before in
+    let at-slice-known3 = at-load .before .before .before in
+    let start = at-slice-known3 .before .before .before .before .before in
+    let a = start .args in
+    read (a .size) (a .pages) (a .image .now) (a .owners .now) (length (a .table .now)) (start .pre) (λ i. omega (arith, at-slice-known3 .slice-known3 .given i))
+    (at-read .read .last .1 .1 .1 .1 .1 .0) _
+    (at-read .read .kept .1 .1 .1 .1 .1 .0 ∙ at-load .load .kept .1 .0) (at-store .store .ensures) (a .path .now) (a .out .now) (at-read .read .last .1 .1 .1 .1 .0)
+    (lengthTold (at-read .read .result)) _
+    (at-read .read .ensures .0 ∙ ap (λ (t : List ℕ). readCall (a .size) (a .pages) (a .image .now) t (a .path .now) (a .out .now)) (at-load .load .ensures)) (c .tell-length .ensures)
 
 pub read-over-spec : {M : Type 1} → statement M
 read-over-spec =

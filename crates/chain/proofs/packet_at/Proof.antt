@@ -9,16 +9,24 @@ use Rattle.chain.proofs.packet_at.Tie as tie
 
 frame-requires : tie.Need-frame-requires
 frame-requires c κs =
-    let s = c .before .before .before in
-    omega (arith, ap length (c .before .page-of .ensures), page-length (s .args .g) (s .args .image .now) (s .args .page) (s .pre .0) (s .pre .1 .0))
+    let at-page-of = c .before in
+    let start = at-page-of .before .before in
+    let s = start in
+    omega (arith, ap length (at-page-of .page-of .ensures), page-length (s .args .g) (s .args .image .now) (s .args .page) (s .pre .0) (s .pre .1 .0))
 
 returns : tie.Need-returns
-returns c = framed-there _ _ _ _ (c .before .before .page-of .ensures) _ (c .frame .ensures) (c .before .before .before .before .pre .1 .1 (c .before .if1 .taken))
+returns c =
+    let at-if1 = c .before in
+    let at-page-of = at-if1 .before in
+    let start = at-page-of .before .before in
+    framed-there _ _ _ _ (at-page-of .page-of .ensures) _ (c .frame .ensures) (start .pre .1 .1 (at-if1 .if1 .taken))
 
 judge-requires : tie.Need-judge-requires
 judge-requires c κs =
-    let s = c .before .before .before in
-    omega (arith, ap length (c .before .page-of .ensures), page-length (s .args .g) (s .args .image .now) (s .args .page) (s .pre .0) (s .pre .1 .0))
+    let at-page-of = c .before in
+    let start = at-page-of .before .before in
+    let s = start in
+    omega (arith, ap length (at-page-of .page-of .ensures), page-length (s .args .g) (s .args .image .now) (s .args .page) (s .pre .0) (s .pre .1 .0))
 
 returns-2 : tie.Need-returns-2
 returns-2 c = judged-there _ _ _ _ (c .before .before .page-of .ensures) _ (c .judge .ensures)

@@ -24,29 +24,47 @@ loop-holds c = λ ls d. read-first _ _ _ _ ls (c .new .ensures) d
 
 step-requires : tie.Need-step-requires Inv-loop μ-loop
 step-requires c κs =
-    let s = c .before .before .before .pre in
+    let start = c .before .before .before in
+    let s = start .pre in
     let l = c .loop .inv (s .1 .links) (s .1 .chain) in
     (s .0, (l .following .counted, λ z. page-known _ _ (s .0) _ _ _ (l .following) .1))
 
 returns : tie.Need-returns Inv-loop μ-loop
 returns c =
-    let s = c .before .before .before .before .before .before .pre in
-    let l = c .before .before .before .loop .inv (s .1 .links) (s .1 .chain) in
+    let at-step = c .before .before in
+    let at-loop = at-step .before in
+    let start = at-loop .before .before .before in
+    let s = start .pre in
+    let l = at-loop .loop .inv (s .1 .links) (s .1 .chain) in
     let k = page-known _ _ (s .0) _ _ _ (l .following) in
-    absurd (never-refused _ _ _ (k .0) (k .1) _ _ (sym (c .enum-told .given .1) ∙ c .before .before .step .ensures))
+    absurd (never-refused _ _ _ (k .0) (k .1) _ _ (sym (c .enum-told .given .1) ∙ at-step .step .ensures))
 
 returns-2 : tie.Need-returns-2 Inv-loop μ-loop
-returns-2 c = λ ls d. counted-all _ _ (c .before .before .before .before .before .before .before .before .before .pre .0) _ _ _ (c .before .before .before .before .before .before .loop .inv ls d) _ _ _ (c .before .before .before .next .given .1) (c .before .before .before .before .before .step .ensures) (c .if1 .taken)
+returns-2 c =
+    let at-next = c .before .before .before in
+    let at-step = at-next .before .before in
+    let at-loop = at-step .before in
+    let start = at-loop .before .before .before in
+    λ ls d. counted-all _ _ (start .pre .0) _ _ _ (at-loop .loop .inv ls d) _ _ _ (at-next .next .given .1) (at-step .step .ensures) (c .if1 .taken)
 
 loop-less : tie.Need-loop-less Inv-loop μ-loop
 loop-less c =
-    let s = c .before .before .before .before .before .before .before .before .before .pre in
-    let l = c .before .before .before .before .before .before .loop .inv (s .1 .links) (s .1 .chain) in
-    let k = counts-up _ _ (s .0) _ _ _ (l .following) _ _ _ (c .before .before .before .next .given .1) (c .before .before .before .before .before .step .ensures) in
+    let at-next = c .before .before .before in
+    let at-step = at-next .before .before in
+    let at-loop = at-step .before in
+    let start = at-loop .before .before .before in
+    let s = start .pre in
+    let l = at-loop .loop .inv (s .1 .links) (s .1 .chain) in
+    let k = counts-up _ _ (s .0) _ _ _ (l .following) _ _ _ (at-next .next .given .1) (at-step .step .ensures) in
     omega (arith, l .following .steps, l .following .chain .some, s .1 .chain .few)
 
 loop-again : tie.Need-loop-again Inv-loop μ-loop
-loop-again c = λ ls d. count-on _ _ (c .before .before .before .before .before .before .before .before .before .pre .0) _ _ _ (c .before .before .before .before .before .before .loop .inv ls d) _ _ _ (c .before .before .before .next .given .1) (c .before .before .before .before .before .step .ensures) (c .if1 .left) (d .few)
+loop-again c =
+    let at-next = c .before .before .before in
+    let at-step = at-next .before .before in
+    let at-loop = at-step .before in
+    let start = at-loop .before .before .before in
+    λ ls d. count-on _ _ (start .pre .0) _ _ _ (at-loop .loop .inv ls d) _ _ _ (at-next .next .given .1) (at-step .step .ensures) (c .if1 .left) (d .few)
 
 pub chain-bytes-spec : {M : Type 1} → statement M
 chain-bytes-spec =

@@ -23,6 +23,7 @@ returns c =
 unlink-requires : tie.Need-unlink-requires
 unlink-requires c κs =
     let at-slot = c .before .before .before .before .before .before in
+    let at-slot = at-slot in
     let at-find-file = at-slot .before .before in
     let start = at-find-file .before .before .before .before .before in
     let a = start .args in (
@@ -58,6 +59,7 @@ returns-4 c =
 returns-5 : tie.Need-returns-5
 returns-5 c =
     let at-unlink = c .before .before .before .before in
+    let at-unlink = at-unlink in
     let at-if1 = at-unlink .before .before .before in
     let at-extension-of = at-if1 .before .before in
     let at-slot = at-extension-of .before .before in
@@ -70,4 +72,5 @@ returns-5 c =
 pub delete-path-spec : {M : Type 1} → statement M
 delete-path-spec =
     tie.close
-    (tie.spec find-file-requires (λ c. search needs) (λ c. search needs) (λ c. search needs) (λ c. search needs) (λ c κs. search needs) (λ c. search needs) returns unlink-requires (λ c. search needs) returns-2 (λ c. search needs) returns-3 (λ c. search needs) returns-4 (λ c. search needs) (λ c. search needs) returns-5)
+    (tie.spec find-file-requires (λ c. search needs) (λ c. search needs) (λ c. search needs) (λ c. search needs) (λ c κs. search needs) (λ c. search needs) returns unlink-requires
+    (λ c. search needs) returns-2 (λ c. search needs) returns-3 (λ c. search needs) returns-4 (λ c. search needs) (λ c. search needs) returns-5)

@@ -14,13 +14,23 @@ returns-3 : tie.Need-returns-3
 returns-3 c = place-wrong _ (λ r. omega (arith, r .most, c .before .before .number-at .ensures .0, c .if3 .taken))
 
 returns-4 : tie.Need-returns-4
-returns-4 c = place-wrong _ (λ r. omega (arith, r .inside, c .before .before .before .number-at .ensures .0, c .if4 .taken))
+returns-4 c =
+    let at-number-at = c .before .before .before in
+    place-wrong _ (λ r. omega (arith, r .inside, at-number-at .number-at .ensures .0, c .if4 .taken))
 
 returns-5 : tie.Need-returns-5
-returns-5 c = place-wrong _ (λ r. omega (arith, r .short, c .before .before .before .before .number-at .ensures .0, c .if5 .taken))
+returns-5 c =
+    let at-number-at = c .before .before .before .before in
+    place-wrong _ (λ r. omega (arith, r .short, at-number-at .number-at .ensures .0, c .if5 .taken))
 
 returns-6 : tie.Need-returns-6
-returns-6 c = place-right _ _ (c .before .before .before .before .number-at .ensures .0) (record { header = c .before .before .before .before .before .if1 .left; least = c .before .before .before .if2 .left; most = c .before .before .if3 .left; inside = c .before .if4 .left; short = c .if5 .left })
+returns-6 c =
+    let at-if4 = c .before in
+    let at-if3 = at-if4 .before in
+    let at-if2 = at-if3 .before in
+    let at-number-at = at-if2 .before in
+    let at-if1 = at-number-at .before in
+    place-right _ _ (at-number-at .number-at .ensures .0) (record { header = at-if1 .if1 .left; least = at-if2 .if2 .left; most = at-if3 .if3 .left; inside = at-if4 .if4 .left; short = c .if5 .left })
 
 pub place-of-spec : {M : Type 1} → statement M
 place-of-spec =

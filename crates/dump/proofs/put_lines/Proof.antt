@@ -18,22 +18,46 @@ loop-holds : tie.Need-loop-holds Inv-loop μ-loop
 loop-holds c = (search needs, laid-none _ _ _ _)
 
 line-at-requires : tie.Need-line-at-requires Inv-loop μ-loop
-line-at-requires c κs = (c .before .before .before .pre .0, c .before .before .before .pre .1 .0)
+line-at-requires c κs =
+    let start = c .before .before .before in
+    (start .pre .0, start .pre .1 .0)
 
 returns : tie.Need-returns Inv-loop μ-loop
-returns c = laid-all _ _ _ _ _ _ _ (c .before .before .before .loop .inv .1) (c .before .before .before .before .before .before .pre .1 .0) _ (c .before .before .line-at .ensures) _ (c .enum-told .given .1)
+returns c =
+    let at-line-at = c .before .before in
+    let at-loop = at-line-at .before in
+    let start = at-loop .before .before .before in
+    laid-all _ _ _ _ _ _ _ (at-loop .loop .inv .1) (start .pre .1 .0) _ (at-line-at .line-at .ensures) _ (c .enum-told .given .1)
 
 put-line-requires : tie.Need-put-line-requires Inv-loop μ-loop
-put-line-requires c κs = laid-room _ _ _ _ _ _ _ (c .before .before .before .before .before .loop .inv .1) (c .before .before .before .before .before .before .before .before .pre .0 .valid) (c .before .before .before .before .before .before .before .before .pre .1 .1)
+put-line-requires c κs =
+    let at-loop = c .before .before .before .before .before in
+    let start = at-loop .before .before .before in
+    laid-room _ _ _ _ _ _ _ (at-loop .loop .inv .1) (start .pre .0 .valid) (start .pre .1 .1)
 
 add-k : tie.Need-add-k Inv-loop μ-loop
-add-k c = omega (arith, laid-few _ _ _ _ _ _ _ (c .before .before .before .before .before .before .before .before .loop .inv .1) (c .before .before .before .before .before .before .before .before .before .before .before .pre .0 .valid))
+add-k c =
+    let at-match = c .before .before .before .before .before .before in
+    let at-loop = at-match .before .before in
+    let start = at-loop .before .before .before in
+    omega (arith, laid-few _ _ _ _ _ _ _ (at-loop .loop .inv .1) (start .pre .0 .valid))
 
 loop-less : tie.Need-loop-less Inv-loop μ-loop
-loop-less c = omega (arith, laid-less _ _ _ _ _ _ _ (c .before .before .before .before .before .before .before .before .loop .inv .1) (c .before .before .before .before .before .before .before .before .before .before .before .pre .1 .0) _ (c .before .before .before .before .before .before .before .line-at .ensures) _ (c .before .before .before .before .before .line .given .1))
+loop-less c =
+    let at-line = c .before .before .before .before .before in
+    let at-line-at = at-line .before .before in
+    let at-loop = at-line-at .before in
+    let start = at-loop .before .before .before in
+    omega (arith, laid-less _ _ _ _ _ _ _ (at-loop .loop .inv .1) (start .pre .1 .0) _ (at-line-at .line-at .ensures) _ (at-line .line .given .1))
 
 loop-again : tie.Need-loop-again Inv-loop μ-loop
-loop-again c = (search needs, laid-more _ _ _ _ _ _ _ (c .before .before .before .before .before .before .before .before .loop .inv .1) (c .before .before .before .before .before .before .before .before .before .before .before .pre .1 .0) _ (c .before .before .before .before .before .before .before .line-at .ensures) _ _ _ (c .before .before .before .before .before .line .given .1) (c .before .before .put-line .ensures))
+loop-again c =
+    let at-put-line = c .before .before in
+    let at-line = at-put-line .before .before .before in
+    let at-line-at = at-line .before .before in
+    let at-loop = at-line-at .before in
+    let start = at-loop .before .before .before in
+    (search needs, laid-more _ _ _ _ _ _ _ (at-loop .loop .inv .1) (start .pre .1 .0) _ (at-line-at .line-at .ensures) _ _ _ (at-line .line .given .1) (at-put-line .put-line .ensures))
 
 pub put-lines-spec : {M : Type 1} → statement M
 put-lines-spec =

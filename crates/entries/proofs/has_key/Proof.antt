@@ -9,8 +9,10 @@ use Rattle.entries.proofs.has_key.Tie as tie
 
 returns : tie.Need-returns
 returns c =
-    let k = c .key-of .ensures ∙ ap (λ (e : Entry). key (e .name) (e .extension)) (c .before .read-entry .ensures .0) in
-    ap (λ (y : ℕ). eqb y (c .before .before .before .args .wanted)) k
+    let at-read-entry = c .before in
+    let start = at-read-entry .before .before in
+    let k = c .key-of .ensures ∙ ap (λ (e : Entry). key (e .name) (e .extension)) (at-read-entry .read-entry .ensures .0) in
+    ap (λ (y : ℕ). eqb y (start .args .wanted)) k
 
 pub has-key-spec : {M : Type 1} → statement M
 has-key-spec = tie.close (tie.spec (λ c κs. search needs) (λ c κs. search needs) returns)

@@ -22,15 +22,21 @@ loop-holds c = let a = c .before .args in (omega arith, omega arith, keys-begin 
 
 has-key-requires : tie.Need-has-key-requires Inv-loop μ-loop
 has-key-requires c κs =
-    let s = c .before .before .before .pre in
-    let k = at-entry _ _ _ _ _ _ (s .0) (s .1 .0) (c .loop-test .taken) (c .before .loop .inv .1) in
+    let at-loop = c .before in
+    let start = at-loop .before .before in
+    let s = start .pre in
+    let k = at-entry _ _ _ _ _ _ (s .0) (s .1 .0) (c .loop-test .taken) (at-loop .loop .inv .1) in
     (s .0 .one, s .0 .two, k .1)
 
 returns : tie.Need-returns Inv-loop μ-loop
 returns c =
-    let a = c .before .before .before .before .before .args in
-    let l = c .before .before .before .loop in
-    sym (l .inv .2 ∙ key-found _ (a .page .now) _ (a .m) (l .i) (l .at) (c .before .before .loop-test .taken) _ (c .before .has-key .ensures) (c .if1 .taken))
+    let at-has-key = c .before in
+    let at-loop-test = at-has-key .before in
+    let at-loop = at-loop-test .before in
+    let start = at-loop .before .before in
+    let a = start .args in
+    let l = at-loop .loop in
+    sym (l .inv .2 ∙ key-found _ (a .page .now) _ (a .m) (l .i) (l .at) (at-loop-test .loop-test .taken) _ (at-has-key .has-key .ensures) (c .if1 .taken))
 
 after-entry-requires : tie.Need-after-entry-requires Inv-loop μ-loop
 after-entry-requires c κs =
@@ -42,19 +48,24 @@ after-entry-requires c κs =
 loop-again : tie.Need-loop-again Inv-loop μ-loop
 unfolding entrySize
 loop-again c =
-    let in-loop = c .before .before .before in
+    let at-if1 = c .before in
+    let at-has-key = at-if1 .before in
+    let at-loop-test = at-has-key .before in
+    let in-loop = at-loop-test in
     let l = in-loop .before .loop in
     let start = in-loop .before .before .before in
     let a = start .args in
     let t = in-loop .loop-test .taken in
     let e : c .after-entry .result ≡ l .at + entrySize (a .g) = c .after-entry .ensures in
-    let k = key-passed _ (a .page .now) _ (a .m) (l .i) (l .at) t _ (c .before .before .has-key .ensures) (c .before .if1 .left) in
+    let k = key-passed _ (a .page .now) _ (a .m) (l .i) (l .at) t _ (at-has-key .has-key .ensures) (at-if1 .if1 .left) in
     (omega arith, omega arith, l .inv .2 ∙ k ∙ ap (λ (x : ℕ). mem (a .key) (keysFrom (a .g) (a .m - (l .i + 1)) (drop x (a .page .now)))) (sym e))
 
 returns-2 : tie.Need-returns-2 Inv-loop μ-loop
 returns-2 c =
-    let a = c .before .before .before .args in
-    let l = c .before .loop in
+    let at-loop = c .before in
+    let start = at-loop .before .before in
+    let a = start .args in
+    let l = at-loop .loop in
     keys-end _ (a .page .now) (a .key) (a .m) (l .i) (l .at) (omega (arith, c .loop-test .left)) ∙ sym (l .inv .2)
 
 pub page-has-spec : {M : Type 1} → statement M

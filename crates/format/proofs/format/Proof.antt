@@ -10,33 +10,55 @@ use Rattle.format.proofs.format.Tie as tie
 
 slice-relend-prefix-format-in : tie.Need-slice-relend-prefix-format-in
 slice-relend-prefix-format-in c =
-    let a = c .before .before .before .before .before .before .before .args in
-    sized-of (a .size) (a .pages) _ _ _ (sym (c .before .before .before .before .new .ensures) ∙ c .before .before .g .given .1) .room
+    let at-g = c .before .before in
+    let at-new = at-g .before .before in
+    let start = at-new .before .before .before in
+    let a = start .args in
+    sized-of (a .size) (a .pages) _ _ _ (sym (at-new .new .ensures) ∙ at-g .g .given .1) .room
 
 slice-aggregate-format-in : tie.Need-slice-aggregate-format-in
 slice-aggregate-format-in c =
-    let a = c .before .before .before .before .before .before .before .before .args in
-    sym (length-take-le _ _ (sized-of (a .size) (a .pages) _ _ _ (sym (c .before .before .before .before .before .new .ensures) ∙ c .before .before .before .g .given .1) .room))
+    let at-g = c .before .before .before in
+    let at-new = at-g .before .before in
+    let start = at-new .before .before .before in
+    let a = start .args in
+    sym (length-take-le _ _ (sized-of (a .size) (a .pages) _ _ _ (sym (at-new .new .ensures) ∙ at-g .g .given .1) .room))
 
 format-in-requires : tie.Need-format-in-requires
 format-in-requires c κs =
-    let a = c .before .before .before .before .before .before .before .before .args in
-    let e = sym (c .before .before .before .before .before .new .ensures) ∙ c .before .before .before .g .given .1 in
+    let at-g = c .before .before .before in
+    let at-new = at-g .before .before in
+    let start = at-new .before .before .before in
+    let a = start .args in
+    let e = sym (at-new .new .ensures) ∙ at-g .g .given .1 in
     (fit-of (a .size) (a .pages) (a .image .now) (a .owners .now) _ e, length-take-le _ (a .owners .now) (sized-of (a .size) (a .pages) _ _ _ e .room))
 
 returns : tie.Need-returns
 returns c =
-    let a = c .before .before .before .before .before .args in
-    let e = sym (format-wrong (a .size) (a .pages) (a .image .now) (a .owners .now) (sym (c .before .before .new .ensures) ∙ c .enum-told .given .1) (a .local)) in
-    (e, format-is (a .size) (a .pages) (a .image .now) (a .owners .now) (λ i. c .before .before .before .before .slice-known .given i .fits) (a .local) (edited.Refused 1 0) (a .image .now) (a .owners .now) e)
+    let at-new = c .before .before in
+    let at-slice-known = at-new .before .before in
+    let start = at-slice-known .before in
+    let a = start .args in
+    let e = sym (format-wrong (a .size) (a .pages) (a .image .now) (a .owners .now) (sym (at-new .new .ensures) ∙ c .enum-told .given .1) (a .local)) in
+    (e, format-is (a .size) (a .pages) (a .image .now) (a .owners .now) (λ i. at-slice-known .slice-known .given i .fits) (a .local) (edited.Refused 1 0) (a .image .now) (a .owners .now) e)
 
 returns-2 : tie.Need-returns-2
 returns-2 c =
-    let a = c .before .before .before .before .before .before .before .before .before .before .before .before .before .args in
-    let e = format-leaves (a .size) (a .pages) (a .image .now) (a .owners .now) _ (sym (c .before .before .before .before .before .before .before .before .before .before .new .ensures) ∙ c .before .before .before .before .before .before .before .before .g .given .1) (a .local) (c .before .before .before .before .format-in .result) (c .before .before .before .before .format-in .last .0) (c .before .before .before .before .format-in .last .1 .1 .0) (c .before .before .before .before .format-in .ensures) in
-    (e, format-is (a .size) (a .pages) (a .image .now) (a .owners .now) (λ i. c .before .before .before .before .before .before .before .before .before .before .before .before .slice-known .given i .fits) (a .local) (c .before .before .before .before .format-in .result) (c .before .before .before .before .format-in .last .0) _ e)
+    let at-format-in = c .before .before .before .before in
+    let at-g = at-format-in .before .before .before .before in
+    let at-new = at-g .before .before in
+    let at-slice-known = at-new .before .before in
+    let start = at-slice-known .before in
+    let a = start .args in
+    let e = format-leaves (a .size) (a .pages) (a .image .now) (a .owners .now) _ (sym (at-new .new .ensures) ∙ at-g .g .given .1) (a .local) (at-format-in .format-in .result)
+    (at-format-in .format-in .last .0) (at-format-in .format-in .last .1 .1 .0) (at-format-in .format-in .ensures) in (
+      e,
+      format-is (a .size) (a .pages) (a .image .now) (a .owners .now) (λ i. at-slice-known .slice-known .given i .fits) (a .local) (at-format-in .format-in .result)
+          (at-format-in .format-in .last .0) _ e,
+    )
 
 pub format-spec : {M : Type 1} → statement M
 format-spec =
     tie.close
-    (tie.spec (λ c κs. search needs) (λ c. search needs) (λ c. search needs) slice-relend-prefix-format-in slice-aggregate-format-in format-in-requires returns (λ c. search needs) (λ c. search needs) returns-2)
+    (tie.spec (λ c κs. search needs) (λ c. search needs) (λ c. search needs) slice-relend-prefix-format-in slice-aggregate-format-in format-in-requires returns (λ c. search needs)
+    (λ c. search needs) returns-2)

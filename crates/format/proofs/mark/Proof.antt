@@ -19,14 +19,23 @@ loop-holds c = let a = c .before .args in (refl, omega arith, marked-none (a .ow
 
 loop-again : tie.Need-loop-again Inv-loop μ-loop
 loop-again c =
-    let l = c .before .before .loop in
-    let n = length-set (l .owners) (l .i) (c .mark-of .result) in
-    (n ∙ l .inv .0, omega (arith, c .before .loop-test .taken, n), marked-on (l .owners) (c .before .before .before .before .args .last) (l .i) (c .mark-of .result) (c .before .loop-test .taken) (l .inv .2) (c .mark-of .ensures))
+    let at-loop-test = c .before in
+    let at-loop = at-loop-test .before in
+    let start = at-loop .before .before in
+    let l = at-loop .loop in
+    let n = length-set (l .owners) (l .i) (c .mark-of .result) in (
+      n ∙ l .inv .0,
+      omega (arith, at-loop-test .loop-test .taken, n),
+      marked-on (l .owners) (start .args .last) (l .i) (c .mark-of .result) (at-loop-test .loop-test .taken)
+          (l .inv .2) (c .mark-of .ensures),
+    )
 
 returns : tie.Need-returns Inv-loop μ-loop
 returns c =
-    let l = c .before .loop in
-    marked-all (l .owners) (c .before .before .before .args .last) (l .i) (omega (arith, c .loop-test .left)) (omega (arith, c .before .before .before .pre, l .inv .0)) (l .inv .2)
+    let at-loop = c .before in
+    let start = at-loop .before .before in
+    let l = at-loop .loop in
+    marked-all (l .owners) (start .args .last) (l .i) (omega (arith, c .loop-test .left)) (omega (arith, start .pre, l .inv .0)) (l .inv .2)
 
 pub mark-spec : {M : Type 1} → statement M
 mark-spec =

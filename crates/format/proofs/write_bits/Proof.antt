@@ -17,12 +17,19 @@ data-capacity-requires : tie.Need-data-capacity-requires Inv-loop μ-loop
 data-capacity-requires c κs = c .before .before .pre .valid
 
 bitmap-size-requires : tie.Need-bitmap-size-requires Inv-loop μ-loop
-bitmap-size-requires c κs = c .before .before .before .pre .valid
+bitmap-size-requires c κs =
+    let start = c .before .before .before in
+    start .pre .valid
 
 loop-holds : tie.Need-loop-holds Inv-loop μ-loop
 loop-holds c =
-    let s = c .before .before .before .before in
-    (refl, held-first (s .args .g) (s .args .owners .now) (s .args .image .now) (c .before .data-capacity .result) (c .bitmap-size .result) (s .pre) (c .before .data-capacity .ensures) (c .bitmap-size .ensures))
+    let at-data-capacity = c .before in
+    let start = at-data-capacity .before .before .before in
+    let s = start in (
+      refl,
+      held-first (s .args .g) (s .args .owners .now) (s .args .image .now) (at-data-capacity .data-capacity .result) (c .bitmap-size .result) (s .pre)
+          (at-data-capacity .data-capacity .ensures) (c .bitmap-size .ensures),
+    )
 
 add-write-bytes : tie.Need-add-write-bytes Inv-loop μ-loop
 add-write-bytes c = let h = c .before .before .loop .inv .1 in omega (arith, h .below, h .fit .valid .few)
@@ -33,18 +40,32 @@ write-bytes-requires c κs =
     (l .inv .1 .fit, held-asks _ _ _ _ _ _ _ _ (l .inv .1) _ (omega (arith, c .before .loop-test .taken)) (omega arith))
 
 add-page : tie.Need-add-page Inv-loop μ-loop
-add-page c = let h = c .before .before .before .before .before .loop .inv .1 in omega (arith, h .below, h .fit .valid .few)
+add-page c =
+    let at-loop = c .before .before .before .before .before in
+    let h = at-loop .loop .inv .1 in omega (arith, h .below, h .fit .valid .few)
 
 add-done : tie.Need-add-done Inv-loop μ-loop
-add-done c = let h = c .before .before .before .before .before .loop .inv .1 in omega (arith, h .all, h .few, c .before .before .before .before .loop-test .taken)
+add-done c =
+    let at-loop-test = c .before .before .before .before in
+    let at-loop = at-loop-test .before in
+    let h = at-loop .loop .inv .1 in omega (arith, h .all, h .few, at-loop-test .loop-test .taken)
 
 loop-less : tie.Need-loop-less Inv-loop μ-loop
-loop-less c = omega (arith, c .before .before .before .before .loop-test .taken, some-capacity _ _ _ _ _ _ _ _ (c .before .before .before .before .before .loop .inv .1))
+loop-less c =
+    let at-loop-test = c .before .before .before .before in
+    let at-loop = at-loop-test .before in
+    omega (arith, at-loop-test .loop-test .taken, some-capacity _ _ _ _ _ _ _ _ (at-loop .loop .inv .1))
 
 loop-again : tie.Need-loop-again Inv-loop μ-loop
 loop-again c =
-    let l = c .before .before .before .before .before .loop in
-    (c .before .before .write-bytes .kept .0 ∙ l .inv .0, held-on _ _ _ _ _ _ _ _ (l .inv .1) _ (c .before .before .before .before .loop-test .taken) (c .before .before .write-bytes .kept .0) (c .before .before .write-bytes .ensures))
+    let at-write-bytes = c .before .before in
+    let at-loop-test = at-write-bytes .before .before in
+    let at-loop = at-loop-test .before in
+    let l = at-loop .loop in (
+      at-write-bytes .write-bytes .kept .0 ∙ l .inv .0,
+      held-on _ _ _ _ _ _ _ _ (l .inv .1) _ (at-loop-test .loop-test .taken) (at-write-bytes .write-bytes .kept .0)
+          (at-write-bytes .write-bytes .ensures),
+    )
 
 write-bytes-requires-2 : tie.Need-write-bytes-requires-2 Inv-loop μ-loop
 write-bytes-requires-2 c κs =
@@ -52,12 +73,20 @@ write-bytes-requires-2 c κs =
     (l .inv .1 .fit, held-asks _ _ _ _ _ _ _ _ (l .inv .1) _ (omega arith) (omega (arith, c .before .loop-test .left)))
 
 same-length : tie.Need-same-length Inv-loop μ-loop
-same-length c = c .before .before .write-bytes2 .kept .0 ∙ c .before .before .before .before .before .loop .inv .0
+same-length c =
+    let at-write-bytes2 = c .before .before in
+    let at-loop = at-write-bytes2 .before .before .before in
+    at-write-bytes2 .write-bytes2 .kept .0 ∙ at-loop .loop .inv .0
 
 returns : tie.Need-returns Inv-loop μ-loop
-returns c = held-last _ _ _ _ _ _ _ _ (c .before .before .before .before .before .loop .inv .1) _ (c .before .before .before .before .loop-test .left) (c .before .before .write-bytes2 .ensures)
+returns c =
+    let at-write-bytes2 = c .before .before in
+    let at-loop-test = at-write-bytes2 .before .before in
+    let at-loop = at-loop-test .before in
+    held-last _ _ _ _ _ _ _ _ (at-loop .loop .inv .1) _ (at-loop-test .loop-test .left) (at-write-bytes2 .write-bytes2 .ensures)
 
 pub write-bits-spec : {M : Type 1} → statement M
 write-bits-spec =
     tie.close
-    (tie.spec Inv-loop μ-loop data-capacity-requires bitmap-size-requires loop-holds add-write-bytes write-bytes-requires add-page add-done (λ c. search needs) loop-less loop-again write-bytes-requires-2 same-length returns)
+    (tie.spec Inv-loop μ-loop data-capacity-requires bitmap-size-requires loop-holds add-write-bytes write-bytes-requires add-page add-done (λ c. search needs) loop-less
+    loop-again write-bytes-requires-2 same-length returns)

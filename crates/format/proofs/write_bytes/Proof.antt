@@ -11,37 +11,56 @@ array-borrow-prefix-bytes : tie.Need-array-borrow-prefix-bytes
 array-borrow-prefix-bytes c = let s = c .before .before in capacity-most (s .args .g) (s .pre .0 .valid) _ (s .pre .1 .1)
 
 slice-aggregate-fill : tie.Need-slice-aggregate-fill
-slice-aggregate-fill c = let s = c .before .before .before in sym (zeros-front (s .args .size) 252 (capacity-most (s .args .g) (s .pre .0 .valid) _ (s .pre .1 .1)))
+slice-aggregate-fill c =
+    let start = c .before .before .before in
+    let s = start in sym (zeros-front (s .args .size) 252 (capacity-most (s .args .g) (s .pre .0 .valid) _ (s .pre .1 .1)))
 
 fill-requires : tie.Need-fill-requires
 fill-requires c κs =
-    let s = c .before .before .before in
+    let start = c .before .before .before in
+    let s = start in
     let z = zeros-front (s .args .size) 252 (capacity-most (s .args .g) (s .pre .0 .valid) _ (s .pre .1 .1)) in
     omega (arith, z, s .pre .1 .2)
 
 array-share-prefix-bytes : tie.Need-array-share-prefix-bytes
 array-share-prefix-bytes c =
-    let s = c .before .before .before .before .before .before in
+    let at-fill = c .before .before in
+    let start = at-fill .before .before .before .before in
+    let s = start in
     let h = capacity-most (s .args .g) (s .pre .0 .valid) _ (s .pre .1 .1) in
-    front-room _ _ _ _ (marks-front (s .args .owners .now) _ _ (s .args .size) 252 h (c .before .before .fill .ensures)) (length-marks (s .args .owners .now) _ _)
+    front-room _ _ _ _ (marks-front (s .args .owners .now) _ _ (s .args .size) 252 h (at-fill .fill .ensures)) (length-marks (s .args .owners .now) _ _)
 
 slice-aggregate-write-page : tie.Need-slice-aggregate-write-page
 slice-aggregate-write-page c =
-    let s = c .before .before .before .before .before .before .before in
+    let at-fill = c .before .before .before in
+    let start = at-fill .before .before .before .before in
+    let s = start in
     let h = capacity-most (s .args .g) (s .pre .0 .valid) _ (s .pre .1 .1) in
-    front-size _ _ _ _ (marks-front (s .args .owners .now) _ _ (s .args .size) 252 h (c .before .before .before .fill .ensures)) (length-marks (s .args .owners .now) _ _)
+    front-size _ _ _ _ (marks-front (s .args .owners .now) _ _ (s .args .size) 252 h (at-fill .fill .ensures)) (length-marks (s .args .owners .now) _ _)
 
 write-page-requires : tie.Need-write-page-requires
 write-page-requires c κs =
-    let s = c .before .before .before .before .before .before .before in
-    let h = capacity-most (s .args .g) (s .pre .0 .valid) _ (s .pre .1 .1) in
-    (s .pre .0, (s .pre .1 .0, front-fits _ _ _ _ (marks-front (s .args .owners .now) _ _ (s .args .size) 252 h (c .before .before .before .fill .ensures)) (length-marks (s .args .owners .now) _ _) (s .args .g) (s .pre .0 .valid) (s .pre .1 .1)))
+    let at-fill = c .before .before .before in
+    let start = at-fill .before .before .before .before in
+    let s = start in
+    let h = capacity-most (s .args .g) (s .pre .0 .valid) _ (s .pre .1 .1) in (
+      s .pre .0,
+      (
+        s .pre .1 .0,
+        front-fits _ _ _ _ (marks-front (s .args .owners .now) _ _ (s .args .size) 252 h (at-fill .fill .ensures)) (length-marks (s .args .owners .now) _ _)
+            (s .args .g) (s .pre .0 .valid) (s .pre .1 .1),
+      ),
+    )
 
 returns : tie.Need-returns
 returns c =
-    let s = c .before .before .before .before .before .before .before .before .before .before in
+    let at-write-page = c .before .before in
+    let at-fill = at-write-page .before .before .before .before in
+    let start = at-fill .before .before .before .before in
+    let s = start in
     let h = capacity-most (s .args .g) (s .pre .0 .valid) _ (s .pre .1 .1) in
-    front-written _ _ _ _ (marks-front (s .args .owners .now) _ _ (s .args .size) 252 h (c .before .before .before .before .before .before .fill .ensures)) (length-marks (s .args .owners .now) _ _) (s .args .g) _ _ _ _ (c .before .before .write-page .ensures)
+    front-written _ _ _ _ (marks-front (s .args .owners .now) _ _ (s .args .size) 252 h (at-fill .fill .ensures)) (length-marks (s .args .owners .now) _ _) (s .args .g) _ _ _ _
+    (at-write-page .write-page .ensures)
 
 pub write-bytes-spec : {M : Type 1} → statement M
 write-bytes-spec =

@@ -5,10 +5,18 @@ use Rattle.format.proofs.write_empty.Statement.{statement}
 use Rattle.format.proofs.write_empty.Tie as tie
 
 returns : tie.Need-returns
-returns c = emptied-as (c .before .before .before .before .before .before .before .args .g) _ true _ _ (c .before .before .before .before .if1 .taken) (c .before .before .write-local .ensures)
+returns c =
+    let at-write-local = c .before .before in
+    let at-if1 = at-write-local .before .before in
+    let start = at-if1 .before .before .before in
+    emptied-as (start .args .g) _ true _ _ (at-if1 .if1 .taken) (at-write-local .write-local .ensures)
 
 returns-2 : tie.Need-returns-2
-returns-2 c = emptied-as (c .before .before .before .before .before .before .before .before .before .before .args .g) _ false _ _ (c .before .before .before .before .before .before .before .if1 .left) (c .before .before .before .before .write-file .ensures)
+returns-2 c =
+    let at-write-file = c .before .before .before .before in
+    let at-if1 = at-write-file .before .before .before in
+    let start = at-if1 .before .before .before in
+    emptied-as (start .args .g) _ false _ _ (at-if1 .if1 .left) (at-write-file .write-file .ensures)
 
 pub write-empty-spec : {M : Type 1} → statement M
 write-empty-spec =

@@ -6,8 +6,11 @@ use Rattle.format.proofs.write_local.Tie as tie
 
 returns : tie.Need-returns
 returns c =
-    let s = c .before .before .before .before .before .before in
-    local-emptied (s .args .g) (s .args .image .now) _ (s .pre) (bytes-from (s .args .image .now) (λ i. c .before .before .before .before .before .slice-known .given i .fits)) (c .before .before .write-root .ensures)
+    let at-write-root = c .before .before in
+    let at-slice-known = at-write-root .before .before .before in
+    let start = at-slice-known .before in
+    let s = start in
+    local-emptied (s .args .g) (s .args .image .now) _ (s .pre) (bytes-from (s .args .image .now) (λ i. at-slice-known .slice-known .given i .fits)) (at-write-root .write-root .ensures)
 
 pub write-local-spec : {M : Type 1} → statement M
 write-local-spec =

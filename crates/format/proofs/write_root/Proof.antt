@@ -9,37 +9,55 @@ use Rattle.format.proofs.write_root.Tie as tie
 
 slice-aggregate-fill-control : tie.Need-slice-aggregate-fill-control
 slice-aggregate-fill-control c =
-    let s = c .before .before .before .before in
+    let start = c .before .before .before .before in
+    let s = start in
     let w : 6 + s .args .g .width ≤ 8 = omega (arith, s .pre .0 .valid .two) in
     sym (zeros-front _ 8 w)
 
 fill-control-requires : tie.Need-fill-control-requires
 fill-control-requires c κs =
-    let s = c .before .before .before .before in
+    let start = c .before .before .before .before in
+    let s = start in
     let w : 6 + s .args .g .width ≤ 8 = omega (arith, s .pre .0 .valid .two) in
     (zeros-front _ 8 w, s .pre .0 .valid .two, s .pre .1 .0, s .pre .1 .1)
 
 array-share-prefix-field : tie.Need-array-share-prefix-field
 array-share-prefix-field c =
-    let s = c .before .before .before .before .before .before .before in
-    front-room _ _ _ _ (c .before .before .fill-control .ensures) (length-field (s .args .g .width) _ _ (s .pre .1 .1))
+    let at-fill-control = c .before .before in
+    let start = at-fill-control .before .before .before .before .before in
+    let s = start in
+    front-room _ _ _ _ (at-fill-control .fill-control .ensures) (length-field (s .args .g .width) _ _ (s .pre .1 .1))
 
 slice-aggregate-write-page : tie.Need-slice-aggregate-write-page
 slice-aggregate-write-page c =
-    let s = c .before .before .before .before .before .before .before .before in
-    front-size _ _ _ _ (c .before .before .before .fill-control .ensures) (length-field (s .args .g .width) _ _ (s .pre .1 .1))
+    let at-fill-control = c .before .before .before in
+    let start = at-fill-control .before .before .before .before .before in
+    let s = start in
+    front-size _ _ _ _ (at-fill-control .fill-control .ensures) (length-field (s .args .g .width) _ _ (s .pre .1 .1))
 
 write-page-requires : tie.Need-write-page-requires
 write-page-requires c κs =
-    let s = c .before .before .before .before .before .before .before .before in
-    (s .pre .0, (omega (arith, s .pre .0 .valid .some), front-fits _ _ _ _ (c .before .before .before .fill-control .ensures) (length-field (s .args .g .width) _ _ (s .pre .1 .1)) (s .args .g) (s .pre .0 .valid) (control-room (s .args .g) (s .pre .0 .valid))))
+    let at-fill-control = c .before .before .before in
+    let start = at-fill-control .before .before .before .before .before in
+    let s = start in (
+      s .pre .0,
+      (
+        omega (arith, s .pre .0 .valid .some),
+        front-fits _ _ _ _ (at-fill-control .fill-control .ensures) (length-field (s .args .g .width) _ _ (s .pre .1 .1))
+            (s .args .g) (s .pre .0 .valid) (control-room (s .args .g) (s .pre .0 .valid)),
+      ),
+    )
 
 returns : tie.Need-returns
 returns c =
-    let s = c .before .before .before .before .before .before .before .before .before .before .before in
-    front-written _ _ _ _ (c .before .before .before .before .before .before .fill-control .ensures) (length-field (s .args .g .width) _ _ (s .pre .1 .1)) (s .args .g) _ _ _ _ (c .before .before .write-page .ensures)
+    let at-write-page = c .before .before in
+    let at-fill-control = at-write-page .before .before .before .before in
+    let start = at-fill-control .before .before .before .before .before in
+    let s = start in
+    front-written _ _ _ _ (at-fill-control .fill-control .ensures) (length-field (s .args .g .width) _ _ (s .pre .1 .1)) (s .args .g) _ _ _ _ (at-write-page .write-page .ensures)
 
 pub write-root-spec : {M : Type 1} → statement M
 write-root-spec =
     tie.close
-    (tie.spec (λ c. search needs) (λ c. search needs) slice-aggregate-fill-control fill-control-requires array-share-prefix-field slice-aggregate-write-page write-page-requires (λ c. search needs) returns)
+    (tie.spec (λ c. search needs) (λ c. search needs) slice-aggregate-fill-control fill-control-requires array-share-prefix-field slice-aggregate-write-page write-page-requires
+    (λ c. search needs) returns)

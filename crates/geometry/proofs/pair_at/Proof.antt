@@ -4,7 +4,10 @@ use Rattle.geometry.proofs.pair_at.Statement.{statement}
 use Rattle.geometry.proofs.pair_at.Tie as tie
 
 returns : tie.Need-returns
-returns c = two-bytes _ _ _ _ (c .before .before .before .before .before .pre) (c .before .before .wide .ensures) (c .wide2 .ensures)
+returns c =
+    let at-wide = c .before .before in
+    let start = at-wide .before .before .before in
+    two-bytes _ _ _ _ (start .pre) (at-wide .wide .ensures) (c .wide2 .ensures)
 
 pub pair-at-spec : {M : Type 1} → statement M
 pair-at-spec =

@@ -4,7 +4,10 @@ use Rattle.geometry.proofs.put_number.Statement.{statement}
 use Rattle.geometry.proofs.put_number.Tie as tie
 
 returns : tie.Need-returns
-returns c = number-put _ _ _ _ _ (c .before .before .before .before .before .pre) (c .before .before .write-number .ensures)
+returns c =
+    let at-write-number = c .before .before in
+    let start = at-write-number .before .before .before in
+    number-put _ _ _ _ _ (start .pre) (at-write-number .write-number .ensures)
 
 pub put-number-spec : {M : Type 1} → statement M
 put-number-spec =

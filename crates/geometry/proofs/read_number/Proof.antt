@@ -29,19 +29,26 @@ loop-holds : tie.Need-loop-holds Inv-loop μ-loop
 loop-holds c = let n = none (c .before .args .bytes .now) in (omega arith, n .0, n .1)
 
 mul-value : tie.Need-mul-value Inv-loop μ-loop
-mul-value c = let l = c .before .before .before .loop in omega (arith, read-fits (l .value) _ (omega arith) (l .inv .2))
+mul-value c =
+    let at-loop = c .before .before .before in
+    let l = at-loop .loop in omega (arith, read-fits (l .value) _ (omega arith) (l .inv .2))
 
 add-value : tie.Need-add-value Inv-loop μ-loop
-add-value c = let l = c .before .before .before .loop in omega (arith, read-fits (l .value) _ (omega arith) (l .inv .2))
+add-value c =
+    let at-loop = c .before .before .before in
+    let l = at-loop .loop in omega (arith, read-fits (l .value) _ (omega arith) (l .inv .2))
 
 loop-again : tie.Need-loop-again Inv-loop μ-loop
 loop-again c =
-    let l = c .before .before .before .loop in
-    let bs = c .before .before .before .before .before .args .bytes .now in
+    let at-loop-test = c .before .before in
+    let at-loop = at-loop-test .before in
+    let start = at-loop .before .before in
+    let l = at-loop .loop in
+    let bs = start .args .bytes .now in
     let w = c .wide .ensures in (
       omega arith,
-      ap (λ (x : ℕ). x + 256 * l .value) (w .0) ∙ read-more bs (l .left) (l .value) (c .before .before .loop-test .taken) (l .inv .0) (l .inv .1),
-      read-bound (c .wide .result) (l .value) (length bs) (l .left) (c .before .before .loop-test .taken) (l .inv .0) (w .1) (l .inv .2),
+      ap (λ (x : ℕ). x + 256 * l .value) (w .0) ∙ read-more bs (l .left) (l .value) (at-loop-test .loop-test .taken) (l .inv .0) (l .inv .1),
+      read-bound (c .wide .result) (l .value) (length bs) (l .left) (at-loop-test .loop-test .taken) (l .inv .0) (w .1) (l .inv .2),
     )
 
 returns : tie.Need-returns Inv-loop μ-loop

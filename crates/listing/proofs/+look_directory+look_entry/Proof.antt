@@ -65,7 +65,18 @@ abbrev look-directory-μ-loop : look-directory-lts.MeasureT-loop
 look-directory-μ-loop image g levels level start k slot₀ left₀ slot left = (g .pages - slot .next .count) * 256 + (slot .count - slot .at)
 
 abbrev look-directory-calls : ℕ → look-directory-lts.Claims
-look-directory-calls t = (first-reads.Asked, first-reads.Learnt, entry-reads.Asked, entry-reads.Learnt, look-entry-below t, look-entry.Post, past-reads.Asked, past-reads.Learnt, begin-reads.Asked, begin-reads.Learnt)
+look-directory-calls t = (
+  first-reads.Asked,
+  first-reads.Learnt,
+  entry-reads.Asked,
+  entry-reads.Learnt,
+  look-entry-below t,
+  look-entry.Post,
+  past-reads.Asked,
+  past-reads.Learnt,
+  begin-reads.Asked,
+  begin-reads.Learnt,
+)
 
 abbrev look-entry-calls : ℕ → look-entry-lts.Claims
 look-entry-calls t = (entry-line-reads.Asked, entry-line-reads.Learnt, is-directory-reads.Asked, is-directory-reads.Learnt, look-directory-below t, look-directory.Post)
@@ -89,26 +100,31 @@ look-directory-entry-requires t c κs =
     let l = at-loop .loop .inv (s .1 .1 .tree) (s .1 .1 .stands) in
     (s .0, (l .ahead .at-slot .fits, c .if1 .taken))
 
-look-directory-look-entry-requires : (t : ℕ) → look-directory-lts.Need-look-entry-requires (look-directory-calls t) (look-directory-at t) look-directory.Post look-directory-Inv-loop look-directory-μ-loop
+look-directory-look-entry-requires : (t : ℕ) → look-directory-lts.Need-look-entry-requires (look-directory-calls t) (look-directory-at t) look-directory.Post
+    look-directory-Inv-loop look-directory-μ-loop
 look-directory-look-entry-requires t c κs =
-    let at-loop = c .before .before .before in
+    let at-if1 = c .before in
+    let at-loop = at-if1 .before .before in
+    let at-loop = at-loop in
     let start = at-loop .before .before .before in
     let s = start .pre .1 in
     let l = at-loop .loop .inv (s .1 .1 .tree) (s .1 .1 .stands) in
-    (omega (arith, start .pre .0), (s .0, (s .1 .0, ahead-part _ _ (s .0) _ _ _ _ _ _ l (c .before .if1 .taken) _ (c .entry .ensures .0))))
+    (omega (arith, start .pre .0), (s .0, (s .1 .0, ahead-part _ _ (s .0) _ _ _ _ _ _ l (at-if1 .if1 .taken) _ (c .entry .ensures .0))))
 
 look-directory-enum-known-x : (t : ℕ) → look-directory-lts.Need-enum-known-x (look-directory-calls t) (look-directory-at t) look-directory.Post look-directory-Inv-loop look-directory-μ-loop
 look-directory-enum-known-x t c = search needs
 
 look-directory-returns : (t : ℕ) → look-directory-lts.Need-returns (look-directory-calls t) (look-directory-at t) look-directory.Post look-directory-Inv-loop look-directory-μ-loop
 look-directory-returns t c =
-    let at-look-entry = c .before .before .before in
+    let at-x = c .before in
+    let at-look-entry = at-x .before .before in
+    let at-look-entry = at-look-entry in
     let at-entry = at-look-entry .before in
     let at-if1 = at-entry .before in
     let at-loop = at-if1 .before .before in
     let start = at-loop .before .before .before in
     λ tree st.
-    ahead-found _ _ (start .pre .1 .0) _ _ _ tree _ _ (at-loop .loop .inv tree st) (at-if1 .if1 .taken) _ (at-entry .entry .ensures .0) _ (at-look-entry .look-entry .ensures) _ (c .before .x .given .1)
+    ahead-found _ _ (start .pre .1 .0) _ _ _ tree _ _ (at-loop .loop .inv tree st) (at-if1 .if1 .taken) _ (at-entry .entry .ensures .0) _ (at-look-entry .look-entry .ensures) _ (at-x .x .given .1)
 
 look-directory-enum-known-j : (t : ℕ) → look-directory-lts.Need-enum-known-j (look-directory-calls t) (look-directory-at t) look-directory.Post look-directory-Inv-loop look-directory-μ-loop
 look-directory-enum-known-j t c = search needs
@@ -119,6 +135,7 @@ look-directory-past-requires t c κs = search needs
 look-directory-loop-less : (t : ℕ) → look-directory-lts.Need-loop-less (look-directory-calls t) (look-directory-at t) look-directory.Post look-directory-Inv-loop look-directory-μ-loop
 look-directory-loop-less t c =
     let at-if1 = c .before .before .before .before .before .before in
+    let at-if1 = at-if1 in
     let start = at-if1 .before .before .before .before .before in
     past-less (start .args .g .pages) _ _ (c .past .ensures) (at-if1 .if1 .taken)
 
@@ -131,11 +148,13 @@ look-directory-loop-again t c =
     let at-loop = at-if1 .before .before in
     let start = at-loop .before .before .before in
     λ tree st.
-    ahead-past _ _ (start .pre .1 .0) _ _ _ tree _ _ (at-loop .loop .inv tree st) (at-if1 .if1 .taken) _ (at-entry .entry .ensures .0) _ (at-look-entry .look-entry .ensures) _ (at-j .j .given .1) _ (c .past .ensures)
+    ahead-past _ _ (start .pre .1 .0) _ _ _ tree _ _ (at-loop .loop .inv tree st) (at-if1 .if1 .taken) _ (at-entry .entry .ensures .0) _ (at-look-entry .look-entry .ensures) _
+    (at-j .j .given .1) _ (c .past .ensures)
 
 look-directory-returns-2 : (t : ℕ) → look-directory-lts.Need-returns-2 (look-directory-calls t) (look-directory-at t) look-directory.Post look-directory-Inv-loop look-directory-μ-loop
 look-directory-returns-2 t c =
     let at-if1 = c .before .before .before in
+    let at-if1 = at-if1 in
     let at-loop = at-if1 .before .before in
     let start = at-loop .before .before .before in
     λ tree st. ahead-done _ _ (start .pre .1 .0) _ _ _ tree _ _ (at-loop .loop .inv tree st) (at-if1 .if1 .left) (c .if2 .taken)
@@ -143,6 +162,7 @@ look-directory-returns-2 t c =
 look-directory-begin-requires : (t : ℕ) → look-directory-lts.Need-begin-requires (look-directory-calls t) (look-directory-at t) look-directory.Post look-directory-Inv-loop look-directory-μ-loop
 look-directory-begin-requires t c κs =
     let at-if1 = c .before .before .before in
+    let at-if1 = at-if1 in
     let at-loop = at-if1 .before .before in
     let start = at-loop .before .before .before in
     let s = start .pre .1 in
@@ -152,23 +172,27 @@ look-directory-begin-requires t c κs =
 
 look-directory-loop-less-2 : (t : ℕ) → look-directory-lts.Need-loop-less-2 (look-directory-calls t) (look-directory-at t) look-directory.Post look-directory-Inv-loop look-directory-μ-loop
 look-directory-loop-less-2 t c =
-    let at-if1 = c .before .before .before .before in
+    let at-if2 = c .before in
+    let at-if1 = at-if2 .before .before .before in
+    let at-if1 = at-if1 in
     let at-loop = at-if1 .before .before in
     let start = at-loop .before .before .before in
     let s = start .pre .1 in
     let l = at-loop .loop .inv (s .1 .1 .tree) (s .1 .1 .stands) in
-    let k = ahead-next _ _ (s .0) _ _ _ _ _ _ l (at-if1 .if1 .left) (c .before .if2 .left) in
-    let n = ahead-page _ _ (s .0) _ _ _ _ _ _ l (at-if1 .if1 .left) (c .before .if2 .left) _ (c .begin .ensures) in
+    let k = ahead-next _ _ (s .0) _ _ _ _ _ _ l (at-if1 .if1 .left) (at-if2 .if2 .left) in
+    let n = ahead-page _ _ (s .0) _ _ _ _ _ _ l (at-if1 .if1 .left) (at-if2 .if2 .left) _ (c .begin .ensures) in
     let f = l .ahead .few in
     page-less (start .args .g .pages) _ _ _ _ _ (counts-on _ _ (s .0) _ _ _ (c .begin .ensures) (k .2)) (omega (arith, k .3)) (slot-few _ _ (s .0 .valid) (n .ahead .at-slot .fits))
 
 look-directory-loop-again-2 : (t : ℕ) → look-directory-lts.Need-loop-again-2 (look-directory-calls t) (look-directory-at t) look-directory.Post look-directory-Inv-loop look-directory-μ-loop
 look-directory-loop-again-2 t c =
-    let at-if1 = c .before .before .before .before in
+    let at-if2 = c .before in
+    let at-if1 = at-if2 .before .before .before in
+    let at-if1 = at-if1 in
     let at-loop = at-if1 .before .before in
     let start = at-loop .before .before .before in
     λ tree st.
-    ahead-page _ _ (start .pre .1 .0) _ _ _ tree _ _ (at-loop .loop .inv tree st) (at-if1 .if1 .left) (c .before .if2 .left) _ (c .begin .ensures)
+    ahead-page _ _ (start .pre .1 .0) _ _ _ tree _ _ (at-loop .loop .inv tree st) (at-if1 .if1 .left) (at-if2 .if2 .left) _ (c .begin .ensures)
 
 look-entry-entry-line-requires : (t : ℕ) → look-entry-lts.Need-entry-line-requires (look-entry-calls t) (look-entry-at t) look-entry.Post
 look-entry-entry-line-requires t c κs =
@@ -177,9 +201,10 @@ look-entry-entry-line-requires t c κs =
 
 look-entry-returns : (t : ℕ) → look-entry-lts.Need-returns (look-entry-calls t) (look-entry-at t) look-entry.Post
 look-entry-returns t c =
-    let start = c .before .before .before in
+    let at-if1 = c .before in
+    let start = at-if1 .before .before in
     let a = start .args in
-    looks-head _ _ (a .levels) (a .level) (a .e) (a .k) _ (c .before .if1 .taken) (c .entry-line .ensures)
+    looks-head _ _ (a .levels) (a .level) (a .e) (a .k) _ (at-if1 .if1 .taken) (c .entry-line .ensures)
 
 look-entry-returns-3 : (t : ℕ) → look-entry-lts.Need-returns-3 (look-entry-calls t) (look-entry-at t) look-entry.Post
 look-entry-returns-3 t c =
@@ -190,9 +215,10 @@ look-entry-returns-3 t c =
 
 look-entry-sub-look-directory : (t : ℕ) → look-entry-lts.Need-sub-look-directory (look-entry-calls t) (look-entry-at t) look-entry.Post
 look-entry-sub-look-directory t c =
-    let start = c .before .before .before .before in
+    let at-is-directory = c .before in
+    let start = at-is-directory .before .before .before in
     let a = start .args in
-    let k = some-level _ _ (a .levels) (a .level) (a .e) (sym (c .before .is-directory .ensures) ∙ c .if2 .taken) (start .pre .1 .1 .1) in
+    let k = some-level _ _ (a .levels) (a .level) (a .e) (sym (at-is-directory .is-directory .ensures) ∙ c .if2 .taken) (start .pre .1 .1 .1) in
     omega arith
 
 look-entry-add-look-directory : (t : ℕ) → look-entry-lts.Need-add-look-directory (look-entry-calls t) (look-entry-at t) look-entry.Post
@@ -203,11 +229,12 @@ look-entry-add-look-directory t c =
 
 look-entry-look-directory-requires : (t : ℕ) → look-entry-lts.Need-look-directory-requires (look-entry-calls t) (look-entry-at t) look-entry.Post
 look-entry-look-directory-requires t c κs =
-    let start = c .before .before .before .before in
+    let at-is-directory = c .before in
+    let start = at-is-directory .before .before .before in
     let a = start .args in
     let s = start .pre .1 in
-    let k = some-level _ _ (a .levels) (a .level) (a .e) (sym (c .before .is-directory .ensures) ∙ c .if2 .taken) (s .1 .1) in
-    (omega (arith, start .pre .0), (s .0, (omega (arith, s .1 .0), has-directory _ _ (a .levels) (a .level) (a .e) (sym (c .before .is-directory .ensures) ∙ c .if2 .taken) (s .1 .1))))
+    let k = some-level _ _ (a .levels) (a .level) (a .e) (sym (at-is-directory .is-directory .ensures) ∙ c .if2 .taken) (s .1 .1) in
+    (omega (arith, start .pre .0), (s .0, (omega (arith, s .1 .0), has-directory _ _ (a .levels) (a .level) (a .e) (sym (at-is-directory .is-directory .ensures) ∙ c .if2 .taken) (s .1 .1))))
 
 look-entry-returns-2 : (t : ℕ) → look-entry-lts.Need-returns-2 (look-entry-calls t) (look-entry-at t) look-entry.Post
 look-entry-returns-2 t c =
@@ -215,7 +242,8 @@ look-entry-returns-2 t c =
     let at-if1 = at-is-directory .before in
     let start = at-if1 .before .before in
     let a = start .args in
-    looks-below _ _ (a .levels) (a .level) (a .e) (sym (at-is-directory .is-directory .ensures) ∙ c .before .if2 .taken) (a .k) (c .look-directory .result) (at-if1 .if1 .left) (c .look-directory .ensures)
+    looks-below _ _ (a .levels) (a .level) (a .e) (sym (at-is-directory .is-directory .ensures) ∙ c .before .if2 .taken) (a .k) (c .look-directory .result) (at-if1 .if1 .left)
+    (c .look-directory .ensures)
 
 pub +look-directory+look-entry-spec : {M : Type 1} → statement M
 +look-directory+look-entry-spec =

@@ -14,10 +14,11 @@ returns c =
 
 chain-bytes-requires : tie.Need-chain-bytes-requires
 chain-bytes-requires c κs =
-    let start = c .before .before .before in
+    let at-is-directory = c .before in
+    let start = at-is-directory .before .before in
     let a = start .args in
     let s = start .pre in
-    (s .0, file-known _ _ (a .levels) (a .level) (a .e) (sym (c .before .is-directory .ensures) ∙ c .if1 .left) (s .1))
+    (s .0, file-known _ _ (a .levels) (a .level) (a .e) (sym (at-is-directory .is-directory .ensures) ∙ c .if1 .left) (s .1))
 
 returns-2 : tie.Need-returns-2
 returns-2 c =

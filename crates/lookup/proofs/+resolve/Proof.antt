@@ -29,31 +29,58 @@ abbrev resolve-calls : ℕ → resolve-lts.Claims
 resolve-calls t = (number-at-reads.Asked, number-at-reads.Learnt, key-of-reads.Asked, key-of-reads.Learnt, find-entry-reads.Asked, find-entry-reads.Learnt, resolve-below t, resolve.Post)
 
 resolve-returns : (t : ℕ) → resolve-lts.Need-returns (resolve-calls t) (resolve-at t) resolve.Post
-resolve-returns t c = λ tree T site here.
-    let a = c .before .before .before .args in
+resolve-returns t c =
+    let start = c .before .before .before in
+    λ tree T site here.
+    let a = start .args in
     lead-here (a .g) (viewOf (a .g) (a .image .now)) (a .start) (a .path .now) (a .at) (a .names) (c .if1 .taken) tree T site here
 
 resolve-find-entry-requires : (t : ℕ) → resolve-lts.Need-find-entry-requires (resolve-calls t) (resolve-at t) resolve.Post
-resolve-find-entry-requires t c κs = let s = c .before .before .before .before .before .pre .1 in (s .0, s .1 .0)
+resolve-find-entry-requires t c κs =
+    let start = c .before .before .before .before .before in
+    let s = start .pre .1 in (s .0, s .1 .0)
 
 resolve-resolve-requires : (t : ℕ) → resolve-lts.Need-resolve-requires (resolve-calls t) (resolve-at t) resolve.Post
 resolve-resolve-requires t c κs =
-    let s = c .before .before .before .before .before .before .before .before .before .pre .1 in
+    let at-e = c .before in
+    let at-find-entry = at-e .before .before in
+    let at-key-of = at-find-entry .before in
+    let at-number-at = at-key-of .before in
+    let at-if1 = at-number-at .before in
+    let start = at-if1 .before .before .before in
+    let s = start .pre .1 in
     let h = s .1 .0 in
-    let a = c .before .before .before .before .before .before .before .before .before .args in
-    let n = lead-next (a .g) (viewOf (a .g) (a .image .now)) (a .start) (a .path .now) (a .at) (a .names) (c .before .before .before .before .before .before .if1 .left) _ _ (c .before .before .before .before .before .number-at .ensures .0) (c .before .before .before .before .key-of .ensures) (h .tree) (h .at) _ (sym (c .before .e .given .1) ∙ c .before .before .before .find-entry .ensures (h .tree) (h .at)) in
-    (omega (arith, c .before .before .before .before .before .before .before .before .before .pre .0, c .before .before .before .before .before .before .if1 .left), (s .0, (record { tree = n .items; at = n .tree }, omega (arith, s .1 .1))))
+    let a = start .args in
+    let n = lead-next (a .g) (viewOf (a .g) (a .image .now)) (a .start) (a .path .now) (a .at) (a .names) (at-if1 .if1 .left) _ _ (at-number-at .number-at .ensures .0)
+    (at-key-of .key-of .ensures) (h .tree) (h .at) _ (sym (at-e .e .given .1) ∙ at-find-entry .find-entry .ensures (h .tree) (h .at)) in
+    (omega (arith, start .pre .0, at-if1 .if1 .left), (s .0, (record { tree = n .items; at = n .tree }, omega (arith, s .1 .1))))
 
 resolve-returns-2 : (t : ℕ) → resolve-lts.Need-returns-2 (resolve-calls t) (resolve-at t) resolve.Post
-resolve-returns-2 t c = λ tree T site here.
-    let a = c .before .before .before .before .before .before .before .before .args in
-    lead-absent (a .g) (viewOf (a .g) (a .image .now)) (a .start) (a .path .now) (a .at) (a .names) (c .before .before .before .before .before .if1 .left) _ _ (c .before .before .before .before .number-at .ensures .0) (c .before .before .before .key-of .ensures) tree (sym (c .enum-told .given .1) ∙ c .before .before .find-entry .ensures tree T) site here
+resolve-returns-2 t c =
+    let at-find-entry = c .before .before in
+    let at-key-of = at-find-entry .before in
+    let at-number-at = at-key-of .before in
+    let at-if1 = at-number-at .before in
+    let start = at-if1 .before .before .before in
+    λ tree T site here.
+    let a = start .args in
+    lead-absent (a .g) (viewOf (a .g) (a .image .now)) (a .start) (a .path .now) (a .at) (a .names) (at-if1 .if1 .left) _ _ (at-number-at .number-at .ensures .0)
+    (at-key-of .key-of .ensures) tree (sym (c .enum-told .given .1) ∙ at-find-entry .find-entry .ensures tree T) site here
 
 resolve-returns-3 : (t : ℕ) → resolve-lts.Need-returns-3 (resolve-calls t) (resolve-at t) resolve.Post
-resolve-returns-3 t c = λ tree T site here.
-    let a = c .before .before .before .before .before .before .before .before .before .before .args in
-    let n = lead-next (a .g) (viewOf (a .g) (a .image .now)) (a .start) (a .path .now) (a .at) (a .names) (c .before .before .before .before .before .before .before .if1 .left) _ _ (c .before .before .before .before .before .before .number-at .ensures .0) (c .before .before .before .before .before .key-of .ensures) tree T _ (sym (c .before .before .e .given .1) ∙ c .before .before .before .before .find-entry .ensures tree T) in
-    lead-on (a .g) (viewOf (a .g) (a .image .now)) (a .start) (a .path .now) (a .at) (a .names) (c .before .before .before .before .before .before .before .if1 .left) _ _ (c .before .before .before .before .before .before .number-at .ensures .0) (c .before .before .before .before .before .key-of .ensures) tree _ n site here (c .resolve .result) (c .resolve .ensures (n .items) (n .tree))
+resolve-returns-3 t c =
+    let at-e = c .before .before in
+    let at-find-entry = at-e .before .before in
+    let at-key-of = at-find-entry .before in
+    let at-number-at = at-key-of .before in
+    let at-if1 = at-number-at .before in
+    let start = at-if1 .before .before .before in
+    λ tree T site here.
+    let a = start .args in
+    let n = lead-next (a .g) (viewOf (a .g) (a .image .now)) (a .start) (a .path .now) (a .at) (a .names) (at-if1 .if1 .left) _ _ (at-number-at .number-at .ensures .0)
+    (at-key-of .key-of .ensures) tree T _ (sym (at-e .e .given .1) ∙ at-find-entry .find-entry .ensures tree T) in
+    lead-on (a .g) (viewOf (a .g) (a .image .now)) (a .start) (a .path .now) (a .at) (a .names) (at-if1 .if1 .left) _ _ (at-number-at .number-at .ensures .0)
+    (at-key-of .key-of .ensures) tree _ n site here (c .resolve .result) (c .resolve .ensures (n .items) (n .tree))
 
 pub +resolve-spec : {M : Type 1} → statement M
 +resolve-spec = close μ-resolve λ t. resolve-lts.spec (resolve-calls t) (resolve-at t)

@@ -6,14 +6,21 @@ use Rattle.lookup.proofs.find_entry.Statement.{statement}
 use Rattle.lookup.proofs.find_entry.Tie as tie
 
 returns : tie.Need-returns
-returns c = λ t T.
-    let a = c .before .before .before .before .before .args in
-    subst (IsPlace (a .g) (viewOf (a .g) (a .image .now)) (a .key) t) (c .before .e .given .1) (c .before .before .before .find-place .ensures t T) .found
+returns c =
+    let at-e = c .before in
+    let at-find-place = at-e .before .before in
+    let start = at-find-place .before .before in
+    λ t T.
+    let a = start .args in
+    subst (IsPlace (a .g) (viewOf (a .g) (a .image .now)) (a .key) t) (at-e .e .given .1) (at-find-place .find-place .ensures t T) .found
 
 returns-2 : tie.Need-returns-2
-returns-2 c = λ t T.
-    let a = c .before .before .before .before .args in
-    subst (IsPlace (a .g) (viewOf (a .g) (a .image .now)) (a .key) t) (c .enum-told .given .1) (c .before .before .find-place .ensures t T)
+returns-2 c =
+    let at-find-place = c .before .before in
+    let start = at-find-place .before .before in
+    λ t T.
+    let a = start .args in
+    subst (IsPlace (a .g) (viewOf (a .g) (a .image .now)) (a .key) t) (c .enum-told .given .1) (at-find-place .find-place .ensures t T)
 
 pub find-entry-spec : {M : Type 1} → statement M
 find-entry-spec =

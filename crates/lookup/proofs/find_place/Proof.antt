@@ -26,37 +26,72 @@ loop-holds c = λ t d. find-first _ _ (c .before .before .pre .0) _ t _ _ d (c .
 
 entry-requires : tie.Need-entry-requires Inv-loop μ-loop
 entry-requires c κs =
-    let s = c .before .before .before .before .before .pre in
-    (s .0, (c .before .before .loop .inv (s .1 .tree) (s .1 .at) .ahead .at-slot .fits, c .if1 .taken))
+    let at-loop = c .before .before in
+    let start = at-loop .before .before .before in
+    let s = start .pre in
+    (s .0, (at-loop .loop .inv (s .1 .tree) (s .1 .at) .ahead .at-slot .fits, c .if1 .taken))
 
 returns : tie.Need-returns Inv-loop μ-loop
-returns c = λ t d. found _ _ (c .before .before .before .before .before .before .before .before .pre .0) _ t _ (c .before .before .before .before .before .loop .inv t d) (c .before .before .before .if1 .taken) _ (c .before .before .entry .ensures .0) (sym (c .before .key-of .ensures) ∙ c .if2 .taken)
+returns c =
+    let at-key-of = c .before in
+    let at-entry = at-key-of .before in
+    let at-if1 = at-entry .before in
+    let at-loop = at-if1 .before .before in
+    let start = at-loop .before .before .before in
+    λ t d. found _ _ (start .pre .0) _ t _ (at-loop .loop .inv t d) (at-if1 .if1 .taken) _ (at-entry .entry .ensures .0) (sym (at-key-of .key-of .ensures) ∙ c .if2 .taken)
 
 loop-less : tie.Need-loop-less Inv-loop μ-loop
-loop-less c = past-less (c .before .before .before .before .before .before .before .before .before .args .g .pages) _ _ (c .past .ensures) (c .before .before .before .before .if1 .taken)
+loop-less c =
+    let at-if1 = c .before .before .before .before in
+    let start = at-if1 .before .before .before .before .before in
+    past-less (start .args .g .pages) _ _ (c .past .ensures) (at-if1 .if1 .taken)
 
 loop-again : tie.Need-loop-again Inv-loop μ-loop
-loop-again c = λ t d. find-on _ _ (c .before .before .before .before .before .before .before .before .before .pre .0) _ t _ (c .before .before .before .before .before .before .loop .inv t d) (c .before .before .before .before .if1 .taken) _ (c .before .before .before .entry .ensures .0) (λ h. c .before .if2 .left (c .before .before .key-of .ensures ∙ h)) _ (c .past .ensures)
+loop-again c =
+    let at-if2 = c .before in
+    let at-key-of = at-if2 .before in
+    let at-entry = at-key-of .before in
+    let at-if1 = at-entry .before in
+    let at-loop = at-if1 .before .before in
+    let start = at-loop .before .before .before in
+    λ t d. find-on _ _ (start .pre .0) _ t _ (at-loop .loop .inv t d) (at-if1 .if1 .taken) _ (at-entry .entry .ensures .0)
+    (λ h. at-if2 .if2 .left (at-key-of .key-of .ensures ∙ h)) _ (c .past .ensures)
 
 returns-2 : tie.Need-returns-2 Inv-loop μ-loop
-returns-2 c = λ t d. not-found _ _ (c .before .before .before .before .before .before .before .before .pre .0) _ t _ (c .before .before .before .before .before .loop .inv t d) (c .before .before .before .if1 .left) (c .if3 .taken)
+returns-2 c =
+    let at-if1 = c .before .before .before in
+    let at-loop = at-if1 .before .before in
+    let start = at-loop .before .before .before in
+    λ t d. not-found _ _ (start .pre .0) _ t _ (at-loop .loop .inv t d) (at-if1 .if1 .left) (c .if3 .taken)
 
 begin-requires : tie.Need-begin-requires Inv-loop μ-loop
 begin-requires c κs =
-    let s = c .before .before .before .before .before .before .before .before .pre in
-    let k = find-next _ _ (s .0) _ _ _ (c .before .before .before .before .before .loop .inv (s .1 .tree) (s .1 .at)) (c .before .before .before .if1 .left) (c .if3 .left) in
+    let at-if1 = c .before .before .before in
+    let at-loop = at-if1 .before .before in
+    let start = at-loop .before .before .before in
+    let s = start .pre in
+    let k = find-next _ _ (s .0) _ _ _ (at-loop .loop .inv (s .1 .tree) (s .1 .at)) (at-if1 .if1 .left) (c .if3 .left) in
     (s .0, (k .0, k .1, k .2, omega arith))
 
 loop-less-2 : tie.Need-loop-less-2 Inv-loop μ-loop
 loop-less-2 c =
-    let s = c .before .before .before .before .before .before .before .before .before .pre in
-    let l = c .before .before .before .before .before .before .loop .inv (s .1 .tree) (s .1 .at) in
-    let k = find-next _ _ (s .0) _ _ _ l (c .before .before .before .before .if1 .left) (c .before .if3 .left) in
-    let n = find-page-on _ _ (s .0) _ _ _ l (c .before .before .before .before .if1 .left) (c .before .if3 .left) _ (c .begin .ensures) in
-    page-less (c .before .before .before .before .before .before .before .before .before .args .g .pages) _ _ _ _ _ (counts-on _ _ (s .0) _ _ _ (c .begin .ensures) (k .2)) (omega (arith, k .3, l .ahead .few)) (slot-few _ _ (s .0 .valid) (n .ahead .at-slot .fits))
+    let at-if3 = c .before in
+    let at-if1 = at-if3 .before .before .before in
+    let at-loop = at-if1 .before .before in
+    let start = at-loop .before .before .before in
+    let s = start .pre in
+    let l = at-loop .loop .inv (s .1 .tree) (s .1 .at) in
+    let k = find-next _ _ (s .0) _ _ _ l (at-if1 .if1 .left) (at-if3 .if3 .left) in
+    let n = find-page-on _ _ (s .0) _ _ _ l (at-if1 .if1 .left) (at-if3 .if3 .left) _ (c .begin .ensures) in
+    page-less (start .args .g .pages) _ _ _ _ _ (counts-on _ _ (s .0) _ _ _ (c .begin .ensures) (k .2)) (omega (arith, k .3, l .ahead .few)) (slot-few _ _ (s .0 .valid) (n .ahead .at-slot .fits))
 
 loop-again-2 : tie.Need-loop-again-2 Inv-loop μ-loop
-loop-again-2 c = λ t d. find-page-on _ _ (c .before .before .before .before .before .before .before .before .before .pre .0) _ t _ (c .before .before .before .before .before .before .loop .inv t d) (c .before .before .before .before .if1 .left) (c .before .if3 .left) _ (c .begin .ensures)
+loop-again-2 c =
+    let at-if3 = c .before in
+    let at-if1 = at-if3 .before .before .before in
+    let at-loop = at-if1 .before .before in
+    let start = at-loop .before .before .before in
+    λ t d. find-page-on _ _ (start .pre .0) _ t _ (at-loop .loop .inv t d) (at-if1 .if1 .left) (at-if3 .if3 .left) _ (c .begin .ensures)
 
 pub find-place-spec : {M : Type 1} → statement M
 find-place-spec =

@@ -4,7 +4,10 @@ use Rattle.marks.proofs.byte_of.Statement.{statement}
 use Rattle.marks.proofs.byte_of.Tie as tie
 
 returns : tie.Need-returns
-returns c = let a = c .before .before .before .args in eight (a .owners .now) (a .k) _ _ (c .before .four-bits .ensures .0) (c .four-bits2 .ensures .0)
+returns c =
+    let at-four-bits = c .before in
+    let start = at-four-bits .before .before in
+    let a = start .args in eight (a .owners .now) (a .k) _ _ (at-four-bits .four-bits .ensures .0) (c .four-bits2 .ensures .0)
 
 pub byte-of-spec : {M : Type 1} → statement M
 byte-of-spec =

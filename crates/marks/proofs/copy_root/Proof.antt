@@ -10,27 +10,48 @@ use Rattle.marks.proofs.copy_root.Tie as tie
 
 frame-requires : tie.Need-frame-requires
 frame-requires c κs =
-    let f = c .before .before .before .pre .0 in
-    (f .valid .one, f .valid .two, omega (arith, ap length (c .page-of .ensures), page-length (c .before .before .before .args .g) (c .before .before .before .args .image .now) 0 f (omega (arith, f .valid .some)), f .valid .least))
+    let start = c .before .before .before in
+    let f = start .pre .0 in
+    (f .valid .one, f .valid .two, omega (arith, ap length (c .page-of .ensures), page-length (start .args .g) (start .args .image .now) 0 f (omega (arith, f .valid .some)), f .valid .least))
 
 data-of-requires : tie.Need-data-of-requires
 data-of-requires c κs =
-    let s = c .before .before .before .before .before .before .before .before .pre in
-    first-inside _ _ (s .0) _ _ (s .1 .1 .stands .packet) _ (c .before .before .before .before .before .page-of .ensures) _ (c .before .before .before .before .frame .ensures) _ _ (c .before .before .length .given .1)
+    let at-length = c .before .before in
+    let at-frame = at-length .before .before in
+    let at-page-of = at-frame .before in
+    let start = at-page-of .before .before .before in
+    let s = start .pre in
+    first-inside _ _ (s .0) _ _ (s .1 .1 .stands .packet) _ (at-page-of .page-of .ensures) _ (at-frame .frame .ensures) _ _ (at-length .length .given .1)
 
 put-bytes-requires : tie.Need-put-bytes-requires
 put-bytes-requires c κs =
-    let s = c .before .before .before .before .before .before .before .before .before .pre in
-    let k = first-place _ _ (s .0) _ _ (s .1 .1 .stands .packet) _ (c .before .before .before .before .before .before .page-of .ensures) _ (c .before .before .before .before .before .frame .ensures) _ _ (c .before .before .before .length .given .1) _ (c .data-of .ensures) in
+    let at-length = c .before .before .before in
+    let at-frame = at-length .before .before in
+    let at-page-of = at-frame .before in
+    let start = at-page-of .before .before .before in
+    let s = start .pre in
+    let k = first-place _ _ (s .0) _ _ (s .1 .1 .stands .packet) _ (at-page-of .page-of .ensures) _ (at-frame .frame .ensures) _ _ (at-length .length .given .1) _ (c .data-of .ensures) in
     omega (arith, k, s .1 .0)
 
 returns : tie.Need-returns
 unfolding CopiesRoot
-returns c = λ b next q. absurd (first-never _ _ (c .before .before .before .before .before .before .pre .0) b next q _ (c .before .before .before .page-of .ensures) _ (c .before .before .frame .ensures) (c .enum-told .given .1))
+returns c =
+    let at-frame = c .before .before in
+    let at-page-of = at-frame .before in
+    let start = at-page-of .before .before .before in
+    λ b next q. absurd (first-never _ _ (start .pre .0) b next q _ (at-page-of .page-of .ensures) _ (at-frame .frame .ensures) (c .enum-told .given .1))
 
 returns-2 : tie.Need-returns-2
 unfolding CopiesRoot
-returns-2 c = λ b next q. first-copied _ _ (c .before .before .before .before .before .before .before .before .before .before .before .before .pre .0) b next q _ (c .before .before .before .before .before .before .before .before .before .page-of .ensures) _ (c .before .before .before .before .before .before .before .before .frame .ensures) _ _ (c .before .before .before .before .before .before .length .given .1) _ (c .before .before .before .data-of .ensures) _ _ (c .before .before .put-bytes .ensures)
+returns-2 c =
+    let at-put-bytes = c .before .before in
+    let at-data-of = at-put-bytes .before in
+    let at-length = at-data-of .before .before .before in
+    let at-frame = at-length .before .before in
+    let at-page-of = at-frame .before in
+    let start = at-page-of .before .before .before in
+    λ b next q. first-copied _ _ (start .pre .0) b next q _ (at-page-of .page-of .ensures) _ (at-frame .frame .ensures) _ _ (at-length .length .given .1) _
+    (at-data-of .data-of .ensures) _ _ (at-put-bytes .put-bytes .ensures)
 
 pub copy-root-spec : {M : Type 1} → statement M
 copy-root-spec =

@@ -21,19 +21,25 @@ loop-holds c = let a = c .before .before .args in (refl, omega arith, none-fille
 
 loop-again : tie.Need-loop-again Inv-loop μ-loop
 loop-again c =
-    let l = c .before .before .loop in
-    let a = c .before .before .before .before .before .args in
+    let at-loop-test = c .before in
+    let at-loop = at-loop-test .before in
+    let start = at-loop .before .before .before in
+    let l = at-loop .loop in
+    let a = start .args in
     let n = length-set (l .bytes) (l .i) (c .byte-of .result) in
-    (n ∙ l .inv .0, omega (arith, c .before .loop-test .taken, n), filled-on (a .owners .now) (l .bytes) (a .k) (l .i) _ (c .before .loop-test .taken) (l .inv .2) (c .byte-of .ensures))
+    (n ∙ l .inv .0, omega (arith, at-loop-test .loop-test .taken, n), filled-on (a .owners .now) (l .bytes) (a .k) (l .i) _ (at-loop-test .loop-test .taken) (l .inv .2) (c .byte-of .ensures))
 
 returns : tie.Need-returns Inv-loop μ-loop
 returns c =
-    let l = c .before .loop in
+    let at-loop = c .before in
+    let start = at-loop .before .before .before in
+    let l = at-loop .loop in
     let n : l .i ≡ length (l .bytes) = omega (arith, c .loop-test .left, l .inv .1) in
     let m : length (l .bytes) ≤ l .i = omega arith in
-    sym (take-all (l .i) (l .bytes) m) ∙ l .inv .2 ∙ ap (marksFrom (c .before .before .before .before .args .owners .now) (c .before .before .before .before .args .k)) (n ∙ l .inv .0)
+    sym (take-all (l .i) (l .bytes) m) ∙ l .inv .2 ∙ ap (marksFrom (start .args .owners .now) (start .args .k)) (n ∙ l .inv .0)
 
 pub fill-spec : {M : Type 1} → statement M
 fill-spec =
     tie.close
-    (tie.spec Inv-loop μ-loop loop-holds (λ c. search needs) (λ c. search needs) (λ c κs. search needs) (λ c. search needs) (λ c. search needs) (λ c. search needs) loop-again (λ c. search needs) returns)
+    (tie.spec Inv-loop μ-loop loop-holds (λ c. search needs) (λ c. search needs) (λ c κs. search needs) (λ c. search needs) (λ c. search needs) (λ c. search needs) loop-again
+    (λ c. search needs) returns)

@@ -9,11 +9,16 @@ use Rattle.marks.proofs.is_local.Tie as tie
 
 shared-slice-read-result : tie.Need-shared-slice-read-result
 shared-slice-read-result c =
-    let f = c .before .before .before .before .pre in
-    omega (arith, ap length (c .before .page-of .ensures), page-length (c .before .before .before .before .args .g) (c .before .before .before .before .args .image .now) 0 f (omega (arith, f .valid .some)), f .valid .least, f .valid .two)
+    let at-page-of = c .before in
+    let start = at-page-of .before .before .before in
+    let f = start .pre in
+    omega (arith, ap length (at-page-of .page-of .ensures), page-length (start .args .g) (start .args .image .now) 0 f (omega (arith, f .valid .some)), f .valid .least, f .valid .two)
 
 returns : tie.Need-returns
-returns c = tells-local _ _ (c .before .before .before .before .pre) _ (c .before .page-of .ensures)
+returns c =
+    let at-page-of = c .before in
+    let start = at-page-of .before .before .before in
+    tells-local _ _ (start .pre) _ (at-page-of .page-of .ensures)
 
 pub is-local-spec : {M : Type 1} → statement M
 is-local-spec =

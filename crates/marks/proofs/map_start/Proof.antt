@@ -9,11 +9,25 @@ use Rattle.marks.proofs.map_start.Tie as tie
 
 number-at-requires : tie.Need-number-at-requires
 number-at-requires c κs =
-    let f = c .before .before .before .pre in
-    (omega (arith, f .valid .two), omega (arith, ap length (c .before .page-of .ensures), page-length (c .before .before .before .args .g) (c .before .before .before .args .image .now) 0 f (omega (arith, f .valid .some)), f .valid .least, f .valid .two))
+    let at-page-of = c .before in
+    let start = at-page-of .before .before in
+    let f = start .pre in (
+      omega (arith, f .valid .two),
+      omega (
+        arith,
+        ap length (at-page-of .page-of .ensures),
+        page-length (start .args .g) (start .args .image .now) 0 f
+            (omega (arith, f .valid .some)),
+        f .valid .least,
+        f .valid .two,
+      ),
+    )
 
 returns : tie.Need-returns
-returns c = tells-start _ _ (c .before .before .before .before .pre) _ (c .before .before .page-of .ensures) _ (c .number-at .ensures .0)
+returns c =
+    let at-page-of = c .before .before in
+    let start = at-page-of .before .before in
+    tells-start _ _ (start .pre) _ (at-page-of .page-of .ensures) _ (c .number-at .ensures .0)
 
 pub map-start-spec : {M : Type 1} → statement M
 map-start-spec =

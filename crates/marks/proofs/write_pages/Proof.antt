@@ -15,90 +15,143 @@ use Rattle.marks.proofs.write_pages.Tie as tie
 
 abbrev Inv-loop : tie.InvT-loop
 Inv-loop image₀ g start owners buffer₀ c₀ image buffer c =
-    (length image ≡ length image₀) × (length buffer ≡ length buffer₀) × ((ls : List Link) → FileStands g (viewOf g image₀) start ls → Writing g owners (length ls) (fileWritten g owners ls image₀) image c)
+    (length image ≡ length image₀) × (length buffer ≡ length buffer₀) ×
+    ((ls : List Link) → FileStands g (viewOf g image₀) start ls → Writing g owners (length ls) (fileWritten g owners ls image₀) image c)
 
 abbrev μ-loop : tie.MeasureT-loop
 μ-loop image₀ g start owners buffer₀ c₀ image buffer c = g .pages - c .count
 
 loop-holds : tie.Need-loop-holds Inv-loop μ-loop
-loop-holds c = (refl, refl, λ ls d. write-first _ _ _ _ ls _ (c .before .before .before .before .pre .0) (c .new .ensures) d)
+loop-holds c =
+    let start = c .before .before .before .before in
+    (refl, refl, λ ls d. write-first _ _ _ _ ls _ (start .pre .0) (c .new .ensures) d)
 
 step-requires : tie.Need-step-requires Inv-loop μ-loop
 step-requires c κs =
-    let s = c .before .before .before .before .before .before .pre .1 .1 in
-    let l = c .before .loop .inv .2 (s .links) (s .stands) in
+    let at-loop = c .before in
+    let start = at-loop .before .before .before .before .before in
+    let s = start .pre .1 .1 in
+    let l = at-loop .loop .inv .2 (s .links) (s .stands) in
     (l .fit, (l .following .counted, λ z. page-known _ _ (l .fit) _ _ _ (l .following) .1))
 
 returns : tie.Need-returns Inv-loop μ-loop
 returns c =
-    let s = c .before .before .before .before .before .before .before .before .before .pre .1 .1 in
-    let l = c .before .before .before .before .loop .inv .2 (s .links) (s .stands) in
+    let at-step = c .before .before in
+    let at-loop = at-step .before .before in
+    let start = at-loop .before .before .before .before .before in
+    let s = start .pre .1 .1 in
+    let l = at-loop .loop .inv .2 (s .links) (s .stands) in
     let k = page-known _ _ (l .fit) _ _ _ (l .following) in
-    absurd (never-refused _ _ _ (k .0) (k .1) _ _ (sym (c .enum-told .given .1) ∙ c .before .before .step .ensures))
+    absurd (never-refused _ _ _ (k .0) (k .1) _ _ (sym (c .enum-told .given .1) ∙ at-step .step .ensures))
 
 slice-relend-prefix-fill : tie.Need-slice-relend-prefix-fill Inv-loop μ-loop
 slice-relend-prefix-fill c =
-    let s = c .before .before .before .before .before .before .before .before .before .before .pre .1 in
-    let i = c .before .before .before .before .before .loop .inv in
+    let at-size = c .before in
+    let at-step = at-size .before .before in
+    let at-loop = at-step .before .before in
+    let start = at-loop .before .before .before .before .before in
+    let s = start .pre .1 in
+    let i = at-loop .loop .inv in
     let l = i .2 (s .1 .links) (s .1 .stands) in
-    part-there _ _ _ _ _ _ l _ _ _ (c .before .size .given .1) (c .before .before .before .step .ensures) (c .before .before .before .before .before .loop .buffer) (i .1 ∙ s .0)
+    part-there _ _ _ _ _ _ l _ _ _ (at-size .size .given .1) (at-step .step .ensures) (at-loop .loop .buffer) (i .1 ∙ s .0)
 
 slice-aggregate-fill : tie.Need-slice-aggregate-fill Inv-loop μ-loop
 slice-aggregate-fill c =
-    let s = c .before .before .before .before .before .before .before .before .before .before .before .pre .1 in
-    let i = c .before .before .before .before .before .before .loop .inv in
+    let at-size = c .before .before in
+    let at-step = at-size .before .before in
+    let at-loop = at-step .before .before in
+    let start = at-loop .before .before .before .before .before in
+    let s = start .pre .1 in
+    let i = at-loop .loop .inv in
     let l = i .2 (s .1 .links) (s .1 .stands) in
-    sym (part-size _ _ _ _ _ _ l _ _ _ (c .before .before .size .given .1) (c .before .before .before .before .step .ensures) (c .before .before .before .before .before .before .loop .buffer) (i .1 ∙ s .0))
+    sym (part-size _ _ _ _ _ _ l _ _ _ (at-size .size .given .1) (at-step .step .ensures) (at-loop .loop .buffer) (i .1 ∙ s .0))
 
 mul-fill : tie.Need-mul-fill Inv-loop μ-loop
 mul-fill c =
-    let s = c .before .before .before .before .before .before .before .before .before .before .before .before .pre .1 in
-    let i = c .before .before .before .before .before .before .before .loop .inv in
+    let at-size = c .before .before .before in
+    let at-step = at-size .before .before in
+    let at-loop = at-step .before .before in
+    let start = at-loop .before .before .before .before .before in
+    let s = start .pre .1 in
+    let i = at-loop .loop .inv in
     let l = i .2 (s .1 .links) (s .1 .stands) in
-    omega (arith, part-small _ _ _ _ _ _ l _ _ _ (c .before .before .before .size .given .1) (c .before .before .before .before .before .step .ensures) (c .before .before .before .before .before .before .before .loop .buffer) (i .1 ∙ s .0))
+    omega (arith, part-small _ _ _ _ _ _ l _ _ _ (at-size .size .given .1) (at-step .step .ensures) (at-loop .loop .buffer) (i .1 ∙ s .0))
 
 fill-requires : tie.Need-fill-requires Inv-loop μ-loop
 fill-requires c κs =
-    let s = c .before .before .before .before .before .before .before .before .before .before .before .before .pre .1 in
-    let i = c .before .before .before .before .before .before .before .loop .inv in
+    let at-size = c .before .before .before in
+    let at-step = at-size .before .before in
+    let at-loop = at-step .before .before in
+    let start = at-loop .before .before .before .before .before in
+    let s = start .pre .1 in
+    let i = at-loop .loop .inv in
     let l = i .2 (s .1 .links) (s .1 .stands) in
-    part-small _ _ _ _ _ _ l _ _ _ (c .before .before .before .size .given .1) (c .before .before .before .before .before .step .ensures) (c .before .before .before .before .before .before .before .loop .buffer) (i .1 ∙ s .0)
+    part-small _ _ _ _ _ _ l _ _ _ (at-size .size .given .1) (at-step .step .ensures) (at-loop .loop .buffer) (i .1 ∙ s .0)
 
 slice-reshare-prefix-write-page : tie.Need-slice-reshare-prefix-write-page Inv-loop μ-loop
 slice-reshare-prefix-write-page c =
-    let s = c .before .before .before .before .before .before .before .before .before .before .before .before .before .before .before .before .pre .1 in
-    let i = c .before .before .before .before .before .before .before .before .before .before .before .loop .inv in
+    let at-fill = c .before .before .before in
+    let at-size = at-fill .before .before .before .before in
+    let at-step = at-size .before .before in
+    let at-loop = at-step .before .before in
+    let start = at-loop .before .before .before .before .before in
+    let s = start .pre .1 in
+    let i = at-loop .loop .inv in
     let l = i .2 (s .1 .links) (s .1 .stands) in
-    data-there _ _ _ _ _ _ l _ _ _ (c .before .before .before .before .before .before .before .size .given .1) (c .before .before .before .before .before .before .before .before .before .step .ensures) (c .before .before .before .before .before .before .before .before .before .before .before .loop .buffer) (i .1 ∙ s .0) _ (c .before .before .before .fill .ensures)
+    data-there _ _ _ _ _ _ l _ _ _ (at-size .size .given .1) (at-step .step .ensures) (at-loop .loop .buffer) (i .1 ∙ s .0) _ (at-fill .fill .ensures)
 
 slice-aggregate-write-page : tie.Need-slice-aggregate-write-page Inv-loop μ-loop
 slice-aggregate-write-page c =
-    let s = c .before .before .before .before .before .before .before .before .before .before .before .before .before .before .before .before .before .pre .1 in
-    let i = c .before .before .before .before .before .before .before .before .before .before .before .before .loop .inv in
+    let at-fill = c .before .before .before .before in
+    let at-size = at-fill .before .before .before .before in
+    let at-step = at-size .before .before in
+    let at-loop = at-step .before .before in
+    let start = at-loop .before .before .before .before .before in
+    let s = start .pre .1 in
+    let i = at-loop .loop .inv in
     let l = i .2 (s .1 .links) (s .1 .stands) in
-    sym (data-size _ _ _ _ _ _ l _ _ _ (c .before .before .before .before .before .before .before .before .size .given .1) (c .before .before .before .before .before .before .before .before .before .before .step .ensures) (c .before .before .before .before .before .before .before .before .before .before .before .before .loop .buffer) (i .1 ∙ s .0) _ (c .before .before .before .before .fill .ensures))
+    sym (data-size _ _ _ _ _ _ l _ _ _ (at-size .size .given .1) (at-step .step .ensures) (at-loop .loop .buffer) (i .1 ∙ s .0) _ (at-fill .fill .ensures))
 
 write-page-requires : tie.Need-write-page-requires Inv-loop μ-loop
 write-page-requires c κs =
-    let s = c .before .before .before .before .before .before .before .before .before .before .before .before .before .before .before .before .before .pre .1 in
-    let i = c .before .before .before .before .before .before .before .before .before .before .before .before .loop .inv in
+    let at-fill = c .before .before .before .before in
+    let at-size = at-fill .before .before .before .before in
+    let at-step = at-size .before .before in
+    let at-loop = at-step .before .before in
+    let start = at-loop .before .before .before .before .before in
+    let s = start .pre .1 in
+    let i = at-loop .loop .inv in
     let l = i .2 (s .1 .links) (s .1 .stands) in
-    (l .fit, data-room _ _ _ _ _ _ l _ _ _ (c .before .before .before .before .before .before .before .before .size .given .1) (c .before .before .before .before .before .before .before .before .before .before .step .ensures) (c .before .before .before .before .before .before .before .before .before .before .before .before .loop .buffer) (i .1 ∙ s .0) _ (c .before .before .before .before .fill .ensures))
+    (l .fit, data-room _ _ _ _ _ _ l _ _ _ (at-size .size .given .1) (at-step .step .ensures) (at-loop .loop .buffer) (i .1 ∙ s .0) _ (at-fill .fill .ensures))
 
 returns-2 : tie.Need-returns-2 Inv-loop μ-loop
 unfolding WritesFile
-returns-2 c = λ ls d.
-    let s = c .before .before .before .before .before .before .before .before .before .before .before .before .before .before .before .before .before .before .before .before .before .before .pre .1 in
-    let i = c .before .before .before .before .before .before .before .before .before .before .before .before .before .before .before .before .before .loop .inv in
+returns-2 c =
+    let at-write-page = c .before .before .before .before in
+    let at-fill = at-write-page .before .before .before .before .before in
+    let at-size = at-fill .before .before .before .before in
+    let at-step = at-size .before .before in
+    let at-loop = at-step .before .before in
+    let start = at-loop .before .before .before .before .before in
+    λ ls d.
+    let s = start .pre .1 in
+    let i = at-loop .loop .inv in
     let l = i .2 ls d in
-    written-all _ _ _ _ _ _ l _ _ _ (c .before .before .before .before .before .before .before .before .before .before .before .before .before .size .given .1) (c .before .before .before .before .before .before .before .before .before .before .before .before .before .before .before .step .ensures) (c .before .before .before .before .before .before .before .before .before .before .before .before .before .before .before .before .before .loop .buffer) (i .1 ∙ s .0) _ (c .before .before .before .before .before .before .before .before .before .fill .ensures) _ (c .before .before .before .before .write-page .ensures) (c .if1 .taken)
+    written-all _ _ _ _ _ _ l _ _ _ (at-size .size .given .1) (at-step .step .ensures) (at-loop .loop .buffer) (i .1 ∙ s .0) _ (at-fill .fill .ensures) _
+    (at-write-page .write-page .ensures) (c .if1 .taken)
 
 loop-less : tie.Need-loop-less Inv-loop μ-loop
 loop-less c =
-    let s = c .before .before .before .before .before .before .before .before .before .before .before .before .before .before .before .before .before .before .before .before .before .before .pre .1 in
-    let i = c .before .before .before .before .before .before .before .before .before .before .before .before .before .before .before .before .before .loop .inv in
+    let at-write-page = c .before .before .before .before in
+    let at-struct-known = at-write-page .before .before .before .before .before .before in
+    let at-size = at-struct-known .before .before .before in
+    let at-step = at-size .before .before in
+    let at-loop = at-step .before .before in
+    let start = at-loop .before .before .before .before .before in
+    let s = start .pre .1 in
+    let i = at-loop .loop .inv in
     let l = i .2 (s .1 .links) (s .1 .stands) in
-    let k = counts-up _ _ (l .fit) _ _ _ (l .following) _ _ _ (c .before .before .before .before .before .before .before .before .before .before .before .before .before .size .given .1) (c .before .before .before .before .before .before .before .before .before .before .before .before .before .before .before .step .ensures) in
+    let k = counts-up _ _ (l .fit) _ _ _ (l .following) _ _ _ (at-size .size .given .1) (at-step .step .ensures) in
     omega (arith, l .following .steps, l .following .chain .some, s .1 .stands .chain .few)
 
 loop-again : tie.Need-loop-again Inv-loop μ-loop
@@ -106,13 +159,22 @@ loop-again c = (
   search needs,
   search needs,
   λ ls d.
-      let s = c .before .before .before .before .before .before .before .before .before .before .before .before .before .before .before .before .before .before .before .before .before .before .pre .1 in
-      let i = c .before .before .before .before .before .before .before .before .before .before .before .before .before .before .before .before .before .loop .inv in
+      let at-write-page = c .before .before .before .before in
+      let at-fill = at-write-page .before .before .before .before .before in
+      let at-size = at-fill .before .before .before .before in
+      let at-step = at-size .before .before in
+      let at-loop = at-step .before .before in
+      let start = at-loop .before .before .before .before .before in
+      let s = start .pre .1 in
+      let i = at-loop .loop .inv in
       let l = i .2 ls d in
-      write-on _ _ _ _ _ _ l _ _ _ (c .before .before .before .before .before .before .before .before .before .before .before .before .before .size .given .1) (c .before .before .before .before .before .before .before .before .before .before .before .before .before .before .before .step .ensures) (c .before .before .before .before .before .before .before .before .before .before .before .before .before .before .before .before .before .loop .buffer) (i .1 ∙ s .0) _ (c .before .before .before .before .before .before .before .before .before .fill .ensures) _ (c .before .before .before .before .write-page .ensures) (c .if1 .left) (d .chain .few),
+      write-on _ _ _ _ _ _ l _ _ _ (at-size .size .given .1) (at-step .step .ensures) (at-loop .loop .buffer) (i .1 ∙ s .0) _ (at-fill .fill .ensures) _
+      (at-write-page .write-page .ensures) (c .if1 .left) (d .chain .few),
 )
 
 pub write-pages-spec : {M : Type 1} → statement M
 write-pages-spec =
     tie.close
-    (tie.spec Inv-loop μ-loop (λ c κs. search needs) loop-holds step-requires (λ c. search needs) (λ c. search needs) (λ c. search needs) returns (λ c. search needs) slice-relend-prefix-fill slice-aggregate-fill mul-fill fill-requires slice-reshare-prefix-write-page slice-aggregate-write-page write-page-requires (λ c. search needs) (λ c. search needs) returns-2 loop-less loop-again)
+    (tie.spec Inv-loop μ-loop (λ c κs. search needs) loop-holds step-requires (λ c. search needs) (λ c. search needs) (λ c. search needs) returns (λ c. search needs)
+    slice-relend-prefix-fill slice-aggregate-fill mul-fill fill-requires slice-reshare-prefix-write-page slice-aggregate-write-page write-page-requires (λ c. search needs)
+    (λ c. search needs) returns-2 loop-less loop-again)

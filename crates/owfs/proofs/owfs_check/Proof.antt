@@ -15,8 +15,14 @@ check-over-requires c κs = zeros-front (c .before .before .count .result) 65535
 
 returns : tie.Need-returns
 returns c =
-    let a = c .before .before .before .before .before .before .before .before .before .args in
-    (c .before .before .before .check-over .ensures, accepts-tree (a .size) (a .pages) (a .image .now) (a .owners .now) (bytes-from (a .image .now) (λ i. c .before .before .before .before .before .before .before .before .shared-slice-known .given i .fits)) (c .before .before .before .check-over .result) _ (c .before .before .before .check-over .ensures))
+    let at-check-over = c .before .before .before in
+    let at-shared-slice-known = at-check-over .before .before .before .before .before in
+    let start = at-shared-slice-known .before in
+    let a = start .args in (
+      at-check-over .check-over .ensures,
+      accepts-tree (a .size) (a .pages) (a .image .now) (a .owners .now)
+          (bytes-from (a .image .now) (λ i. at-shared-slice-known .shared-slice-known .given i .fits)) (at-check-over .check-over .result) _ (at-check-over .check-over .ensures),
+    )
 
 pub owfs-check-spec : {M : Type 1} → statement M
 owfs-check-spec =

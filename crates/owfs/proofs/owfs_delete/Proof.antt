@@ -11,12 +11,22 @@ slice-aggregate-delete-over : tie.Need-slice-aggregate-delete-over
 slice-aggregate-delete-over c = sym (zeros-front (c .before .before .count .result) 65535 (omega (arith, c .before .before .count .ensures)))
 
 delete-over-requires : tie.Need-delete-over-requires
-delete-over-requires c κs = zeros-front (c .before .before .before .count .result) 65535 (omega (arith, c .before .before .before .count .ensures)) ∙ c .before .before .before .count .ensures
+delete-over-requires c κs =
+    let at-count = c .before .before .before in
+    zeros-front (at-count .count .result) 65535 (omega (arith, at-count .count .ensures)) ∙ at-count .count .ensures
 
 returns : tie.Need-returns
 returns c =
-    let a = c .before .before .before .before .before .before .before .before .before .before .before .before .before .args in
-    (c .before .before .before .before .before .delete-over .ensures, deletes (a .size) (a .pages) (a .image .now) (a .owners .now) (bytes-from (a .image .now) (λ i. c .before .before .before .before .before .before .before .before .before .before .before .before .slice-known .given i .fits)) (a .path .now) (c .before .before .before .before .before .delete-over .result) (c .before .before .before .before .before .delete-over .last .1 .1 .0) _ (c .before .before .before .before .before .delete-over .ensures))
+    let at-delete-over = c .before .before .before .before .before in
+    let at-count = at-delete-over .before .before .before .before in
+    let at-slice-known = at-count .before .before .before in
+    let start = at-slice-known .before in
+    let a = start .args in (
+      at-delete-over .delete-over .ensures,
+      deletes (a .size) (a .pages) (a .image .now) (a .owners .now)
+          (bytes-from (a .image .now) (λ i. at-slice-known .slice-known .given i .fits)) (a .path .now) (at-delete-over .delete-over .result)
+          (at-delete-over .delete-over .last .1 .1 .0) _ (at-delete-over .delete-over .ensures),
+    )
 
 pub owfs-delete-spec : {M : Type 1} → statement M
 owfs-delete-spec =

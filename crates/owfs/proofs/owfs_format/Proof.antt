@@ -11,12 +11,21 @@ slice-aggregate-format-over : tie.Need-slice-aggregate-format-over
 slice-aggregate-format-over c = sym (zeros-front (c .before .before .count .result) 65535 (omega (arith, c .before .before .count .ensures)))
 
 format-over-requires : tie.Need-format-over-requires
-format-over-requires c κs = zeros-front (c .before .before .before .count .result) 65535 (omega (arith, c .before .before .before .count .ensures)) ∙ c .before .before .before .count .ensures
+format-over-requires c κs =
+    let at-count = c .before .before .before in
+    zeros-front (at-count .count .result) 65535 (omega (arith, at-count .count .ensures)) ∙ at-count .count .ensures
 
 returns : tie.Need-returns
 returns c =
-    let a = c .before .before .before .before .before .before .before .before .before .before .before .before .args in
-    (c .before .before .before .before .before .format-over .ensures, formats (a .size) (a .pages) (a .image .now) (a .owners .now) (bytes-from (a .image .now) (λ i. c .before .before .before .before .before .before .before .before .before .before .before .slice-known .given i .fits)) (a .local) (c .before .before .before .before .before .format-over .result) (c .before .before .before .before .before .format-over .last .1 .1 .0) _ (c .before .before .before .before .before .format-over .ensures))
+    let at-format-over = c .before .before .before .before .before in
+    let at-slice-known = at-format-over .before .before .before .before .before .before in
+    let start = at-slice-known .before in
+    let a = start .args in (
+      at-format-over .format-over .ensures,
+      formats (a .size) (a .pages) (a .image .now) (a .owners .now)
+          (bytes-from (a .image .now) (λ i. at-slice-known .slice-known .given i .fits)) (a .local) (at-format-over .format-over .result) (at-format-over .format-over .last .1 .1 .0) _
+          (at-format-over .format-over .ensures),
+    )
 
 pub owfs-format-spec : {M : Type 1} → statement M
 owfs-format-spec =

@@ -15,8 +15,15 @@ list-over-requires c κs = zeros-front (c .before .before .count .result) 65535 
 
 returns : tie.Need-returns
 returns c =
-    let a = c .before .before .before .before .before .before .before .before .before .args in
-    (c .before .before .before .list-over .ensures, lists-tree (a .size) (a .pages) (a .image .now) (a .owners .now) (bytes-from (a .image .now) (λ i. c .before .before .before .before .before .before .before .before .shared-slice-known .given i .fits)) (a .position) (c .before .before .before .list-over .result) _ (c .before .before .before .list-over .ensures))
+    let at-list-over = c .before .before .before in
+    let at-shared-slice-known = at-list-over .before .before .before .before .before in
+    let start = at-shared-slice-known .before in
+    let a = start .args in (
+      at-list-over .list-over .ensures,
+      lists-tree (a .size) (a .pages) (a .image .now) (a .owners .now)
+          (bytes-from (a .image .now) (λ i. at-shared-slice-known .shared-slice-known .given i .fits)) (a .position) (at-list-over .list-over .result) _
+          (at-list-over .list-over .ensures),
+    )
 
 pub owfs-list-spec : {M : Type 1} → statement M
 owfs-list-spec =

@@ -11,12 +11,22 @@ slice-aggregate-read-over : tie.Need-slice-aggregate-read-over
 slice-aggregate-read-over c = sym (zeros-front (c .before .before .count .result) 65535 (omega (arith, c .before .before .count .ensures)))
 
 read-over-requires : tie.Need-read-over-requires
-read-over-requires c κs = zeros-front (c .before .before .before .count .result) 65535 (omega (arith, c .before .before .before .count .ensures)) ∙ c .before .before .before .count .ensures
+read-over-requires c κs =
+    let at-count = c .before .before .before in
+    zeros-front (at-count .count .result) 65535 (omega (arith, at-count .count .ensures)) ∙ at-count .count .ensures
 
 returns : tie.Need-returns
 returns c =
-    let a = c .before .before .before .before .before .before .before .before .before .before .before .before .before .before .args in
-    (c .before .before .before .before .before .read-over .ensures, reads-tree (a .size) (a .pages) (a .image .now) (a .owners .now) (bytes-from (a .image .now) (λ i. c .before .before .before .before .before .before .before .before .before .before .before .before .before .shared-slice-known .given i .fits)) (a .path .now) (a .out .now) (c .before .before .before .before .before .read-over .result) _ _ (c .before .before .before .before .before .read-over .ensures))
+    let at-read-over = c .before .before .before .before .before in
+    let at-count = at-read-over .before .before .before .before in
+    let at-shared-slice-known = at-count .before .before .before .before in
+    let start = at-shared-slice-known .before in
+    let a = start .args in (
+      at-read-over .read-over .ensures,
+      reads-tree (a .size) (a .pages) (a .image .now) (a .owners .now)
+          (bytes-from (a .image .now) (λ i. at-shared-slice-known .shared-slice-known .given i .fits)) (a .path .now) (a .out .now) (at-read-over .read-over .result) _ _
+          (at-read-over .read-over .ensures),
+    )
 
 pub owfs-read-spec : {M : Type 1} → statement M
 owfs-read-spec =

@@ -10,7 +10,11 @@ returns-2 : tie.Need-returns-2
 returns-2 c = too-long _ _ _ (c .before .before .wide .ensures .0) (c .before .if1 .left) (c .if2 .taken)
 
 returns-3 : tie.Need-returns-3
-returns-3 c = framed _ _ _ (c .before .before .before .wide .ensures .0) (c .before .before .if1 .left) (c .before .if2 .left) _ (c .number-at .ensures .0)
+returns-3 c =
+    let at-if2 = c .before in
+    let at-if1 = at-if2 .before in
+    let at-wide = at-if1 .before in
+    framed _ _ _ (at-wide .wide .ensures .0) (at-if1 .if1 .left) (at-if2 .if2 .left) _ (c .number-at .ensures .0)
 
 pub frame-spec : {M : Type 1} → statement M
 frame-spec =

@@ -10,10 +10,17 @@ slice-aggregate-crc-of c = simp length-take (omega arith)
 
 returns : tie.Need-returns
 returns c =
-    packet-is _ _ _ _ _ _ _ _ _ _ (omega (arith, c .before .before .before .before .before .before .before .before .before .before .before .before .before .before .before .before .before .before .before .before .pre)) (c .before .before .before .before .before .before .before .before .before .before .before .before .before .before .before .before .put-number .ensures) (c .before .before .before .before .before .before .before .before .before .before .before .before .put-bytes .ensures) (c .before .before .before .before .before .before .before .before .put-number2 .ensures)
-    (c .before .before .before .before .crc-of .ensures) (c .before .before .put-number3 .ensures)
+    let at-put-number3 = c .before .before in
+    let at-crc-of = at-put-number3 .before .before in
+    let at-put-number2 = at-crc-of .before .before .before .before in
+    let at-put-bytes = at-put-number2 .before .before .before .before in
+    let at-put-number = at-put-bytes .before .before .before .before in
+    let start = at-put-number .before .before .before .before in
+    packet-is _ _ _ _ _ _ _ _ _ _ (omega (arith, start .pre)) (at-put-number .put-number .ensures) (at-put-bytes .put-bytes .ensures) (at-put-number2 .put-number2 .ensures)
+    (at-crc-of .crc-of .ensures) (at-put-number3 .put-number3 .ensures)
 
 pub write-packet-spec : {M : Type 1} → statement M
 write-packet-spec =
     tie.close
-    (tie.spec (λ c. search needs) (λ c. search needs) (λ c. search needs) (λ c κs. search needs) (λ c κs. search needs) (λ c κs. search needs) (λ c. search needs) (λ c. search needs) slice-aggregate-crc-of (λ c κs. search needs) (λ c. search needs) (λ c. search needs) (λ c κs. search needs) (λ c. search needs) returns)
+    (tie.spec (λ c. search needs) (λ c. search needs) (λ c. search needs) (λ c κs. search needs) (λ c κs. search needs) (λ c κs. search needs) (λ c. search needs)
+    (λ c. search needs) slice-aggregate-crc-of (λ c κs. search needs) (λ c. search needs) (λ c. search needs) (λ c κs. search needs) (λ c. search needs) returns)

@@ -6,13 +6,19 @@ use Rattle.packet.proofs.write_page.Statement.{statement}
 use Rattle.packet.proofs.write_page.Tie as tie
 
 mul-at : tie.Need-mul-at
-mul-at c = let s = c .before .before .before in omega (arith, page-end _ _ _ (s .pre .0) (s .pre .1 .0))
+mul-at c =
+    let start = c .before .before .before in
+    let s = start in omega (arith, page-end _ _ _ (s .pre .0) (s .pre .1 .0))
 
 add-end : tie.Need-add-end
-add-end c = let s = c .before .before .before .before in omega (arith, page-end _ _ _ (s .pre .0) (s .pre .1 .0))
+add-end c =
+    let start = c .before .before .before .before in
+    let s = start in omega (arith, page-end _ _ _ (s .pre .0) (s .pre .1 .0))
 
 part-write-packet-end : tie.Need-part-write-packet-end
-part-write-packet-end c = let s = c .before .before .before .before in omega (arith, page-end _ _ _ (s .pre .0) (s .pre .1 .0))
+part-write-packet-end c =
+    let start = c .before .before .before .before in
+    let s = start in omega (arith, page-end _ _ _ (s .pre .0) (s .pre .1 .0))
 
 returns : tie.Need-returns
 returns c = page-written _ _ _ _ _ _ (c .before .before .write-packet .ensures)

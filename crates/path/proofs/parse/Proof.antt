@@ -13,14 +13,31 @@ returns-3 : tie.Need-returns-3
 returns-3 c = too-long _ (c .before .before .if1 .left) (c .before .if2 .left) (c .if3 .taken)
 
 returns-4 : tie.Need-returns-4
-returns-4 c = bad-name _ (c .before .before .before .before .if1 .left) (c .before .before .before .if2 .left) (c .before .before .if3 .left) _ (c .before .valid-names .ensures) (c .if4 .taken)
+returns-4 c =
+    let at-valid-names = c .before in
+    let at-if3 = at-valid-names .before in
+    let at-if2 = at-if3 .before in
+    let at-if1 = at-if2 .before in
+    bad-name _ (at-if1 .if1 .left) (at-if2 .if2 .left) (at-if3 .if3 .left) _ (at-valid-names .valid-names .ensures) (c .if4 .taken)
 
 returns-5 : tie.Need-returns-5
-returns-5 c = bad-extension _ (c .before .before .before .before .before .before .if1 .left) (c .before .before .before .before .before .if2 .left) (c .before .before .before .before .if3 .left) _ (c .before .before .before .valid-names .ensures) (c .before .before .if4 .left) (c .if5 .taken)
+returns-5 c =
+    let at-if4 = c .before .before in
+    let at-valid-names = at-if4 .before in
+    let at-if3 = at-valid-names .before in
+    let at-if2 = at-if3 .before in
+    let at-if1 = at-if2 .before in
+    bad-extension _ (at-if1 .if1 .left) (at-if2 .if2 .left) (at-if3 .if3 .left) _ (at-valid-names .valid-names .ensures) (at-if4 .if4 .left) (c .if5 .taken)
 
 returns-6 : tie.Need-returns-6
 returns-6 c =
-    well-formed _ (c .before .before .before .before .before .before .before .if1 .left) (c .before .before .before .before .before .before .if2 .left) (c .before .before .before .before .before .if3 .left) _ (c .before .before .before .before .valid-names .ensures) (c .before .before .before .if4 .left) (c .before .if5 .left) _
+    let at-if5 = c .before in
+    let at-if4 = at-if5 .before .before in
+    let at-valid-names = at-if4 .before in
+    let at-if3 = at-valid-names .before in
+    let at-if2 = at-if3 .before in
+    let at-if1 = at-if2 .before in
+    well-formed _ (at-if1 .if1 .left) (at-if2 .if2 .left) (at-if3 .if3 .left) _ (at-valid-names .valid-names .ensures) (at-if4 .if4 .left) (at-if5 .if5 .left) _
     (c .number-at .ensures .0)
 
 pub parse-spec : {M : Type 1} → statement M

@@ -18,11 +18,18 @@ loop-holds c = (search needs, names-begin (c .before .args .bytes .now) (c .befo
 
 returns : tie.Need-returns Inv-loop μ-loop
 returns c =
-    sym (c .before .before .before .before .loop .inv .1 ∙ name-bad _ _ _ _ _ (c .before .before .before .loop-test .taken) (c .before .before .number-at .ensures .0) (c .before .valid-name .ensures) (c .if1 .taken))
+    let at-valid-name = c .before in
+    let at-number-at = at-valid-name .before in
+    let at-loop-test = at-number-at .before in
+    let at-loop = at-loop-test .before in
+    sym (at-loop .loop .inv .1 ∙ name-bad _ _ _ _ _ (at-loop-test .loop-test .taken) (at-number-at .number-at .ensures .0) (at-valid-name .valid-name .ensures) (c .if1 .taken))
 
 loop-again : tie.Need-loop-again Inv-loop μ-loop
-loop-again c =
-    (search needs, c .before .before .before .before .loop .inv .1 ∙ name-good _ _ _ _ _ (c .before .before .before .loop-test .taken) (c .before .before .number-at .ensures .0) (c .before .valid-name .ensures) (c .if1 .left))
+loop-again c = (
+  search needs,
+  c .before .before .before .before .loop .inv .1
+      ∙ name-good _ _ _ _ _ (c .before .before .before .loop-test .taken) (c .before .before .number-at .ensures .0) (c .before .valid-name .ensures) (c .if1 .left),
+)
 
 returns-2 : tie.Need-returns-2 Inv-loop μ-loop
 returns-2 c = names-end _ _ _ (c .loop-test .left) ∙ sym (c .before .loop .inv .1)

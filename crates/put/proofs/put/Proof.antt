@@ -10,33 +10,63 @@ use Rattle.put.proofs.put.Tie as tie
 
 slice-relend-prefix-put-in : tie.Need-slice-relend-prefix-put-in
 slice-relend-prefix-put-in c =
-    let a = c .before .before .before .before .before .before .before .before .before .args in
-    sized-of (a .size) (a .pages) _ _ _ (sym (c .before .before .before .before .new .ensures) ∙ c .before .before .g .given .1) .room
+    let at-g = c .before .before in
+    let at-new = at-g .before .before in
+    let start = at-new .before .before .before .before .before in
+    let a = start .args in
+    sized-of (a .size) (a .pages) _ _ _ (sym (at-new .new .ensures) ∙ at-g .g .given .1) .room
 
 slice-aggregate-put-in : tie.Need-slice-aggregate-put-in
 slice-aggregate-put-in c =
-    let a = c .before .before .before .before .before .before .before .before .before .before .args in
-    sym (length-take-le _ _ (sized-of (a .size) (a .pages) _ _ _ (sym (c .before .before .before .before .before .new .ensures) ∙ c .before .before .before .g .given .1) .room))
+    let at-g = c .before .before .before in
+    let at-new = at-g .before .before in
+    let start = at-new .before .before .before .before .before in
+    let a = start .args in
+    sym (length-take-le _ _ (sized-of (a .size) (a .pages) _ _ _ (sym (at-new .new .ensures) ∙ at-g .g .given .1) .room))
 
 put-in-requires : tie.Need-put-in-requires
 put-in-requires c κs =
-    let a = c .before .before .before .before .before .before .before .before .before .before .args in
-    let e = sym (c .before .before .before .before .before .new .ensures) ∙ c .before .before .before .g .given .1 in
+    let at-g = c .before .before .before in
+    let at-new = at-g .before .before in
+    let start = at-new .before .before .before .before .before in
+    let a = start .args in
+    let e = sym (at-new .new .ensures) ∙ at-g .g .given .1 in
     (fit-of (a .size) (a .pages) (a .image .now) (a .owners .now) _ e, length-take-le _ (a .owners .now) (sized-of (a .size) (a .pages) _ _ _ e .room))
 
 returns : tie.Need-returns
 returns c =
-    let a = c .before .before .before .before .before .before .before .args in
-    let e = sym (put-wrong (a .size) (a .pages) (a .image .now) (a .owners .now) (sym (c .before .before .new .ensures) ∙ c .enum-told .given .1) (a .path .now) (a .bytes .now)) in
-    (e, put-is (a .size) (a .pages) (a .image .now) (a .owners .now) (a .path .now) (a .bytes .now) (λ i. c .before .before .before .before .before .before .slice-known .given i .fits) (λ i. c .before .before .before .before .before .shared-slice-known .given i .fits) (λ i. c .before .before .before .before .shared-slice-known2 .given i .fits) (edited.Refused 1 0) (a .image .now) (a .owners .now) e)
+    let at-new = c .before .before in
+    let at-shared-slice-known2 = at-new .before .before in
+    let at-shared-slice-known = at-shared-slice-known2 .before in
+    let at-slice-known = at-shared-slice-known .before in
+    let start = at-slice-known .before in
+    let a = start .args in
+    let e = sym (put-wrong (a .size) (a .pages) (a .image .now) (a .owners .now) (sym (at-new .new .ensures) ∙ c .enum-told .given .1) (a .path .now) (a .bytes .now)) in (
+      e,
+      put-is (a .size) (a .pages) (a .image .now) (a .owners .now) (a .path .now) (a .bytes .now) (λ i. at-slice-known .slice-known .given i .fits)
+          (λ i. at-shared-slice-known .shared-slice-known .given i .fits) (λ i. at-shared-slice-known2 .shared-slice-known2 .given i .fits) (edited.Refused 1 0) (a .image .now)
+          (a .owners .now) e,
+    )
 
 returns-2 : tie.Need-returns-2
 returns-2 c =
-    let a = c .before .before .before .before .before .before .before .before .before .before .before .before .before .before .before .args in
-    let e = putted (a .size) (a .pages) (a .image .now) (a .owners .now) (a .path .now) (a .bytes .now) _ (sym (c .before .before .before .before .before .before .before .before .before .before .new .ensures) ∙ c .before .before .before .before .before .before .before .before .g .given .1) (c .before .before .before .before .put-in .result) _ _ (c .before .before .before .before .put-in .ensures) in
-    (e, put-is (a .size) (a .pages) (a .image .now) (a .owners .now) (a .path .now) (a .bytes .now) (λ i. c .before .before .before .before .before .before .before .before .before .before .before .before .before .before .slice-known .given i .fits) (λ i. c .before .before .before .before .before .before .before .before .before .before .before .before .before .shared-slice-known .given i .fits) (λ i. c .before .before .before .before .before .before .before .before .before .before .before .before .shared-slice-known2 .given i .fits) (c .before .before .before .before .put-in .result) _ _ e)
+    let at-put-in = c .before .before .before .before in
+    let at-g = at-put-in .before .before .before .before in
+    let at-new = at-g .before .before in
+    let at-shared-slice-known2 = at-new .before .before in
+    let at-shared-slice-known = at-shared-slice-known2 .before in
+    let at-slice-known = at-shared-slice-known .before in
+    let start = at-slice-known .before in
+    let a = start .args in
+    let e = putted (a .size) (a .pages) (a .image .now) (a .owners .now) (a .path .now) (a .bytes .now) _ (sym (at-new .new .ensures) ∙ at-g .g .given .1)
+    (at-put-in .put-in .result) _ _ (at-put-in .put-in .ensures) in (
+      e,
+      put-is (a .size) (a .pages) (a .image .now) (a .owners .now) (a .path .now) (a .bytes .now) (λ i. at-slice-known .slice-known .given i .fits)
+          (λ i. at-shared-slice-known .shared-slice-known .given i .fits) (λ i. at-shared-slice-known2 .shared-slice-known2 .given i .fits) (at-put-in .put-in .result) _ _ e,
+    )
 
 pub put-spec : {M : Type 1} → statement M
 put-spec =
     tie.close
-    (tie.spec (λ c κs. search needs) (λ c. search needs) (λ c. search needs) slice-relend-prefix-put-in slice-aggregate-put-in put-in-requires returns (λ c. search needs) (λ c. search needs) returns-2)
+    (tie.spec (λ c κs. search needs) (λ c. search needs) (λ c. search needs) slice-relend-prefix-put-in slice-aggregate-put-in put-in-requires returns (λ c. search needs)
+    (λ c. search needs) returns-2)

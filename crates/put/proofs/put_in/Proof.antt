@@ -7,24 +7,49 @@ use Rattle.put.proofs.put_in.Tie as tie
 
 put-path-requires : tie.Need-put-path-requires
 put-path-requires c κs =
-    let s = c .before .before .before .before .before .before .before .before .before .before .before .before .before in
-    let a = s .args in
-    (s .pre .0, (c .before .before .before .before .before .before .check-table .kept .1 .1 .0 ∙ s .pre .1, table-of (a .g) (a .image .now) (c .before .before .before .before .before .before .check-table .result) (c .before .before .before .before .before .before .check-table .last .1 .1 .0) (c .before .before .before .before .before .before .check-table .ensures) (λ i. c .before .before .before .before .before .before .before .before .before .before .before .before .slice-known .given i .fits) _ (c .before .before .enum-told .given .1)))
+    let at-enum-told = c .before .before in
+    let at-check-table = at-enum-told .before .before .before .before in
+    let at-slice-known = at-check-table .before .before .before .before .before .before in
+    let start = at-slice-known .before in
+    let s = start in
+    let a = s .args in (
+      s .pre .0,
+      (
+        at-check-table .check-table .kept .1 .1 .0 ∙ s .pre .1,
+        table-of (a .g) (a .image .now) (at-check-table .check-table .result)
+            (at-check-table .check-table .last .1 .1 .0) (at-check-table .check-table .ensures) (λ i. at-slice-known .slice-known .given i .fits) _ (at-enum-told .enum-told .given .1),
+      ),
+    )
 
 check-table-requires-2 : tie.Need-check-table-requires-2
 check-table-requires-2 c κs =
-    let s = c .before .before .before .before .before .before .before .before .before .before .before .before .before .before .before .before .before .before .before .before .pre in
-    (fit-same _ _ _ (s .0) (c .before .before .before .before .before .before .put-path .kept .0), c .before .before .before .before .before .before .put-path .kept .1 .1 .1 .1 .0 ∙ c .before .before .before .before .before .before .before .before .before .before .before .before .before .check-table .kept .1 .1 .0 ∙ s .1)
+    let at-put-path = c .before .before .before .before .before .before in
+    let at-owners = at-put-path .before .before .before .before .before .before in
+    let at-check-table = at-owners .before in
+    let at-slice-known = at-check-table .before .before .before .before .before .before in
+    let start = at-slice-known .before in
+    let s = start .pre in
+    (fit-same _ _ _ (s .0) (at-put-path .put-path .kept .0), at-put-path .put-path .kept .1 .1 .1 .1 .0 ∙ at-check-table .check-table .kept .1 .1 .0 ∙ s .1)
 
 returns : tie.Need-returns
 returns c =
-    let a = c .before .before .before .before .before .before .before .before .before .before .before .before .args in
-    fault-leaves (a .g) (a .image .now) (c .before .before .before .before .before .check-table .result) (c .before .before .before .before .before .check-table .last .1 .1 .0) (c .before .before .before .before .before .check-table .ensures) _ (put-fault (a .g) (a .path .now) (a .bytes .now) (a .image .now)) _ _ (c .before .number .given .1)
+    let at-number = c .before in
+    let at-check-table = at-number .before .before .before .before in
+    let at-slice-known = at-check-table .before .before .before .before .before .before in
+    let start = at-slice-known .before in
+    let a = start .args in
+    fault-leaves (a .g) (a .image .now) (at-check-table .check-table .result) (at-check-table .check-table .last .1 .1 .0) (at-check-table .check-table .ensures) _
+    (put-fault (a .g) (a .path .now) (a .bytes .now) (a .image .now)) _ _ (at-number .number .given .1)
 
 returns-2 : tie.Need-returns-2
-returns-2 c = record { answers = c .before .before .before .before .before .before .before .before .before .put-path .ensures; check = c .before .before .check-table2 .result; checked = c .before .before .check-table2 .ensures }
+returns-2 c =
+    let at-check-table2 = c .before .before in
+    let at-image = at-check-table2 .before .before .before .before .before .before in
+    let at-put-path = at-image .before in
+    record { answers = at-put-path .put-path .ensures; check = at-check-table2 .check-table2 .result; checked = at-check-table2 .check-table2 .ensures }
 
 pub put-in-spec : {M : Type 1} → statement M
 put-in-spec =
     tie.close
-    (tie.spec (λ c κs. search needs) (λ c. search needs) (λ c. search needs) put-path-requires check-table-requires-2 (λ c. search needs) (λ c. search needs) returns (λ c. search needs) (λ c. search needs) returns-2)
+    (tie.spec (λ c κs. search needs) (λ c. search needs) (λ c. search needs) put-path-requires check-table-requires-2 (λ c. search needs) (λ c. search needs) returns
+    (λ c. search needs) (λ c. search needs) returns-2)

@@ -13,7 +13,8 @@ find-file-requires c κs =
 
 insert-file-requires : tie.Need-insert-file-requires
 insert-file-requires c κs =
-    let at-start = c .before .before .before in
+    let start = c .before .before .before in
+    let at-start = start in
     let at-find-file = at-start .before .before in
     let at-shared-slice-known2 = at-find-file .before .before .before in
     let at-shared-slice-known = at-shared-slice-known2 .before in
@@ -23,7 +24,8 @@ insert-file-requires c κs =
       (
         start .pre .1 .0,
         to-insert (a .g) (a .image .now) (a .owners .now) (a .path .now) (a .bytes .now) (start .pre .0) (start .pre .1 .1) (λ i.
-            at-shared-slice-known .shared-slice-known .given i .fits) (λ i. at-shared-slice-known2 .shared-slice-known2 .given i .fits) (at-find-file .find-file .result) (at-find-file .find-file .ensures) _
+            at-shared-slice-known .shared-slice-known .given i .fits) (λ i. at-shared-slice-known2 .shared-slice-known2 .given i .fits) (at-find-file .find-file .result)
+            (at-find-file .find-file .ensures) _
             _ _ (at-start .start .given .1),
       ),
     )
@@ -55,7 +57,8 @@ replace-file-requires c κs =
       (
         start .pre .1 .0,
         to-replace (a .g) (a .image .now) (a .owners .now) (a .path .now) (a .bytes .now) (start .pre .0) (start .pre .1 .1) (λ i.
-            at-shared-slice-known .shared-slice-known .given i .fits) (λ i. at-shared-slice-known2 .shared-slice-known2 .given i .fits) (at-find-file .find-file .result) (at-find-file .find-file .ensures) _
+            at-shared-slice-known .shared-slice-known .given i .fits) (λ i. at-shared-slice-known2 .shared-slice-known2 .given i .fits) (at-find-file .find-file .result)
+            (at-find-file .find-file .ensures) _
             _ (at-slot .slot .given .1) (top-clear _ _ (at-extension-of .extension-of .ensures) (at-if1 .if1 .left)),
       ),
     )
@@ -83,6 +86,7 @@ returns-3 c =
 returns-4 : tie.Need-returns-4
 returns-4 c =
     let at-insert-file = c .before .before .before .before in
+    let at-insert-file = at-insert-file in
     let at-start = at-insert-file .before .before .before .before in
     let at-find-file = at-start .before .before in
     let at-shared-slice-known2 = at-find-file .before .before .before in
@@ -96,6 +100,7 @@ returns-4 c =
 returns-5 : tie.Need-returns-5
 returns-5 c =
     let at-replace-file = c .before .before .before .before in
+    let at-replace-file = at-replace-file in
     let at-if1 = at-replace-file .before .before .before in
     let at-extension-of = at-if1 .before .before in
     let at-slot = at-extension-of .before .before in
@@ -111,4 +116,6 @@ returns-5 c =
 pub put-path-spec : {M : Type 1} → statement M
 put-path-spec =
     tie.close
-    (tie.spec find-file-requires (λ c. search needs) (λ c. search needs) (λ c. search needs) insert-file-requires (λ c. search needs) (λ c κs. search needs) (λ c. search needs) returns replace-file-requires (λ c. search needs) returns-2 (λ c. search needs) returns-3 (λ c. search needs) (λ c. search needs) returns-4 (λ c. search needs) (λ c. search needs) returns-5)
+    (tie.spec find-file-requires (λ c. search needs) (λ c. search needs) (λ c. search needs) insert-file-requires (λ c. search needs) (λ c κs. search needs) (λ c. search needs)
+    returns replace-file-requires (λ c. search needs) returns-2 (λ c. search needs) returns-3 (λ c. search needs) (λ c. search needs) returns-4 (λ c. search needs)
+    (λ c. search needs) returns-5)

@@ -6,10 +6,17 @@ use Rattle.query.proofs.entry_of.Statement.{statement}
 use Rattle.query.proofs.entry_of.Tie as tie
 
 returns : tie.Need-returns
-returns c = λ i e. sym (subst (Tells (c .before .before .before .before .before .args .position) (linesOf 0 (i .tree))) (c .before .line .given .1) (c .before .before .before .line-at .ensures i e))
+returns c =
+    let at-line = c .before in
+    let at-line-at = at-line .before .before in
+    let start = at-line-at .before .before in
+    λ i e. sym (subst (Tells (start .args .position) (linesOf 0 (i .tree))) (at-line .line .given .1) (at-line-at .line-at .ensures i e))
 
 returns-2 : tie.Need-returns-2
-returns-2 c = λ i e. sym (subst (Tells (c .before .before .before .before .args .position) (linesOf 0 (i .tree))) (c .enum-told .given .1) (c .before .before .line-at .ensures i e))
+returns-2 c =
+    let at-line-at = c .before .before in
+    let start = at-line-at .before .before in
+    λ i e. sym (subst (Tells (start .args .position) (linesOf 0 (i .tree))) (c .enum-told .given .1) (at-line-at .line-at .ensures i e))
 
 pub entry-of-spec : {M : Type 1} → statement M
 entry-of-spec =

@@ -10,45 +10,83 @@ use Rattle.query.proofs.list.Tie as tie
 
 slice-relend-prefix-check-table : tie.Need-slice-relend-prefix-check-table
 slice-relend-prefix-check-table c =
-    let a = c .before .before .before .before .before .before .args in
-    sized-of (a .size) (a .pages) _ _ _ (sym (c .before .before .before .new .ensures) ∙ c .before .g .given .1) .room
+    let at-g = c .before in
+    let at-new = at-g .before .before in
+    let start = at-new .before .before .before in
+    let a = start .args in
+    sized-of (a .size) (a .pages) _ _ _ (sym (at-new .new .ensures) ∙ at-g .g .given .1) .room
 
 slice-aggregate-check-table : tie.Need-slice-aggregate-check-table
 slice-aggregate-check-table c =
-    let a = c .before .before .before .before .before .before .before .args in
-    sym (length-take-le _ _ (sized-of (a .size) (a .pages) _ _ _ (sym (c .before .before .before .before .new .ensures) ∙ c .before .before .g .given .1) .room))
+    let at-g = c .before .before in
+    let at-new = at-g .before .before in
+    let start = at-new .before .before .before in
+    let a = start .args in
+    sym (length-take-le _ _ (sized-of (a .size) (a .pages) _ _ _ (sym (at-new .new .ensures) ∙ at-g .g .given .1) .room))
 
 check-table-requires : tie.Need-check-table-requires
 check-table-requires c κs =
-    let a = c .before .before .before .before .before .before .before .args in
-    let e = sym (c .before .before .before .before .new .ensures) ∙ c .before .before .g .given .1 in
+    let at-g = c .before .before in
+    let at-new = at-g .before .before in
+    let start = at-new .before .before .before in
+    let a = start .args in
+    let e = sym (at-new .new .ensures) ∙ at-g .g .given .1 in
     (fit-of (a .size) (a .pages) (a .image .now) (a .owners .now) _ e, length-take-le _ (a .owners .now) (sized-of (a .size) (a .pages) _ _ _ e .room))
 
 entry-of-requires : tie.Need-entry-of-requires
 entry-of-requires c κs =
-    let a = c .before .before .before .before .before .before .before .before .before .before .before .before .args in
-    let e = sym (c .before .before .before .before .before .before .before .before .before .new .ensures) ∙ c .before .before .before .before .before .before .before .g .given .1 in
-    (fit-of (a .size) (a .pages) (a .image .now) (a .owners .now) _ e, is-accepted (a .size) (a .pages) (a .image .now) (a .owners .now) _ e (c .before .before .before .before .check-table .result) (c .before .before .before .before .check-table .last .1 .1 .0) (c .before .before .before .before .check-table .ensures) _ (c .enum-told2 .given .1))
+    let at-check-table = c .before .before .before .before in
+    let at-g = at-check-table .before .before .before in
+    let at-new = at-g .before .before in
+    let start = at-new .before .before .before in
+    let a = start .args in
+    let e = sym (at-new .new .ensures) ∙ at-g .g .given .1 in (
+      fit-of (a .size) (a .pages) (a .image .now) (a .owners .now) _ e,
+      is-accepted (a .size) (a .pages) (a .image .now) (a .owners .now) _ e (at-check-table .check-table .result)
+          (at-check-table .check-table .last .1 .1 .0) (at-check-table .check-table .ensures) _ (c .enum-told2 .given .1),
+    )
 
 returns : tie.Need-returns
 returns c =
-    let a = c .before .before .before .before .before .args in
-    let e = sym (list-wrong (a .size) (a .pages) (a .image .now) (a .owners .now) (sym (c .before .before .new .ensures) ∙ c .enum-told .given .1) (a .position)) in
-    (e, lists-tree (a .size) (a .pages) (a .image .now) (a .owners .now) (λ i. c .before .before .before .before .shared-slice-known .given i .fits) (a .position) (listed.Refused 1 0) (a .owners .now) e)
+    let at-new = c .before .before in
+    let at-shared-slice-known = at-new .before .before in
+    let start = at-shared-slice-known .before in
+    let a = start .args in
+    let e = sym (list-wrong (a .size) (a .pages) (a .image .now) (a .owners .now) (sym (at-new .new .ensures) ∙ c .enum-told .given .1) (a .position)) in
+    (e, lists-tree (a .size) (a .pages) (a .image .now) (a .owners .now) (λ i. at-shared-slice-known .shared-slice-known .given i .fits) (a .position) (listed.Refused 1 0) (a .owners .now) e)
 
 returns-2 : tie.Need-returns-2
 returns-2 c =
-    let a = c .before .before .before .before .before .before .before .before .before .before .before .before .before .args in
-    let e = list-fault (a .size) (a .pages) (a .image .now) (a .owners .now) _ (sym (c .before .before .before .before .before .before .before .before .before .before .new .ensures) ∙ c .before .before .before .before .before .before .before .before .g .given .1) (c .before .before .before .before .before .check-table .result) (c .before .before .before .before .before .check-table .last .1 .1 .0) (c .before .before .before .before .before .check-table .ensures) _ _ (c .before .number .given .1) (a .position) in
-    (e, lists-tree (a .size) (a .pages) (a .image .now) (a .owners .now) (λ i. c .before .before .before .before .before .before .before .before .before .before .before .before .shared-slice-known .given i .fits) (a .position) (listed.Refused (c .before .number .given .0 .0) (c .before .number .given .0 .1 .0)) _ e)
+    let at-number = c .before in
+    let at-check-table = at-number .before .before .before .before in
+    let at-g = at-check-table .before .before .before in
+    let at-new = at-g .before .before in
+    let at-shared-slice-known = at-new .before .before in
+    let start = at-shared-slice-known .before in
+    let a = start .args in
+    let e = list-fault (a .size) (a .pages) (a .image .now) (a .owners .now) _ (sym (at-new .new .ensures) ∙ at-g .g .given .1) (at-check-table .check-table .result)
+    (at-check-table .check-table .last .1 .1 .0) (at-check-table .check-table .ensures) _ _ (at-number .number .given .1) (a .position) in (
+      e,
+      lists-tree (a .size) (a .pages) (a .image .now) (a .owners .now) (λ i. at-shared-slice-known .shared-slice-known .given i .fits) (a .position)
+          (listed.Refused (at-number .number .given .0 .0) (at-number .number .given .0 .1 .0)) _ e,
+    )
 
 returns-3 : tie.Need-returns-3
 returns-3 c =
-    let a = c .before .before .before .before .before .before .before .before .before .before .before .before .before .args in
-    let e = list-done (a .size) (a .pages) (a .image .now) (a .owners .now) _ (sym (c .before .before .before .before .before .before .before .before .before .before .new .ensures) ∙ c .before .before .before .before .before .before .before .before .g .given .1) (c .before .before .before .before .before .check-table .result) (c .before .before .before .before .before .check-table .last .1 .1 .0) (c .before .before .before .before .before .check-table .ensures) _ (c .before .enum-told2 .given .1) (a .position) (c .entry-of .result) (c .entry-of .ensures) in
-    (e, lists-tree (a .size) (a .pages) (a .image .now) (a .owners .now) (λ i. c .before .before .before .before .before .before .before .before .before .before .before .before .shared-slice-known .given i .fits) (a .position) (c .entry-of .result) _ e)
+    let at-enum-told2 = c .before in
+    let at-check-table = at-enum-told2 .before .before .before .before in
+    let at-g = at-check-table .before .before .before in
+    let at-new = at-g .before .before in
+    let at-shared-slice-known = at-new .before .before in
+    let start = at-shared-slice-known .before in
+    let a = start .args in
+    let e = list-done (a .size) (a .pages) (a .image .now) (a .owners .now) _ (sym (at-new .new .ensures) ∙ at-g .g .given .1) (at-check-table .check-table .result)
+    (at-check-table .check-table .last .1 .1 .0) (at-check-table .check-table .ensures) _ (at-enum-told2 .enum-told2 .given .1) (a .position) (c .entry-of .result)
+    (c .entry-of .ensures) in
+    (e, lists-tree (a .size) (a .pages) (a .image .now) (a .owners .now) (λ i. at-shared-slice-known .shared-slice-known .given i .fits) (a .position) (c .entry-of .result) _ e)
 
 pub list-spec : {M : Type 1} → statement M
 list-spec =
     tie.close
-    (tie.spec (λ c κs. search needs) (λ c. search needs) (λ c. search needs) slice-relend-prefix-check-table slice-aggregate-check-table check-table-requires (λ c. search needs) (λ c. search needs) entry-of-requires returns (λ c. search needs) returns-2 (λ c. search needs) returns-3)
+    (tie.spec (λ c κs. search needs) (λ c. search needs) (λ c. search needs) slice-relend-prefix-check-table slice-aggregate-check-table check-table-requires (λ c. search needs)
+    (λ c. search needs) entry-of-requires returns (λ c. search needs) returns-2 (λ c. search needs) returns-3)

@@ -20,13 +20,17 @@ unfolding bytesWith
 loop-holds c = (omega arith, refl, refl)
 
 cast-bytes-2 : tie.Need-cast-bytes-2 Inv-loop μ-loop
-cast-bytes-2 c = omega (arith, c .shared-slice-known2 .given (c .before .before .before .loop .i))
+cast-bytes-2 c =
+    let at-loop = c .before .before .before in
+    omega (arith, c .shared-slice-known2 .given (at-loop .loop .i))
 
 slice-write-bytes-2 : tie.Need-slice-write-bytes-2 Inv-loop μ-loop
 slice-write-bytes-2 c = simp length-set (omega arith)
 
 loop-again : tie.Need-loop-again Inv-loop μ-loop
-loop-again c = (omega arith, simp length-set (omega arith), store-more _ _ _ _ (c .before .before .before .loop .inv .2) (omega arith) (omega arith))
+loop-again c =
+    let at-loop = c .before .before .before in
+    (omega arith, simp length-set (omega arith), store-more _ _ _ _ (at-loop .loop .inv .2) (omega arith) (omega arith))
 
 returns : tie.Need-returns Inv-loop μ-loop
 returns c = let e : c .before .loop .i ≡ length (c .before .before .args .table .now) = omega arith in c .before .loop .inv .2 ∙ rw (e, take-length (c .before .before .args .table .now))
@@ -34,4 +38,5 @@ returns c = let e : c .before .loop .i ≡ length (c .before .before .args .tabl
 pub store-spec : {M : Type 1} → statement M
 store-spec =
     tie.close
-    (tie.spec Inv-loop μ-loop loop-holds (λ c. search needs) (λ c. search needs) (λ c. search needs) (λ c. search needs) (λ c. search needs) (λ c. search needs) (λ c. search needs) cast-bytes-2 (λ c. search needs) (λ c. search needs) slice-write-bytes-2 (λ c. search needs) (λ c. search needs) loop-again (λ c. search needs) returns)
+    (tie.spec Inv-loop μ-loop loop-holds (λ c. search needs) (λ c. search needs) (λ c. search needs) (λ c. search needs) (λ c. search needs) (λ c. search needs)
+    (λ c. search needs) cast-bytes-2 (λ c. search needs) (λ c. search needs) slice-write-bytes-2 (λ c. search needs) (λ c. search needs) loop-again (λ c. search needs) returns)

@@ -26,11 +26,21 @@ put-digits-returns : (t : ℕ) → put-digits-lts.Need-returns (put-digits-calls
 put-digits-returns t c = (rw (no-digit _ _ (c .if1 .taken)) nothing, search needs)
 
 put-digits-returns-2 : (t : ℕ) → put-digits-lts.Need-returns-2 (put-digits-calls t) (put-digits-at t) put-digits.Post
-put-digits-returns-2 t c = (rw (one-digit _ _ (c .before .before .before .before .before .if1 .left) (c .before .before .before .before .if2 .taken)) (c .before .before .put-byte .ensures), search needs)
+put-digits-returns-2 t c = (
+  rw (one-digit _ _ (c .before .before .before .before .before .if1 .left) (c .before .before .before .before .if2 .taken))
+      (c .before .before .put-byte .ensures),
+  search needs,
+)
 
 put-digits-returns-3 : (t : ℕ) → put-digits-lts.Need-returns-3 (put-digits-calls t) (put-digits-at t) put-digits.Post
-put-digits-returns-3 t c = (rw (one-digit-more _ _ (c .before .before .before .before .before .before .before .before .before .if1 .left) (c .before .before .before .before .before .before .before .before .if2 .left)) (and-then (c .before .before .before .before .before .before .put-digits .ensures .0) (c .before .before .put-byte2 .ensures)), search needs)
+put-digits-returns-3 t c =
+    let at-put-byte2 = c .before .before in
+    let at-put-digits = at-put-byte2 .before .before .before .before in
+    let at-if2 = at-put-digits .before .before in
+    let at-if1 = at-if2 .before in
+    (rw (one-digit-more _ _ (at-if1 .if1 .left) (at-if2 .if2 .left)) (and-then (at-put-digits .put-digits .ensures .0) (at-put-byte2 .put-byte2 .ensures)), search needs)
 
 pub +put-digits-spec : {M : Type 1} → statement M
 +put-digits-spec = close μ-put-digits λ t. put-digits-lts.spec (put-digits-calls t) (put-digits-at t) put-digits.Post
-    (put-digits-returns t) (λ c. search needs) (λ c. search needs) (λ c κs. search needs) (λ c. search needs) (put-digits-returns-2 t) (λ c. search needs) (λ c κs. search needs) (λ c κs. search needs) (λ c. search needs) (put-digits-returns-3 t)
+    (put-digits-returns t) (λ c. search needs) (λ c. search needs) (λ c κs. search needs) (λ c. search needs) (put-digits-returns-2 t) (λ c. search needs) (λ c κs. search needs)
+    (λ c κs. search needs) (λ c. search needs) (put-digits-returns-3 t)

@@ -17,7 +17,12 @@ loop-holds : tie.Need-loop-holds Inv-loop μ-loop
 loop-holds c = (search needs, search needs, bytes-none _ _ _)
 
 loop-again : tie.Need-loop-again Inv-loop μ-loop
-loop-again c = (search needs, search needs, byte-more _ _ _ _ _ _ _ (c .before .before .before .before .before .loop-test .taken) (c .before .before .before .before .before .before .loop .inv .2) (c .before .before .put-byte .ensures))
+loop-again c = (
+  search needs,
+  search needs,
+  byte-more _ _ _ _ _ _ _ (c .before .before .before .before .before .loop-test .taken)
+      (c .before .before .before .before .before .before .loop .inv .2) (c .before .before .put-byte .ensures),
+)
 
 returns : tie.Need-returns Inv-loop μ-loop
 returns c = bytes-all _ _ _ _ _ (c .loop-test .left) (c .before .loop .inv .0) (c .before .loop .inv .2)
@@ -25,4 +30,5 @@ returns c = bytes-all _ _ _ _ _ (c .loop-test .left) (c .before .loop .inv .0) (
 pub put-bytes-spec : {M : Type 1} → statement M
 put-bytes-spec =
     tie.close
-    (tie.spec Inv-loop μ-loop loop-holds (λ c. search needs) (λ c. search needs) (λ c κs. search needs) (λ c. search needs) (λ c. search needs) loop-again (λ c. search needs) (λ c. search needs) returns)
+    (tie.spec Inv-loop μ-loop loop-holds (λ c. search needs) (λ c. search needs) (λ c κs. search needs) (λ c. search needs) (λ c. search needs) loop-again (λ c. search needs)
+    (λ c. search needs) returns)

@@ -3,7 +3,10 @@ use Rattle.text.proofs.put_kind.Statement.{statement}
 use Rattle.text.proofs.put_kind.Tie as tie
 
 returns : tie.Need-returns
-returns c = rw (c .before .before .before .before .before .letter-of .ensures) at (c .before .before .put-bytes .ensures)
+returns c =
+    let at-put-bytes = c .before .before in
+    let at-letter-of = at-put-bytes .before .before .before in
+    rw (at-letter-of .letter-of .ensures) at (at-put-bytes .put-bytes .ensures)
 
 pub put-kind-spec : {M : Type 1} → statement M
 put-kind-spec =

@@ -7,8 +7,13 @@ use Rattle.text.proofs.put_line.Tie as tie
 returns : tie.Need-returns
 unfolding lineText
 returns c =
-    and-then (c .before .before .before .before .before .before .before .before .before .before .before .before .before .before .before .before .before .before .put-digits .ensures .0)
-    (and-then (c .before .before .before .before .before .before .before .before .before .before .before .before .before .before .put-byte .ensures) (and-then (c .before .before .before .before .before .before .before .before .before .before .put-name .ensures .0) (and-then (c .before .before .before .before .before .before .put-kind .ensures) (c .before .before .put-sizes .ensures))))
+    let at-put-sizes = c .before .before in
+    let at-put-kind = at-put-sizes .before .before .before .before in
+    let at-put-name = at-put-kind .before .before .before .before in
+    let at-put-byte = at-put-name .before .before .before .before in
+    let at-put-digits = at-put-byte .before .before .before .before in
+    and-then (at-put-digits .put-digits .ensures .0)
+    (and-then (at-put-byte .put-byte .ensures) (and-then (at-put-name .put-name .ensures .0) (and-then (at-put-kind .put-kind .ensures) (at-put-sizes .put-sizes .ensures))))
 
 pub put-line-spec : {M : Type 1} → statement M
 put-line-spec =

@@ -6,7 +6,11 @@ use Rattle.text.proofs.put_refusal.Tie as tie
 
 returns : tie.Need-returns
 unfolding refusalText
-returns c = and-then (c .before .before .before .before .before .before .before .before .before .before .before .put-field .ensures .0) (and-then (c .before .before .before .before .before .before .put-field2 .ensures .0) (c .before .before .put-byte .ensures))
+returns c =
+    let at-put-byte = c .before .before in
+    let at-put-field2 = at-put-byte .before .before .before .before in
+    let at-put-field = at-put-field2 .before .before .before .before .before in
+    and-then (at-put-field .put-field .ensures .0) (and-then (at-put-field2 .put-field2 .ensures .0) (at-put-byte .put-byte .ensures))
 
 pub put-refusal-spec : {M : Type 1} → statement M
 put-refusal-spec =

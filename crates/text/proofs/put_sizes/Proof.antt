@@ -4,7 +4,12 @@ use Rattle.text.proofs.put_sizes.Statement.{statement}
 use Rattle.text.proofs.put_sizes.Tie as tie
 
 returns : tie.Need-returns
-returns c = and-then (c .before .before .before .before .before .before .before .before .before .before .before .before .before .before .before .before .put-field .ensures .0) (and-then (c .before .before .before .before .before .before .before .before .before .before .before .put-field2 .ensures .0) (and-then (c .before .before .before .before .before .before .put-field3 .ensures .0) (c .before .before .put-byte .ensures)))
+returns c =
+    let at-put-byte = c .before .before in
+    let at-put-field3 = at-put-byte .before .before .before .before in
+    let at-put-field2 = at-put-field3 .before .before .before .before .before in
+    let at-put-field = at-put-field2 .before .before .before .before .before in
+    and-then (at-put-field .put-field .ensures .0) (and-then (at-put-field2 .put-field2 .ensures .0) (and-then (at-put-field3 .put-field3 .ensures .0) (at-put-byte .put-byte .ensures)))
 
 pub put-sizes-spec : {M : Type 1} → statement M
 put-sizes-spec =

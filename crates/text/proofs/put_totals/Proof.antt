@@ -7,12 +7,19 @@ use Rattle.text.proofs.put_totals.Tie as tie
 returns : tie.Need-returns
 unfolding totalsText
 returns c =
-    and-then (c .before .before .before .before .before .before .before .before .before .before .before .before .before .before .before .before .before .before .before .before .before .before .before .before .before .before .put-field .ensures .0)
-    (and-then (c .before .before .before .before .before .before .before .before .before .before .before .before .before .before .before .before .before .before .before .before .before .put-field2 .ensures .0)
-    (and-then (c .before .before .before .before .before .before .before .before .before .before .before .before .before .before .before .before .put-field3 .ensures .0)
-    (and-then (c .before .before .before .before .before .before .before .before .before .before .before .put-field4 .ensures .0) (and-then (c .before .before .before .before .before .before .put-field5 .ensures .0) (c .before .before .put-byte .ensures)))))
+    let at-put-byte = c .before .before in
+    let at-put-field5 = at-put-byte .before .before .before .before in
+    let at-put-field4 = at-put-field5 .before .before .before .before .before in
+    let at-put-field3 = at-put-field4 .before .before .before .before .before in
+    let at-put-field2 = at-put-field3 .before .before .before .before .before in
+    let at-put-field = at-put-field2 .before .before .before .before .before in
+    and-then (at-put-field .put-field .ensures .0)
+    (and-then (at-put-field2 .put-field2 .ensures .0)
+    (and-then (at-put-field3 .put-field3 .ensures .0)
+    (and-then (at-put-field4 .put-field4 .ensures .0) (and-then (at-put-field5 .put-field5 .ensures .0) (at-put-byte .put-byte .ensures)))))
 
 pub put-totals-spec : {M : Type 1} → statement M
 put-totals-spec =
     tie.close
-    (tie.spec (λ c. search needs) (λ c κs. search needs) (λ c. search needs) (λ c κs. search needs) (λ c. search needs) (λ c κs. search needs) (λ c. search needs) (λ c κs. search needs) (λ c. search needs) (λ c κs. search needs) (λ c κs. search needs) (λ c. search needs) returns)
+    (tie.spec (λ c. search needs) (λ c κs. search needs) (λ c. search needs) (λ c κs. search needs) (λ c. search needs) (λ c κs. search needs) (λ c. search needs)
+    (λ c κs. search needs) (λ c. search needs) (λ c κs. search needs) (λ c κs. search needs) (λ c. search needs) returns)

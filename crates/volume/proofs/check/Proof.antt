@@ -10,30 +10,46 @@ use Rattle.volume.proofs.check.Tie as tie
 
 slice-relend-prefix-check-table : tie.Need-slice-relend-prefix-check-table
 slice-relend-prefix-check-table c =
-    sized-of _ _ _ _ _ (sym (c .before .before .before .new .ensures) ∙ c .before .g .given .1) .room
+    let at-g = c .before in
+    let at-new = at-g .before .before in
+    sized-of _ _ _ _ _ (sym (at-new .new .ensures) ∙ at-g .g .given .1) .room
 
 slice-aggregate-check-table : tie.Need-slice-aggregate-check-table
 slice-aggregate-check-table c =
-    let z = sized-of _ _ _ _ _ (sym (c .before .before .before .before .new .ensures) ∙ c .before .before .g .given .1) in
+    let at-g = c .before .before in
+    let at-new = at-g .before .before in
+    let z = sized-of _ _ _ _ _ (sym (at-new .new .ensures) ∙ at-g .g .given .1) in
     sym (length-take-le _ _ (z .room))
 
 check-table-requires : tie.Need-check-table-requires
 check-table-requires c κs =
-    let a = c .before .before .before .before .before .before .before .args in
-    let e = sym (c .before .before .before .before .new .ensures) ∙ c .before .before .g .given .1 in
+    let at-g = c .before .before in
+    let at-new = at-g .before .before in
+    let start = at-new .before .before .before in
+    let a = start .args in
+    let e = sym (at-new .new .ensures) ∙ at-g .g .given .1 in
     (fit-of _ _ (a .image .now) (a .owners .now) _ e, length-take-le _ (a .owners .now) (sized-of _ _ _ _ _ e .room))
 
 returns : tie.Need-returns
 returns c =
-    let a = c .before .before .before .before .before .args in
-    let e = sym (check-wrong (a .size) (a .pages) (a .image .now) (a .owners .now) (sym (c .before .before .new .ensures) ∙ c .enum-told .given .1)) in
-    (e, accepts (a .size) (a .pages) (a .image .now) (a .owners .now) (λ i. c .before .before .before .before .shared-slice-known .given i .fits) (w.Refused 1 0) (a .owners .now) e)
+    let at-new = c .before .before in
+    let at-shared-slice-known = at-new .before .before in
+    let start = at-shared-slice-known .before in
+    let a = start .args in
+    let e = sym (check-wrong (a .size) (a .pages) (a .image .now) (a .owners .now) (sym (at-new .new .ensures) ∙ c .enum-told .given .1)) in
+    (e, accepts (a .size) (a .pages) (a .image .now) (a .owners .now) (λ i. at-shared-slice-known .shared-slice-known .given i .fits) (w.Refused 1 0) (a .owners .now) e)
 
 returns-2 : tie.Need-returns-2
 returns-2 c =
-    let a = c .before .before .before .before .before .before .before .before .before .before .args in
-    let e = checked (a .size) (a .pages) (a .image .now) (a .owners .now) _ (sym (c .before .before .before .before .before .before .before .new .ensures) ∙ c .before .before .before .before .before .g .given .1) (c .before .before .check-table .result) (c .before .before .check-table .last .1 .1 .0) (c .before .before .check-table .ensures) in
-    (e, accepts (a .size) (a .pages) (a .image .now) (a .owners .now) (λ i. c .before .before .before .before .before .before .before .before .before .shared-slice-known .given i .fits) (c .before .before .check-table .result) _ e)
+    let at-check-table = c .before .before in
+    let at-g = at-check-table .before .before .before in
+    let at-new = at-g .before .before in
+    let at-shared-slice-known = at-new .before .before in
+    let start = at-shared-slice-known .before in
+    let a = start .args in
+    let e = checked (a .size) (a .pages) (a .image .now) (a .owners .now) _ (sym (at-new .new .ensures) ∙ at-g .g .given .1) (at-check-table .check-table .result)
+    (at-check-table .check-table .last .1 .1 .0) (at-check-table .check-table .ensures) in
+    (e, accepts (a .size) (a .pages) (a .image .now) (a .owners .now) (λ i. at-shared-slice-known .shared-slice-known .given i .fits) (at-check-table .check-table .result) _ e)
 
 pub check-spec : {M : Type 1} → statement M
 check-spec =

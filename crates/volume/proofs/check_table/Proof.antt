@@ -8,32 +8,62 @@ use Rattle.volume.proofs.check_table.Tie as tie
 
 scan-requires : tie.Need-scan-requires
 scan-requires c κs =
-    let s = c .before .before .before .before .before .before .before .before .pre in
-    (s .0, (c .before .before .before .before .clear .ensures ∙ ap (λ (n : ℕ). replicate n 0) (s .1), c .before .root-of .ensures))
+    let at-root-of = c .before in
+    let at-clear = at-root-of .before .before .before in
+    let start = at-clear .before .before .before .before in
+    let s = start .pre in
+    (s .0, (at-clear .clear .ensures ∙ ap (λ (n : ℕ). replicate n 0) (s .1), at-root-of .root-of .ensures))
 
 compare-requires : tie.Need-compare-requires
 compare-requires c κs =
-    let s = c .before .before .before .before .before .before .before .before .before .before .before .before .before .before .before .pre in
-    let k = scan-done _ _ _ _ _ (c .before .before .before .before .before .before .scan .ensures) (c .before .before .totals .given .1) in
-    (s .0, (c .before .before .before .before .before .before .before .before .root-of .ensures, (k .scanned, k .scan-is)))
+    let at-totals = c .before .before in
+    let at-scan = at-totals .before .before .before .before in
+    let at-root-of = at-scan .before .before in
+    let at-clear = at-root-of .before .before .before in
+    let start = at-clear .before .before .before .before in
+    let s = start .pre in
+    let k = scan-done _ _ _ _ _ (at-scan .scan .ensures) (at-totals .totals .given .1) in
+    (s .0, (at-root-of .root-of .ensures, (k .scanned, k .scan-is)))
 
 returns : tie.Need-returns
 returns c =
-    let s = c .before .before .before .before .before .before .before .before .before .before .before .before .before .before .before .before .before .before .pre in
-    (scan-fault _ _ _ _ _ _ (c .before .before .before .before .before .before .before .before .before .scan .ensures) (c .before .before .before .before .before .number .given .1), c .before .before .clear2 .ensures ∙ ap (λ (n : ℕ). replicate n 0) (c .before .before .before .before .before .before .before .before .before .scan .kept .1 .1 .1 .0 ∙ c .before .before .before .before .before .before .before .before .before .before .before .before .before .before .clear .kept .0 ∙ s .1))
+    let at-clear2 = c .before .before in
+    let at-number = at-clear2 .before .before .before in
+    let at-scan = at-number .before .before .before .before in
+    let at-clear = at-scan .before .before .before .before .before in
+    let start = at-clear .before .before .before .before in
+    let s = start .pre in (
+      scan-fault _ _ _ _ _ _ (at-scan .scan .ensures) (at-number .number .given .1),
+      at-clear2 .clear2 .ensures
+          ∙ ap (λ (n : ℕ). replicate n 0) (at-scan .scan .kept .1 .1 .1 .0 ∙ at-clear .clear .kept .0 ∙ s .1),
+    )
 
 returns-2 : tie.Need-returns-2
 returns-2 c =
-    let s = c .before .before .before .before .before .before .before .before .before .before .before .before .before .before .before .before .before .before .before .before .before .before .before .pre in
-    let k = scan-done _ _ _ _ _ (c .before .before .before .before .before .before .before .before .before .before .before .before .before .before .scan .ensures) (c .before .before .before .before .before .before .before .before .before .before .totals .given .1) in
-    (table-differs _ _ _ _ k _ (c .before .before .before .before .before .before .before .compare .ensures) _ (c .before .before .before .before .before .bit .given .1), c .before .before .clear3 .ensures ∙ ap (λ (n : ℕ). replicate n 0) (c .before .before .before .before .before .before .before .before .before .before .before .before .before .before .scan .kept .1 .1 .1 .0 ∙ c .before .before .before .before .before .before .before .before .before .before .before .before .before .before .before .before .before .before .before .clear .kept .0 ∙ s .1))
+    let at-clear3 = c .before .before in
+    let at-bit = at-clear3 .before .before .before in
+    let at-compare = at-bit .before .before in
+    let at-totals = at-compare .before .before .before in
+    let at-scan = at-totals .before .before .before .before in
+    let at-clear = at-scan .before .before .before .before .before in
+    let start = at-clear .before .before .before .before in
+    let s = start .pre in
+    let k = scan-done _ _ _ _ _ (at-scan .scan .ensures) (at-totals .totals .given .1) in (
+      table-differs _ _ _ _ k _ (at-compare .compare .ensures) _ (at-bit .bit .given .1),
+      at-clear3 .clear3 .ensures
+          ∙ ap (λ (n : ℕ). replicate n 0) (at-scan .scan .kept .1 .1 .1 .0 ∙ at-clear .clear .kept .0 ∙ s .1),
+    )
 
 returns-3 : tie.Need-returns-3
 returns-3 c =
-    let k = scan-done _ _ _ _ _ (c .before .before .before .before .before .before .before .before .before .scan .ensures) (c .before .before .before .before .before .totals .given .1) in
-    table-same _ _ _ _ k _ (c .before .before .compare .ensures) (c .enum-told .given .1)
+    let at-compare = c .before .before in
+    let at-totals = at-compare .before .before .before in
+    let at-scan = at-totals .before .before .before .before in
+    let k = scan-done _ _ _ _ _ (at-scan .scan .ensures) (at-totals .totals .given .1) in
+    table-same _ _ _ _ k _ (at-compare .compare .ensures) (c .enum-told .given .1)
 
 pub check-table-spec : {M : Type 1} → statement M
 check-table-spec =
     tie.close
-    (tie.spec (λ c κs. search needs) (λ c κs. search needs) scan-requires (λ c. search needs) (λ c κs. search needs) (λ c. search needs) compare-requires (λ c. search needs) (λ c κs. search needs) (λ c. search needs) (λ c. search needs) returns (λ c. search needs) returns-2 (λ c. search needs) returns-3)
+    (tie.spec (λ c κs. search needs) (λ c κs. search needs) scan-requires (λ c. search needs) (λ c κs. search needs) (λ c. search needs) compare-requires (λ c. search needs)
+    (λ c κs. search needs) (λ c. search needs) (λ c. search needs) returns (λ c. search needs) returns-2 (λ c. search needs) returns-3)

@@ -7,29 +7,59 @@ use Rattle.volume.proofs.claim_map.Tie as tie
 
 returns : tie.Need-returns
 unfolding MapClaimed
-returns c = map-none _ _ _ (c .before .before .before .args .count) (c .if1 .taken)
+returns c =
+    let start = c .before .before .before in
+    map-none _ _ _ (start .args .count) (c .if1 .taken)
 
 claim-chain-requires : tie.Need-claim-chain-requires
 claim-chain-requires c κs =
-    let s = c .before .before .before .before .pre in
+    let start = c .before .before .before .before in
+    let s = start .pre in
     (s .0, (empty-table _ _ (s .1) .1, omega arith, λ h. omega arith))
 
 returns-2 : tie.Need-returns-2
 unfolding MapClaimed
-returns-2 c = map-counted _ _ _ _ (c .before .before .before .before .before .before .before .before .if1 .left) _ _ (c .before .before .before .before .before .before .before .before .before .before .before .pre .1) _ (c .before .before .before .before .before .before .claim-chain .ensures) _ _ (c .before .before .pages .given .1) (c .if2 .taken)
+returns-2 c =
+    let at-pages = c .before .before in
+    let at-claim-chain = at-pages .before .before .before .before in
+    let at-if1 = at-claim-chain .before .before in
+    let start = at-if1 .before .before .before in
+    map-counted _ _ _ _ (at-if1 .if1 .left) _ _ (start .pre .1) _ (at-claim-chain .claim-chain .ensures) _ _ (at-pages .pages .given .1) (c .if2 .taken)
 
 returns-3 : tie.Need-returns-3
 unfolding MapClaimed
-returns-3 c = map-short _ _ _ _ (c .before .before .before .before .before .before .before .before .before .before .if1 .left) _ _ (c .before .before .before .before .before .before .before .before .before .before .before .before .before .pre .1) _ (c .before .before .before .before .before .before .before .before .claim-chain .ensures) _ _ (c .before .before .before .before .pages .given .1) (c .before .before .if2 .left) _ (c .before .bitmap-size .ensures) (c .if3 .taken)
+returns-3 c =
+    let at-bitmap-size = c .before in
+    let at-if2 = at-bitmap-size .before in
+    let at-pages = at-if2 .before .before in
+    let at-claim-chain = at-pages .before .before .before .before in
+    let at-if1 = at-claim-chain .before .before in
+    let start = at-if1 .before .before .before in
+    map-short _ _ _ _ (at-if1 .if1 .left) _ _ (start .pre .1) _ (at-claim-chain .claim-chain .ensures) _ _ (at-pages .pages .given .1) (at-if2 .if2 .left) _
+    (at-bitmap-size .bitmap-size .ensures) (c .if3 .taken)
 
 returns-4 : tie.Need-returns-4
 unfolding MapClaimed
-returns-4 c = map-refused _ _ _ (c .before .before .before .before .before .before .before .before .before .before .args .count) (c .before .before .before .before .before .before .before .if1 .left) _ _ (c .before .before .before .before .before .before .before .before .before .before .pre .1) _ (c .before .before .before .before .before .claim-chain .ensures) _ _ (c .before .number .given .1)
+returns-4 c =
+    let at-number = c .before in
+    let at-claim-chain = at-number .before .before .before .before in
+    let at-if1 = at-claim-chain .before .before in
+    let start = at-if1 .before .before .before in
+    map-refused _ _ _ (start .args .count) (at-if1 .if1 .left) _ _ (start .pre .1) _ (at-claim-chain .claim-chain .ensures) _ _ (at-number .number .given .1)
 
 returns-5 : tie.Need-returns-5
-returns-5 c = map-done _ _ _ _ (c .before .before .before .before .before .before .before .before .before .before .if1 .left) _ _ (c .before .before .before .before .before .before .before .before .before .before .before .before .before .pre .1) _ (c .before .before .before .before .before .before .before .before .claim-chain .ensures) _ _ (c .before .before .before .before .pages .given .1) (c .before .before .if2 .left) _ (c .before .bitmap-size .ensures) (c .if3 .left)
+returns-5 c =
+    let at-bitmap-size = c .before in
+    let at-if2 = at-bitmap-size .before in
+    let at-pages = at-if2 .before .before in
+    let at-claim-chain = at-pages .before .before .before .before in
+    let at-if1 = at-claim-chain .before .before in
+    let start = at-if1 .before .before .before in
+    map-done _ _ _ _ (at-if1 .if1 .left) _ _ (start .pre .1) _ (at-claim-chain .claim-chain .ensures) _ _ (at-pages .pages .given .1) (at-if2 .if2 .left) _
+    (at-bitmap-size .bitmap-size .ensures) (c .if3 .left)
 
 pub claim-map-spec : {M : Type 1} → statement M
 claim-map-spec =
     tie.close
-    (tie.spec returns claim-chain-requires (λ c. search needs) (λ c. search needs) (λ c. search needs) returns-2 (λ c κs. search needs) (λ c. search needs) returns-3 (λ c. search needs) returns-4 (λ c. search needs) returns-5)
+    (tie.spec returns claim-chain-requires (λ c. search needs) (λ c. search needs) (λ c. search needs) returns-2 (λ c κs. search needs) (λ c. search needs) returns-3
+    (λ c. search needs) returns-4 (λ c. search needs) returns-5)

@@ -15,17 +15,31 @@ judge-requires c κs =
     (f .valid .one, f .valid .two, omega arith, omega (arith, ap length (c .page-of .ensures), f .valid .least))
 
 data-of-requires : tie.Need-data-of-requires
-data-of-requires c κs = page-fits (c .before .before .before .before .before .before .args .g) 0 _ _ _ (sym (c .before .length .given .1) ∙ c .before .before .before .judge .ensures)
+data-of-requires c κs =
+    let at-length = c .before in
+    let at-judge = at-length .before .before in
+    let start = at-judge .before .before .before in
+    page-fits (start .args .g) 0 _ _ _ (sym (at-length .length .given .1) ∙ at-judge .judge .ensures)
 
 returns : tie.Need-returns
 unfolding viewOf
-returns c = root-bad (c .before .before .before .before .before .args .g) (viewOf (c .before .before .before .before .before .args .g) (c .before .before .before .before .before .args .image .now) 0) (root-page _ _ 0 _ _ (c .before .before .before .page-of .ensures) (sym (c .enum-told .given .1) ∙ c .before .before .judge .ensures))
+returns c =
+    let at-judge = c .before .before in
+    let at-page-of = at-judge .before in
+    let start = at-page-of .before .before in
+    root-bad (start .args .g) (viewOf (start .args .g) (start .args .image .now) 0) (root-page _ _ 0 _ _ (at-page-of .page-of .ensures) (sym (c .enum-told .given .1) ∙ at-judge .judge .ensures))
 
 returns-2 : tie.Need-returns-2
 unfolding viewOf
 returns-2 c =
-    let a = c .before .before .before .before .before .before .before .before .args in
-    root-good (a .g) 0 _ _ _ (root-page (a .g) _ 0 _ _ (c .before .before .before .before .before .before .page-of .ensures) (sym (c .before .before .before .length .given .1) ∙ c .before .before .before .before .before .judge .ensures)) _ _ (c .before .data-of .ensures) (c .before .before .before .before .before .before .page-of .ensures) _ (c .root-control .ensures)
+    let at-data-of = c .before in
+    let at-length = at-data-of .before .before in
+    let at-judge = at-length .before .before in
+    let at-page-of = at-judge .before in
+    let start = at-page-of .before .before in
+    let a = start .args in
+    root-good (a .g) 0 _ _ _ (root-page (a .g) _ 0 _ _ (at-page-of .page-of .ensures) (sym (at-length .length .given .1) ∙ at-judge .judge .ensures)) _ _
+    (at-data-of .data-of .ensures) (at-page-of .page-of .ensures) _ (c .root-control .ensures)
 
 pub root-of-spec : {M : Type 1} → statement M
 root-of-spec =

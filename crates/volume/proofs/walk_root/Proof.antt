@@ -6,7 +6,8 @@ use Rattle.volume.proofs.walk_root.Tie as tie
 
 walk-directory-requires : tie.Need-walk-directory-requires
 walk-directory-requires c κs =
-    let s = c .before .before .before .pre in
+    let start = c .before .before .before in
+    let s = start .pre in
     (s .0, (s .1 .0, record { used-is = s .1 .1; below = omega arith; spare = λ i. omega (arith, s .1 .2 i); some = omega arith; few = λ i. omega arith }))
 
 returns : tie.Need-returns

@@ -68,19 +68,47 @@ walk-entry-below t =
 abbrev walk-directory-Inv-loop : walk-directory-lts.InvT-loop
 walk-directory-Inv-loop image g levels name from start owner owners₀ pages so-far₀ count parent slot₀ left₀ owners so-far slot left =
     (length owners ≡ g .pages) × KnownChain g (viewOf g image) start × (left ≤ count)
-    × ((claimed : List ℕ) (ls : List Link) → Represents owners₀ claimed → ChainStands g (viewOf g image) start ls → Left g (viewOf g image) levels name start so-far₀ owners₀ claimed ls owners so-far slot (count - left))
+    × ((claimed : List ℕ) (ls : List Link) → Represents owners₀ claimed → ChainStands g (viewOf g image) start ls
+    → Left g (viewOf g image) levels name start so-far₀ owners₀ claimed ls owners so-far slot (count - left))
 
 abbrev walk-directory-μ-loop : walk-directory-lts.MeasureT-loop
 walk-directory-μ-loop image g levels name from start owner owners₀ pages so-far₀ count parent slot₀ left₀ owners so-far slot left =
     left + (g .pages - slot .next .count)
 
 abbrev walk-directory-calls : ℕ → walk-directory-lts.Claims
-walk-directory-calls t = (claim-chain-reads.Asked, claim-chain-reads.Learnt, count-of-reads.Asked, count-of-reads.Learnt, first-reads.Asked, first-reads.Learnt, entry-reads.Asked, entry-reads.Learnt, walk-entry-below t, walk-entry.Post, past-reads.Asked, past-reads.Learnt, begin-reads.Asked, begin-reads.Learnt)
+walk-directory-calls t = (
+  claim-chain-reads.Asked,
+  claim-chain-reads.Learnt,
+  count-of-reads.Asked,
+  count-of-reads.Learnt,
+  first-reads.Asked,
+  first-reads.Learnt,
+  entry-reads.Asked,
+  entry-reads.Learnt,
+  walk-entry-below t,
+  walk-entry.Post,
+  past-reads.Asked,
+  past-reads.Learnt,
+  begin-reads.Asked,
+  begin-reads.Learnt,
+)
 
 abbrev walk-entry-calls : ℕ → walk-entry-lts.Claims
-walk-entry-calls t = (entry-fault-reads.Asked, entry-fault-reads.Learnt, is-directory-reads.Asked, is-directory-reads.Learnt, walk-file-reads.Asked, walk-file-reads.Learnt, below-fault-reads.Asked, below-fault-reads.Learnt, walk-directory-below t, walk-directory.Post)
+walk-entry-calls t = (
+  entry-fault-reads.Asked,
+  entry-fault-reads.Learnt,
+  is-directory-reads.Asked,
+  is-directory-reads.Learnt,
+  walk-file-reads.Asked,
+  walk-file-reads.Learnt,
+  below-fault-reads.Asked,
+  below-fault-reads.Learnt,
+  walk-directory-below t,
+  walk-directory.Post,
+)
 
-walk-directory-claim-chain-requires : (t : ℕ) → walk-directory-lts.Need-claim-chain-requires (walk-directory-calls t) (walk-directory-at t) walk-directory.Post walk-directory-Inv-loop walk-directory-μ-loop
+walk-directory-claim-chain-requires : (t : ℕ) → walk-directory-lts.Need-claim-chain-requires (walk-directory-calls t) (walk-directory-at t) walk-directory.Post
+    walk-directory-Inv-loop walk-directory-μ-loop
 walk-directory-claim-chain-requires t c κs = search needs
 
 walk-directory-enum-known-number : (t : ℕ) → walk-directory-lts.Need-enum-known-number (walk-directory-calls t) (walk-directory-at t) walk-directory.Post walk-directory-Inv-loop walk-directory-μ-loop
@@ -111,6 +139,7 @@ walk-directory-count-of-requires t c κs =
 walk-directory-first-requires : (t : ℕ) → walk-directory-lts.Need-first-requires (walk-directory-calls t) (walk-directory-at t) walk-directory.Post walk-directory-Inv-loop walk-directory-μ-loop
 walk-directory-first-requires t c κs =
     let at-pages = c .before .before .before in
+    let at-pages = at-pages in
     let at-claim-chain = at-pages .before .before .before .before in
     let start = at-claim-chain .before .before .before .before in
     let s = start .pre .1 in
@@ -119,6 +148,7 @@ walk-directory-first-requires t c κs =
 walk-directory-loop-holds : (t : ℕ) → walk-directory-lts.Need-loop-holds (walk-directory-calls t) (walk-directory-at t) walk-directory.Post walk-directory-Inv-loop walk-directory-μ-loop
 walk-directory-loop-holds t c =
     let at-pages = c .before .before .before .before in
+    let at-pages = at-pages in
     let at-claim-chain = at-pages .before .before .before .before in
     let start = at-claim-chain .before .before .before .before in
     let s = start .pre .1 in
@@ -135,7 +165,8 @@ walk-directory-entry-requires t c κs =
     let l = witness _ _ _ _ _ _ _ _ _ _ _ (i .1) (i .3) in
     (start .pre .1 .0, (l .ahead .at-slot .fits, c .if1 .taken))
 
-walk-directory-walk-entry-requires : (t : ℕ) → walk-directory-lts.Need-walk-entry-requires (walk-directory-calls t) (walk-directory-at t) walk-directory.Post walk-directory-Inv-loop walk-directory-μ-loop
+walk-directory-walk-entry-requires : (t : ℕ) → walk-directory-lts.Need-walk-entry-requires (walk-directory-calls t) (walk-directory-at t) walk-directory.Post
+    walk-directory-Inv-loop walk-directory-μ-loop
 walk-directory-walk-entry-requires t c κs =
     let at-if1 = c .before .before in
     let at-loop = at-if1 .before .before in
@@ -147,15 +178,28 @@ walk-directory-walk-entry-requires t c κs =
     let l = witness _ _ _ _ _ _ _ _ _ _ _ (i .1) (i .3) in
     let n = at-count-of .count-of .ensures in
     let o = one-left _ _ (s .0) _ _ _ _ _ _ _ (i .1 .chain) _ _ _ _ l (at-if1 .if1 .taken) _ (c .before .entry .ensures .0) in
-    let m = n .0 (i .1 .links) (i .1 .chain) in
-    (omega (arith, start .pre .0, i .2, n .1), (s .0, (i .0, left-known _ _ (s .0) _ _ _ _ _ _ _ (i .1 .chain) _ _ _ _ l, l .good-totals, record { some = omega (arith, i .2); most = i .2; few = n .1 })))
+    let m = n .0 (i .1 .links) (i .1 .chain) in (
+      omega (arith, start .pre .0, i .2, n .1),
+      (
+        s .0,
+        (
+          i .0,
+          left-known _ _ (s .0) _ _ _ _ _ _ _ (i .1 .chain) _ _ _ _ l,
+          l .good-totals,
+          record
+              { some = omega (arith, i .2); most = i .2; few = n .1 },
+        ),
+      ),
+    )
 
-walk-directory-enum-known-number-2 : (t : ℕ) → walk-directory-lts.Need-enum-known-number-2 (walk-directory-calls t) (walk-directory-at t) walk-directory.Post walk-directory-Inv-loop walk-directory-μ-loop
+walk-directory-enum-known-number-2 : (t : ℕ) → walk-directory-lts.Need-enum-known-number-2 (walk-directory-calls t) (walk-directory-at t) walk-directory.Post
+    walk-directory-Inv-loop walk-directory-μ-loop
 walk-directory-enum-known-number-2 t c = search needs
 
 walk-directory-same-length : (t : ℕ) → walk-directory-lts.Need-same-length (walk-directory-calls t) (walk-directory-at t) walk-directory.Post walk-directory-Inv-loop walk-directory-μ-loop
 walk-directory-same-length t c =
     let at-walk-entry = c .before .before .before .before .before in
+    let at-walk-entry = at-walk-entry in
     let at-loop = at-walk-entry .before .before .before .before .before in
     let at-match = at-loop .before .before .before .before .before .before in
     let at-shared-slice-known = at-match .before .before .before .before .before .before in
@@ -165,7 +209,9 @@ walk-directory-same-length t c =
 
 walk-directory-returns : (t : ℕ) → walk-directory-lts.Need-returns (walk-directory-calls t) (walk-directory-at t) walk-directory.Post walk-directory-Inv-loop walk-directory-μ-loop
 walk-directory-returns t c =
-    let at-walk-entry = c .before .before .before .before .before in
+    let at-number2 = c .before in
+    let at-walk-entry = at-number2 .before .before .before .before in
+    let at-walk-entry = at-walk-entry in
     let at-entry = at-walk-entry .before .before in
     let at-if1 = at-entry .before in
     let at-loop = at-if1 .before .before in
@@ -178,7 +224,7 @@ walk-directory-returns t c =
     let i = at-loop .loop .inv in
     whole-refused _ _ _ _ _ _ _ _ _ _ _ (at-claim-chain .claim-chain .ensures) (s .1 .0) (at-pages .pages .given .1) (a .totals) (s .1 .1) claimed h (a .levels) (a .name) _ _
     (λ others ls r d. left-refused _ _ (s .0) _ _ _ _ _ others ls d _ _ _ _ (i .3 others ls r d) (at-if1 .if1 .taken) _ (at-entry .entry .ensures .0) _ _ (at-walk-entry .walk-entry .ensures) _ _
-    (c .before .number2 .given .1))
+    (at-number2 .number2 .given .1))
 
 walk-directory-enum-known-d : (t : ℕ) → walk-directory-lts.Need-enum-known-d (walk-directory-calls t) (walk-directory-at t) walk-directory.Post walk-directory-Inv-loop walk-directory-μ-loop
 walk-directory-enum-known-d t c = search needs
@@ -189,6 +235,7 @@ walk-directory-past-requires t c κs = search needs
 walk-directory-sub-left : (t : ℕ) → walk-directory-lts.Need-sub-left (walk-directory-calls t) (walk-directory-at t) walk-directory.Post walk-directory-Inv-loop walk-directory-μ-loop
 walk-directory-sub-left t c =
     let at-walk-entry = c .before .before .before .before .before .before in
+    let at-walk-entry = at-walk-entry in
     let at-entry = at-walk-entry .before .before in
     let at-if1 = at-entry .before in
     let at-loop = at-if1 .before .before in
@@ -205,6 +252,7 @@ walk-directory-sub-left t c =
 walk-directory-loop-less : (t : ℕ) → walk-directory-lts.Need-loop-less (walk-directory-calls t) (walk-directory-at t) walk-directory.Post walk-directory-Inv-loop walk-directory-μ-loop
 walk-directory-loop-less t c =
     let at-walk-entry = c .before .before .before .before .before .before in
+    let at-walk-entry = at-walk-entry in
     let at-entry = at-walk-entry .before .before in
     let at-if1 = at-entry .before in
     let at-loop = at-if1 .before .before in
@@ -244,6 +292,7 @@ walk-directory-loop-again t c =
 walk-directory-same-length-2 : (t : ℕ) → walk-directory-lts.Need-same-length-2 (walk-directory-calls t) (walk-directory-at t) walk-directory.Post walk-directory-Inv-loop walk-directory-μ-loop
 walk-directory-same-length-2 t c =
     let at-loop = c .before .before .before .before .before in
+    let at-loop = at-loop in
     let at-match = at-loop .before .before .before .before .before .before in
     let at-shared-slice-known = at-match .before .before .before .before .before .before in
     let start = at-shared-slice-known .before in
@@ -253,6 +302,7 @@ walk-directory-same-length-2 t c =
 walk-directory-returns-2 : (t : ℕ) → walk-directory-lts.Need-returns-2 (walk-directory-calls t) (walk-directory-at t) walk-directory.Post walk-directory-Inv-loop walk-directory-μ-loop
 walk-directory-returns-2 t c =
     let at-if1 = c .before .before .before in
+    let at-if1 = at-if1 in
     let at-loop = at-if1 .before .before in
     let at-pages = at-loop .before .before .before .before .before in
     let at-claim-chain = at-pages .before .before .before .before in
@@ -267,6 +317,7 @@ walk-directory-returns-2 t c =
 walk-directory-begin-requires : (t : ℕ) → walk-directory-lts.Need-begin-requires (walk-directory-calls t) (walk-directory-at t) walk-directory.Post walk-directory-Inv-loop walk-directory-μ-loop
 walk-directory-begin-requires t c κs =
     let at-if1 = c .before .before .before in
+    let at-if1 = at-if1 in
     let at-loop = at-if1 .before .before in
     let at-match = at-loop .before .before .before .before .before .before in
     let at-shared-slice-known = at-match .before .before .before .before .before .before in
@@ -279,7 +330,9 @@ walk-directory-begin-requires t c κs =
 
 walk-directory-loop-less-2 : (t : ℕ) → walk-directory-lts.Need-loop-less-2 (walk-directory-calls t) (walk-directory-at t) walk-directory.Post walk-directory-Inv-loop walk-directory-μ-loop
 walk-directory-loop-less-2 t c =
-    let at-if1 = c .before .before .before .before in
+    let at-if2 = c .before in
+    let at-if1 = at-if2 .before .before .before in
+    let at-if1 = at-if1 in
     let at-loop = at-if1 .before .before in
     let at-match = at-loop .before .before .before .before .before .before in
     let at-shared-slice-known = at-match .before .before .before .before .before .before in
@@ -287,31 +340,35 @@ walk-directory-loop-less-2 t c =
     let s = start .pre .1 in
     let i = at-loop .loop .inv in
     let l = witness _ _ _ _ _ _ _ _ _ _ _ (i .1) (i .3) in
-    let k = left-next _ _ (s .0) _ _ _ _ _ _ _ (i .1 .chain) _ _ _ _ l (at-if1 .if1 .left) (c .before .if2 .left) in
+    let k = left-next _ _ (s .0) _ _ _ _ _ _ _ (i .1 .chain) _ _ _ _ l (at-if1 .if1 .left) (at-if2 .if2 .left) in
     let n = counts-on _ _ (s .0) _ _ _ (c .begin .ensures) (k .2) in
     omega (arith, k .3, i .1 .chain .few)
 
 walk-directory-loop-again-2 : (t : ℕ) → walk-directory-lts.Need-loop-again-2 (walk-directory-calls t) (walk-directory-at t) walk-directory.Post walk-directory-Inv-loop walk-directory-μ-loop
 walk-directory-loop-again-2 t c =
-    let at-if1 = c .before .before .before .before in
+    let at-if2 = c .before in
+    let at-if1 = at-if2 .before .before .before in
+    let at-if1 = at-if1 in
     let at-loop = at-if1 .before .before in
     let at-match = at-loop .before .before .before .before .before .before in
     let at-shared-slice-known = at-match .before .before .before .before .before .before in
     let start = at-shared-slice-known .before in
     let s = start .pre .1 in
     let i = at-loop .loop .inv in
-    (i .0, i .1, i .2, λ claimed ls r d. left-page _ _ (s .0) _ _ _ _ _ claimed ls d _ _ _ _ (i .3 claimed ls r d) (at-if1 .if1 .left) (c .before .if2 .left) _ (c .begin .ensures))
+    (i .0, i .1, i .2, λ claimed ls r d. left-page _ _ (s .0) _ _ _ _ _ claimed ls d _ _ _ _ (i .3 claimed ls r d) (at-if1 .if1 .left) (at-if2 .if2 .left) _ (c .begin .ensures))
 
 walk-directory-same-length-3 : (t : ℕ) → walk-directory-lts.Need-same-length-3 (walk-directory-calls t) (walk-directory-at t) walk-directory.Post walk-directory-Inv-loop walk-directory-μ-loop
 walk-directory-same-length-3 t c = search needs
 
 walk-directory-returns-3 : (t : ℕ) → walk-directory-lts.Need-returns-3 (walk-directory-calls t) (walk-directory-at t) walk-directory.Post walk-directory-Inv-loop walk-directory-μ-loop
 walk-directory-returns-3 t c =
-    let at-claim-chain = c .before .before .before .before .before in
+    let at-number = c .before in
+    let at-claim-chain = at-number .before .before .before .before in
+    let at-claim-chain = at-claim-chain in
     let start = at-claim-chain .before .before .before .before in
     λ claimed h.
     let a = start .args in
-    refused-directory _ _ _ _ _ _ 0 0 _ _ _ (at-claim-chain .claim-chain .ensures) (start .pre .1 .1 .0) (a .levels) (a .name) _ _ (c .before .number .given .1) claimed h
+    refused-directory _ _ _ _ _ _ 0 0 _ _ _ (at-claim-chain .claim-chain .ensures) (start .pre .1 .1 .0) (a .levels) (a .name) _ _ (at-number .number .given .1) claimed h
 
 walk-entry-sub-entry-fault : (t : ℕ) → walk-entry-lts.Need-sub-entry-fault (walk-entry-calls t) (walk-entry-at t) walk-entry.Post
 walk-entry-sub-entry-fault t c =
@@ -325,14 +382,17 @@ walk-entry-entry-fault-requires t c κs =
 
 walk-entry-returns : (t : ℕ) → walk-entry-lts.Need-returns (walk-entry-calls t) (walk-entry-at t) walk-entry.Post
 walk-entry-returns t c =
-    let start = c .before .before .before .before .before in
+    let at-entry-fault = c .before in
+    let start = at-entry-fault .before .before .before .before in
     λ claimed seen h m.
     let a = start .args in
-    entry-refused (a .g) (viewOf (a .g) (a .image .now)) (a .levels) (a .parent .name) (a .parent .start) claimed (a .page) seen (a .e) _ (c .before .entry-fault .ensures seen m (a .page)) (c .if1 .taken)
+    entry-refused (a .g) (viewOf (a .g) (a .image .now)) (a .levels) (a .parent .name) (a .parent .start) claimed (a .page) seen (a .e) _
+    (at-entry-fault .entry-fault .ensures seen m (a .page)) (c .if1 .taken)
 
 walk-entry-walk-file-requires : (t : ℕ) → walk-entry-lts.Need-walk-file-requires (walk-entry-calls t) (walk-entry-at t) walk-entry.Post
 walk-entry-walk-file-requires t c κs =
     let at-slice-known = c .before .before .before .before .before .before in
+    let at-slice-known = at-slice-known in
     let start = at-slice-known .before .before in
     let s = start .pre .1 in (s .0, (s .1 .0, s .1 .2))
 
@@ -365,6 +425,7 @@ walk-entry-returns-3 t c =
 walk-entry-add-owner : (t : ℕ) → walk-entry-lts.Need-add-owner (walk-entry-calls t) (walk-entry-at t) walk-entry.Post
 walk-entry-add-owner t c =
     let at-entry-fault = c .before .before .before .before .before .before in
+    let at-entry-fault = at-entry-fault in
     let start = at-entry-fault .before .before .before .before in
     let s = start .pre .1 in
     let k = totals-fit _ _ _ (s .1 .2) (s .1 .0) (s .0 .valid .few) in
@@ -373,6 +434,7 @@ walk-entry-add-owner t c =
 walk-entry-add-owner-2 : (t : ℕ) → walk-entry-lts.Need-add-owner-2 (walk-entry-calls t) (walk-entry-at t) walk-entry.Post
 walk-entry-add-owner-2 t c =
     let at-entry-fault = c .before .before .before .before .before .before in
+    let at-entry-fault = at-entry-fault in
     let start = at-entry-fault .before .before .before .before in
     let s = start .pre .1 in
     let k = totals-fit _ _ _ (s .1 .2) (s .1 .0) (s .0 .valid .few) in
@@ -381,6 +443,7 @@ walk-entry-add-owner-2 t c =
 walk-entry-add-walk-directory : (t : ℕ) → walk-entry-lts.Need-add-walk-directory (walk-entry-calls t) (walk-entry-at t) walk-entry.Post
 walk-entry-add-walk-directory t c =
     let at-if1 = c .before .before .before .before .before .before in
+    let at-if1 = at-if1 in
     let start = at-if1 .before .before .before .before .before in
     let s = start .pre .1 in
     let k = totals-fit _ _ _ (s .1 .2) (s .1 .0) (s .0 .valid .few) in
@@ -396,6 +459,7 @@ walk-entry-sub-walk-directory t c =
 walk-entry-walk-directory-requires : (t : ℕ) → walk-entry-lts.Need-walk-directory-requires (walk-entry-calls t) (walk-entry-at t) walk-entry.Post
 walk-entry-walk-directory-requires t c κs =
     let at-if3 = c .before .before .before in
+    let at-if3 = at-if3 in
     let at-below-fault = at-if3 .before in
     let at-slice-known = at-below-fault .before .before .before .before .before .before in
     let start = at-slice-known .before .before in

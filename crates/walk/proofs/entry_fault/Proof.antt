@@ -7,10 +7,22 @@ returns : tie.Need-returns
 returns c = λ seen m p. first-label p seen _ _ (c .before .label-fault .ensures p) (c .if1 .taken)
 
 returns-2 : tie.Need-returns-2
-returns-2 c = λ seen m p. first-met p seen _ _ (c .before .before .before .before .label-fault .ensures p) (c .before .before .before .if1 .left) _ (met-before _ _ _ _ _ _ seen _ (c .before .before .key-of .ensures) (c .before .is-repeated .ensures) m) (c .if2 .taken)
+returns-2 c =
+    let at-is-repeated = c .before in
+    let at-key-of = at-is-repeated .before in
+    let at-if1 = at-key-of .before in
+    let at-label-fault = at-if1 .before in
+    λ seen m p. first-met p seen _ _ (at-label-fault .label-fault .ensures p) (at-if1 .if1 .left) _
+    (met-before _ _ _ _ _ _ seen _ (at-key-of .key-of .ensures) (at-is-repeated .is-repeated .ensures) m) (c .if2 .taken)
 
 returns-3 : tie.Need-returns-3
-returns-3 c = λ seen m p. first-new p seen _ _ (c .before .before .before .before .label-fault .ensures p) (c .before .before .before .if1 .left) _ (met-before _ _ _ _ _ _ seen _ (c .before .before .key-of .ensures) (c .before .is-repeated .ensures) m) (c .if2 .left)
+returns-3 c =
+    let at-is-repeated = c .before in
+    let at-key-of = at-is-repeated .before in
+    let at-if1 = at-key-of .before in
+    let at-label-fault = at-if1 .before in
+    λ seen m p. first-new p seen _ _ (at-label-fault .label-fault .ensures p) (at-if1 .if1 .left) _
+    (met-before _ _ _ _ _ _ seen _ (at-key-of .key-of .ensures) (at-is-repeated .is-repeated .ensures) m) (c .if2 .left)
 
 pub entry-fault-spec : {M : Type 1} → statement M
 entry-fault-spec =

@@ -9,24 +9,43 @@ step-requires c κs = (c .before .pre .0, (c .before .pre .1, λ z. absurd (math
 
 page-of-requires : tie.Need-page-of-requires
 page-of-requires c κs =
-    let k = taken _ _ _ _ _ (sym (c .before .size .given .1) ∙ c .before .before .before .step .ensures) in
-    (c .before .before .before .before .before .pre .0, k .inside)
+    let at-size = c .before in
+    let at-step = at-size .before .before in
+    let start = at-step .before .before in
+    let k = taken _ _ _ _ _ (sym (at-size .size .given .1) ∙ at-step .step .ensures) in
+    (start .pre .0, k .inside)
 
 data-of-requires : tie.Need-data-of-requires
-data-of-requires c κs = reaches _ _ _ _ _ (sym (c .before .before .size .given .1) ∙ c .before .before .before .before .step .ensures) _ (c .page-of .ensures)
+data-of-requires c κs =
+    let at-size = c .before .before in
+    let at-step = at-size .before .before in
+    reaches _ _ _ _ _ (sym (at-size .size .given .1) ∙ at-step .step .ensures) _ (c .page-of .ensures)
 
 returns : tie.Need-returns
 returns c =
-    entered-fault _ _ _ _ _ (sym (c .before .before .before .before .before .size .given .1) ∙ c .before .before .before .before .before .before .before .step .ensures) _ (c .before .before .before .page-of .ensures) _ _ (c .before .before .data-of .ensures) _
-    (c .before .page-fault .ensures) (c .if1 .taken)
+    let at-page-fault = c .before in
+    let at-data-of = at-page-fault .before in
+    let at-page-of = at-data-of .before in
+    let at-size = at-page-of .before .before in
+    let at-step = at-size .before .before in
+    entered-fault _ _ _ _ _ (sym (at-size .size .given .1) ∙ at-step .step .ensures) _ (at-page-of .page-of .ensures) _ _ (at-data-of .data-of .ensures) _
+    (at-page-fault .page-fault .ensures) (c .if1 .taken)
 
 returns-2 : tie.Need-returns-2
-returns-2 c = enter-refused _ _ _ _ _ _ (sym (c .before .number .given .1) ∙ c .before .before .before .step .ensures)
+returns-2 c =
+    let at-number = c .before in
+    let at-step = at-number .before .before in
+    enter-refused _ _ _ _ _ _ (sym (at-number .number .given .1) ∙ at-step .step .ensures)
 
 returns-3 : tie.Need-returns-3
 returns-3 c =
-    entered-on _ _ _ _ _ (sym (c .before .before .before .before .before .size .given .1) ∙ c .before .before .before .before .before .before .before .step .ensures) _ (c .before .before .before .page-of .ensures) _ _ (c .before .before .data-of .ensures) _
-    (c .before .page-fault .ensures) (c .if1 .left)
+    let at-page-fault = c .before in
+    let at-data-of = at-page-fault .before in
+    let at-page-of = at-data-of .before in
+    let at-size = at-page-of .before .before in
+    let at-step = at-size .before .before in
+    entered-on _ _ _ _ _ (sym (at-size .size .given .1) ∙ at-step .step .ensures) _ (at-page-of .page-of .ensures) _ _ (at-data-of .data-of .ensures) _
+    (at-page-fault .page-fault .ensures) (c .if1 .left)
 
 pub enter-spec : {M : Type 1} → statement M
 enter-spec =

@@ -8,18 +8,31 @@ returns : tie.Need-returns
 returns c = step-far _ _ _ (c .if1 .taken)
 
 packet-at-requires : tie.Need-packet-at-requires
-packet-at-requires c κs = (c .before .before .before .pre .0, (c .if1 .left, c .before .before .before .pre .1 .1))
+packet-at-requires c κs =
+    let start = c .before .before .before in
+    (start .pre .0, (c .if1 .left, start .pre .1 .1))
 
 add-t12 : tie.Need-add-t12
 add-t12 c =
-    let l = data-small _ _ _ (c .before .before .before .before .before .before .before .before .before .pre .0) (c .before .before .before .before .before .before .if1 .left) _ (c .before .before .before .before .before .packet-at .ensures) _ _ (c .before .before .before .length .given .1) in
+    let at-length = c .before .before .before in
+    let at-packet-at = at-length .before .before in
+    let at-if1 = at-packet-at .before in
+    let start = at-if1 .before .before .before in
+    let l = data-small _ _ _ (start .pre .0) (at-if1 .if1 .left) _ (at-packet-at .packet-at .ensures) _ _ (at-length .length .given .1) in
     omega arith
 
 returns-2 : tie.Need-returns-2
-returns-2 c = step-bad _ _ _ (c .before .before .before .if1 .left) _ (c .before .before .packet-at .ensures) (c .enum-told .given .1)
+returns-2 c =
+    let at-packet-at = c .before .before in
+    let at-if1 = at-packet-at .before in
+    step-bad _ _ _ (at-if1 .if1 .left) _ (at-packet-at .packet-at .ensures) (c .enum-told .given .1)
 
 returns-3 : tie.Need-returns-3
-returns-3 c = step-page _ _ _ (c .before .before .before .before .before .before .if1 .left) _ (c .before .before .before .before .before .packet-at .ensures) _ _ (c .before .before .before .length .given .1)
+returns-3 c =
+    let at-length = c .before .before .before in
+    let at-packet-at = at-length .before .before in
+    let at-if1 = at-packet-at .before in
+    step-page _ _ _ (at-if1 .if1 .left) _ (at-packet-at .packet-at .ensures) _ _ (at-length .length .given .1)
 
 pub step-spec : {M : Type 1} → statement M
 step-spec =

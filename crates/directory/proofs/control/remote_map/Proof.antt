@@ -4,11 +4,18 @@ use Rattle.directory.proofs.control.remote_map.Statement.{statement}
 use Rattle.directory.proofs.control.remote_map.Tie as tie
 
 returns : tie.Need-returns
-returns c = no-place _ _ (c .before .before .before .pre .0) (c .before .before .before .pre .1) _ (c .before .number-at .ensures .0) (c .if1 .taken)
+returns c =
+    let at-number-at = c .before in
+    let start = at-number-at .before .before in
+    no-place _ _ (start .pre .0) (start .pre .1) _ (at-number-at .number-at .ensures .0) (c .if1 .taken)
 
 returns-2 : tie.Need-returns-2
 returns-2 c =
-    a-place _ _ (c .before .before .before .before .before .pre .0) (c .before .before .before .before .before .pre .1) _ (c .before .before .before .number-at .ensures .0) (c .before .before .if1 .left) _ _ (c .before .number-at2 .ensures .0) (c .number-at3 .ensures .0)
+    let at-number-at2 = c .before in
+    let at-if1 = at-number-at2 .before in
+    let at-number-at = at-if1 .before in
+    let start = at-number-at .before .before in
+    a-place _ _ (start .pre .0) (start .pre .1) _ (at-number-at .number-at .ensures .0) (at-if1 .if1 .left) _ _ (at-number-at2 .number-at2 .ensures .0) (c .number-at3 .ensures .0)
 
 pub remote-map-spec : {M : Type 1} → statement M
 remote-map-spec =

@@ -6,8 +6,15 @@ use Rattle.directory.proofs.entries.entry_at.Tie as tie
 
 returns : tie.Need-returns
 returns c =
-    let a = c .before .before .before .before .before .args in
-    (entry-is (a .at) (a .n) _ _ _ _ (a .bytes .now) (c .before .before .before .number-at .ensures .0) refl (c .before .number-at2 .ensures .0) (c .number-at3 .ensures .0), narrow _ (a .n) (c .before .before .before .before .before .pre .1) (c .before .number-at2 .ensures .1), narrow _ (a .n) (c .before .before .before .before .before .pre .1) (c .number-at3 .ensures .1))
+    let at-number-at2 = c .before in
+    let at-number-at = at-number-at2 .before .before in
+    let start = at-number-at .before .before in
+    let a = start .args in (
+      entry-is (a .at) (a .n) _ _ _ _ (a .bytes .now) (at-number-at .number-at .ensures .0) refl (at-number-at2 .number-at2 .ensures .0) (c .number-at3 .ensures .0),
+      narrow _
+          (a .n) (start .pre .1) (at-number-at2 .number-at2 .ensures .1),
+      narrow _ (a .n) (start .pre .1) (c .number-at3 .ensures .1),
+    )
 
 pub entry-at-spec : {M : Type 1} → statement M
 entry-at-spec =

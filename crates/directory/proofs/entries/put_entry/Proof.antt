@@ -5,7 +5,14 @@ use Rattle.directory.proofs.entries.put_entry.Statement.{statement}
 use Rattle.directory.proofs.entries.put_entry.Tie as tie
 
 returns : tie.Need-returns
-returns c = let s = c .before .before .before .before .before .before .before .before .before .before .before .before .before .before .before .before .before .before .before in entry-filled (s .args .e) _ _ _ _ _ _ (s .pre) (omega arith) (c .before .before .before .before .before .before .before .before .before .before .before .before .before .before .before .put-number .ensures) (c .before .before .before .before .before .before .before .before .before .before .put-number2 .ensures) (c .before .before .before .before .before .before .put-number3 .ensures) (c .before .before .put-number4 .ensures)
+returns c =
+    let at-put-number4 = c .before .before in
+    let at-put-number3 = at-put-number4 .before .before .before .before in
+    let at-put-number2 = at-put-number3 .before .before .before .before in
+    let at-put-number = at-put-number2 .before .before .before .before .before in
+    let start = at-put-number .before .before .before .before in
+    let s = start in entry-filled (s .args .e) _ _ _ _ _ _ (s .pre) (omega arith) (at-put-number .put-number .ensures) (at-put-number2 .put-number2 .ensures)
+    (at-put-number3 .put-number3 .ensures) (at-put-number4 .put-number4 .ensures)
 
 pub put-entry-spec : {M : Type 1} → statement M
 put-entry-spec =

@@ -17,10 +17,18 @@ loop-holds c = refl
 
 returns : tie.Need-returns Inv-loop μ-loop
 returns c =
-    c .all-blank .ensures ∙ sym (c .before .before .before .before .loop .inv ∙ tail-blank _ _ (c .before .before .before .loop-test .taken) _ (c .before .before .name-byte .ensures) (c .before .if1 .taken))
+    let at-if1 = c .before in
+    let at-name-byte = at-if1 .before in
+    let at-loop-test = at-name-byte .before in
+    let at-loop = at-loop-test .before in
+    c .all-blank .ensures ∙ sym (at-loop .loop .inv ∙ tail-blank _ _ (at-loop-test .loop-test .taken) _ (at-name-byte .name-byte .ensures) (at-if1 .if1 .taken))
 
 loop-again : tie.Need-loop-again Inv-loop μ-loop
-loop-again c = c .before .before .before .loop .inv ∙ tail-more _ _ (c .before .before .loop-test .taken) _ (c .before .name-byte .ensures) (c .if1 .left)
+loop-again c =
+    let at-name-byte = c .before in
+    let at-loop-test = at-name-byte .before in
+    let at-loop = at-loop-test .before in
+    at-loop .loop .inv ∙ tail-more _ _ (at-loop-test .loop-test .taken) _ (at-name-byte .name-byte .ensures) (c .if1 .left)
 
 returns-2 : tie.Need-returns-2 Inv-loop μ-loop
 returns-2 c = tail-end _ _ (c .loop-test .left) ∙ sym (c .before .loop .inv)

@@ -7,18 +7,26 @@ use Rattle.chain.proofs.Following.{never-refused}
 
 returns : tie.Need-returns
 returns c =
-    let s = c .before .before .before .before .pre .1 in
-    absurd (never-refused _ _ _ (s .1) (s .2) _ _ (sym (c .enum-told .given .1) ∙ c .before .before .step .ensures))
+    let at-step = c .before .before in
+    let start = at-step .before .before in
+    let s = start .pre .1 in
+    absurd (never-refused _ _ _ (s .1) (s .2) _ _ (sym (c .enum-told .given .1) ∙ at-step .step .ensures))
 
 returns-2 : tie.Need-returns-2
 returns-2 c =
-    let s = c .before .before .before .before .before .before .before .pre .1 in
-    open-is _ _ _ (s .1) _ _ _ _ (sym (c .before .before .before .size .given .1) ∙ c .before .before .before .before .before .step .ensures) (c .entries-in .ensures)
+    let at-size = c .before .before .before in
+    let at-step = at-size .before .before in
+    let start = at-step .before .before in
+    let s = start .pre .1 in
+    open-is _ _ _ (s .1) _ _ _ _ (sym (at-size .size .given .1) ∙ at-step .step .ensures) (c .entries-in .ensures)
 
 returns-3 : tie.Need-returns-3
 returns-3 c =
-    let s = c .before .before .before .before .before .before .pre .1 in
-    open-is _ _ _ (s .1) _ _ _ _ (sym (c .before .before .size .given .1) ∙ c .before .before .before .before .step .ensures) (none-left _ _ _ (c .if1 .left))
+    let at-size = c .before .before in
+    let at-step = at-size .before .before in
+    let start = at-step .before .before in
+    let s = start .pre .1 in
+    open-is _ _ _ (s .1) _ _ _ _ (sym (at-size .size .given .1) ∙ at-step .step .ensures) (none-left _ _ _ (c .if1 .left))
 
 pub begin-spec : {M : Type 1} → statement M
 begin-spec =

@@ -20,12 +20,17 @@ add-at-2 c =
 
 read-entry-requires : tie.Need-read-entry-requires
 read-entry-requires c κs =
-    let s = c .before .before .before .before .before .pre in
-    (s .0 .valid .one, s .0 .valid .two, entry-reads _ _ _ _ _ (c .before .before .entry-size .ensures .0) (c .page-of .ensures) (s .0) (s .1 .0) (s .1 .1))
+    let at-entry-size = c .before .before in
+    let start = at-entry-size .before .before .before in
+    let s = start .pre in
+    (s .0 .valid .one, s .0 .valid .two, entry-reads _ _ _ _ _ (at-entry-size .entry-size .ensures .0) (c .page-of .ensures) (s .0) (s .1 .0) (s .1 .1))
 
 returns : tie.Need-returns
 returns c =
-    (c .read-entry .ensures .0 ∙ entry-from _ (c .before .before .before .before .before .before .args .self) _ _ _ (c .before .before .before .entry-size .ensures .0) (c .before .page-of .ensures), c .read-entry .ensures .1, c .read-entry .ensures .2)
+    let at-page-of = c .before in
+    let at-entry-size = at-page-of .before .before in
+    let start = at-entry-size .before .before .before in
+    (c .read-entry .ensures .0 ∙ entry-from _ (start .args .self) _ _ _ (at-entry-size .entry-size .ensures .0) (at-page-of .page-of .ensures), c .read-entry .ensures .1, c .read-entry .ensures .2)
 
 pub entry-spec : {M : Type 1} → statement M
 entry-spec =

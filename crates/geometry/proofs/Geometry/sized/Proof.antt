@@ -15,10 +15,18 @@ returns-2 : tie.Need-returns-2
 returns-2 c = let p = c .before .before .pre in short-table _ _ _ _ (p .0) (p .1) (p .2) (p .3) (c .before .if1 .left) (c .if2 .taken)
 
 returns-3 : tie.Need-returns-3
-returns-3 c = let p = c .before .before .before .pre in fitting _ _ _ _ (p .0) (p .1) (p .2) (p .3) (c .before .before .if1 .left) _ (c .before .if2 .left) (narrow _ (c .if3 .taken))
+returns-3 c =
+    let at-if2 = c .before in
+    let at-if1 = at-if2 .before in
+    let start = at-if1 .before in
+    let p = start .pre in fitting _ _ _ _ (p .0) (p .1) (p .2) (p .3) (at-if1 .if1 .left) _ (at-if2 .if2 .left) (narrow _ (c .if3 .taken))
 
 returns-4 : tie.Need-returns-4
-returns-4 c = let p = c .before .before .before .pre in fitting _ _ _ _ (p .0) (p .1) (p .2) (p .3) (c .before .before .if1 .left) _ (c .before .if2 .left) (broad _ (c .if3 .left))
+returns-4 c =
+    let at-if2 = c .before in
+    let at-if1 = at-if2 .before in
+    let start = at-if1 .before in
+    let p = start .pre in fitting _ _ _ _ (p .0) (p .1) (p .2) (p .3) (at-if1 .if1 .left) _ (at-if2 .if2 .left) (broad _ (c .if3 .left))
 
 pub sized-spec : {M : Type 1} → statement M
 sized-spec =
