@@ -10,29 +10,29 @@ use lib.Seq.{length-take-le, drop-append-le}
 use borrow.Author.Tests.{leb-true, leb-false, le-leb, lt-leb}
 use Rattle.geometry.specs.declared.Geometry.{Geometry}
 use Rattle.geometry.specs.declared.Shape.{Shape}
-use Rattle.geometry.specs.declared.Shape.the-variants.{Fits, Wrong}
+use Rattle.geometry.specs.declared.Shape.the-variants.{Fits, Invalid}
 use Rattle.geometry.specs.Geometry.{right, geometryOf}
 use Rattle.geometry.specs.ShapeLaws.{sized-of}
-use Rattle.packet.specs.Packet.{viewOf}
 use Rattle.rules.specs.declared.Totals.{Totals}
 use Rattle.rules.specs.declared.Line.{Line}
 use Rattle.rules.specs.Result.{Res, ok, err, andThen}
+use Rattle.rules.specs.Chain.{viewsOf}
 use Rattle.rules.specs.Tree.{Image}
 use Rattle.rules.specs.Check.{check}
 use Rattle.rules.specs.Owners.{totals, owners, tableAfter}
 use Rattle.rules.specs.Listing.{linesOf, lineAt}
 use Rattle.rules.specs.Calls.{readBytes, lengthOf, filled, inGeometry, asked, done, changed, checkCall, listCall, readCall, formatCall, putCall, deleteCall}
-use Rattle.rules.specs.CallLaws.{asked-fits, asked-wrong}
+use Rattle.rules.specs.CallLaws.{asked-fits, asked-invalid}
 use Rattle.rules.specs.Format.{format}
 use Rattle.rules.specs.Put.{put}
 use Rattle.rules.specs.Delete.{delete}
-use Rattle.table.specs.Table.{numbersOf, bytesWith}
-use Rattle.table.specs.TableLaws.{AreBytes, length-numbers, stored-front}
+use Rattle.owners.specs.TableBytes.{numbersOf, bytesWith}
+use Rattle.owners.specs.TableLaws.{AreBytes, length-numbers, stored-front}
 use Rattle.answers.specs.declared.OwfsTotals.{OwfsTotals}
 use Rattle.answers.specs.declared.OwfsEntry.{OwfsEntry}
 use Rattle.answers.specs.declared.OwfsLength.{OwfsLength}
 use Rattle.answers.specs.declared.OwfsAnswer.{OwfsAnswer}
-use Rattle.answers.specs.Answers.{totalsFor, entryFor, lengthFor, answerFor, asksLocal, checkAnswer, listAnswer, readAnswer, formatAnswer, putAnswer, deleteAnswer}
+use Rattle.answers.specs.ExportedAnswers.{totalsFor, entryFor, lengthFor, answerFor, asksLocal, checkAnswer, listAnswer, readAnswer, formatAnswer, putAnswer, deleteAnswer}
 
 room-same : (N n k : ℕ) → N ≤ 65535 → n ≡ min k 65535 → leb N n ≡ leb N k
 room-same N n k h e = go (leb N k) refl
@@ -74,14 +74,14 @@ module _ (P N : ℕ) (image t : List ℕ) (n : ℕ) (en : n ≡ min (length t) 6
   asked-front {A = A} question = go (geometryOf P N (length image) (length t)) refl
     where
       go : (s : Shape) → geometryOf P N (length image) (length t) ≡ s → asked P N image t question ≡ (asked P N image (take n t) question .0, asked P N image (take n t) question .1 ++ drop n t)
-      go Wrong e =
-          let k = asked-wrong P N image (take n t) (same ∙ e) question in
-          asked-wrong P N image t e question ∙ ap (λ (l : List ℕ). (err 1 0, l)) (sym (take-append-drop n t)) ∙ sym (ap (λ (x : Res A × List ℕ). (x .0, x .1 ++ drop n t)) k)
+      go Invalid e =
+          let k = asked-invalid P N image (take n t) (same ∙ e) question in
+          asked-invalid P N image t e question ∙ ap (λ (l : List ℕ). (err 1 0, l)) (sym (take-append-drop n t)) ∙ sym (ap (λ (x : Res A × List ℕ). (x .0, x .1 ++ drop n t)) k)
       go (Fits g) e =
           let z = sized-of P N (length image) (length (take n t)) g (same ∙ e) in
           let k = asked-fits P N image (take n t) g (same ∙ e) question in
           asked-fits P N image t g e question
-          ∙ ap (λ (l : List ℕ). (andThen (check g (viewOf g image)) question, l)) (table-front (g .pages) n (check g (viewOf g image)) t (omega (arith, z .room, front-length)) room)
+          ∙ ap (λ (l : List ℕ). (andThen (check g (viewsOf g image)) question, l)) (table-front (g .pages) n (check g (viewsOf g image)) t (omega (arith, z .room, front-length)) room)
           ∙ sym (ap (λ (x : Res A × List ℕ). (x .0, x .1 ++ drop n t)) k)
 
   -- and so is an edit
@@ -93,14 +93,14 @@ module _ (P N : ℕ) (image t : List ℕ) (n : ℕ) (en : n ≡ min (length t) 6
   withRest x = (x .0, x .1, x .2 ++ drop n t)
 
   done-front : (g : Geometry) (r : Res (List ℕ)) → g .pages ≤ n → done P N image t g r ≡ withRest (done P N image (take n t) g r)
-  done-front g (ok after) h = ap (λ (l : List ℕ). (ok tt, after, l)) (table-front (g .pages) n (check g (viewOf g after)) t h room)
-  done-front g (err a p) h = ap (λ (l : List ℕ). (err a p, image, l)) (table-front (g .pages) n (check g (viewOf g image)) t h room)
+  done-front g (ok after) h = ap (λ (l : List ℕ). (ok tt, after, l)) (table-front (g .pages) n (check g (viewsOf g after)) t h room)
+  done-front g (err a p) h = ap (λ (l : List ℕ). (err a p, image, l)) (table-front (g .pages) n (check g (viewsOf g image)) t h room)
 
   pub changed-front : (edit : Geometry → Res (List ℕ)) → changed P N image t edit ≡ withRest (changed P N image (take n t) edit)
   changed-front edit = go (geometryOf P N (length image) (length t)) refl
     where
       go : (s : Shape) → geometryOf P N (length image) (length t) ≡ s → changed P N image t edit ≡ withRest (changed P N image (take n t) edit)
-      go Wrong e = changed-at t edit Wrong e ∙ ap (λ (l : List ℕ). (err 1 0, image, l)) (sym (take-append-drop n t)) ∙ sym (ap withRest (changed-at (take n t) edit Wrong (same ∙ e)))
+      go Invalid e = changed-at t edit Invalid e ∙ ap (λ (l : List ℕ). (err 1 0, image, l)) (sym (take-append-drop n t)) ∙ sym (ap withRest (changed-at (take n t) edit Invalid (same ∙ e)))
       go (Fits g) e =
           let z = sized-of P N (length image) (length (take n t)) g (same ∙ e) in
           changed-at t edit (Fits g) e ∙ done-front g (edit g) (omega (arith, z .room, front-length)) ∙ sym (ap withRest (changed-at (take n t) edit (Fits g) (same ∙ e)))

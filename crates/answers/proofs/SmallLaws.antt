@@ -7,7 +7,7 @@ use native.Mathlib.Omega.{arith}
 use lib.ListN.{length, length-append}
 use Rattle.geometry.specs.declared.Geometry.{Geometry}
 use Rattle.geometry.specs.declared.Shape.{Shape}
-use Rattle.geometry.specs.declared.Shape.the-variants.{Fits, Wrong}
+use Rattle.geometry.specs.declared.Shape.the-variants.{Fits, Invalid}
 use Rattle.geometry.specs.Geometry.{geometryOf, Fit}
 use Rattle.geometry.specs.ShapeLaws.{fit-of}
 use Rattle.packet.specs.Packet.{View, viewOf}
@@ -16,65 +16,67 @@ use Rattle.rules.specs.declared.Line.{Line}
 use Rattle.rules.specs.Result.{Res, ok, err, andThen}
 use Rattle.rules.specs.ResultLaws.{clash, ok-inj, on-then, on-refuse}
 use Rattle.rules.specs.PageSetLaws.{within-length}
-use Rattle.rules.specs.Chain.{Link, link, first, content, linked}
-use Rattle.rules.specs.WellFormed.{Stand, Under}
+use Rattle.rules.specs.Chain.{Views, viewsOf, Link, link, first, content, linked}
+use Rattle.rules.specs.WellFormed.{HasPackets, Under}
 use Rattle.rules.specs.Tree.{Items, end, page, file, dir, startOf, Image, used}
-use Rattle.rules.specs.Control.{theRoot}
 use Rattle.rules.specs.Check.{check}
 use Rattle.rules.specs.Soundness.{check-sound}
 use Rattle.rules.specs.Owners.{totals}
 use Rattle.rules.specs.Listing.{linesOf, lineAt}
-use Rattle.rules.specs.Paths.{fileKey, Found, nothing, aFile, aDirectory, find, atRoot}
+use Rattle.rules.specs.Paths.{fileKey, Found, nothing, aFile, aDirectory, find, rootPlace}
 use Rattle.rules.specs.TargetLaws.{reached}
 use Rattle.rules.specs.Calls.{bytesOf, fileAt, readBytes, lengthOf, asked, inGeometry, shape, done, changed, checkCall, listCall, readCall, formatCall, putCall, deleteCall}
 use Rattle.rules.specs.RefusalLaws.{Refuses}
 use Rattle.rules.specs.FuelLaws.{check-faults}
-use Rattle.rules.specs.CallLaws.{asked-fits, asked-wrong, read-faults}
+use Rattle.rules.specs.CallLaws.{asked-fits, asked-invalid, read-faults}
 use Rattle.rules.specs.Format.{format}
 use Rattle.rules.specs.Put.{put}
 use Rattle.rules.specs.Delete.{delete}
-use Rattle.chain.specs.KnownChain.{ChainStands}
+use Rattle.chain.specs.KnownChain.{ChainAt}
 use Rattle.chain.proofs.Following.{first-stands, small-view}
-use Rattle.listing.specs.Standing.{Below}
+use Rattle.listing.specs.KnownTree.{Below}
 use Rattle.listing.proofs.Accepting.{accepted-stands}
-use Rattle.lookup.proofs.Resolving.{FoundStands, find-stands, place-below}
+use Rattle.lookup.proofs.Resolving.{FoundAt, find-stands, place-below}
 use Rattle.answers.proofs.EditFaults.{some-pages, EditFaults, format-told, delete-told, put-told}
 use Rattle.answers.specs.Small.{Small, TotalsSmall, LineSmall, LengthSmall, DoneSmall}
 
 -- an answer is small if it is for every accepted image
 module _ {A : Type 0} (P N : ℕ) (image t : List ℕ) (few : A → Type 0) (question : Image → Res A)
-    (h : (g : Geometry) → Fit g image → (i : Image) → check g (viewOf g image) ≡ ok i → Small few (question i)) where
+    (h : (g : Geometry) → Fit g image → (i : Image) → check g (viewsOf g image) ≡ ok i → Small few (question i)) where
   pub small-asked : Small few (asked P N image t question .0)
   small-asked = go (geometryOf P N (length image) (length t)) refl
     where
-      one : (g : Geometry) → Fit g image → (r : Res Image) → check g (viewOf g image) ≡ r → Small few (andThen r question)
+      one : (g : Geometry) → Fit g image → (r : Res Image) → check g (viewsOf g image) ≡ r → Small few (andThen r question)
       one g f (ok i) e = unfold andThen in h g f i e
-      one g f (err n p) e = unfold andThen in omega (arith, check-faults g (viewOf g image) (some-pages f) .page n p e, f .valid .few)
+      one g f (err n p) e = unfold andThen in omega (arith, check-faults g (viewsOf g image) (some-pages f) .page n p e, f .valid .few)
 
       go : (s : Shape) → geometryOf P N (length image) (length t) ≡ s → Small few (asked P N image t question .0)
-      go Wrong e = subst (λ (x : Res A × List ℕ). Small few (x .0)) (sym (asked-wrong P N image t e question)) (omega arith)
-      go (Fits g) e = subst (λ (x : Res A × List ℕ). Small few (x .0)) (sym (asked-fits P N image t g e question)) (one g (fit-of P N image t g e) (check g (viewOf g image)) refl)
+      go Invalid e = subst (λ (x : Res A × List ℕ). Small few (x .0)) (sym (asked-invalid P N image t e question)) (omega arith)
+      go (Fits g) e = subst (λ (x : Res A × List ℕ). Small few (x .0)) (sym (asked-fits P N image t g e question)) (one g (fit-of P N image t g e) (check g (viewsOf g image)) refl)
 
 -- ---- of an accepted image
 module _ (g : Geometry) (image : List ℕ) (fit : Fit g image) where
   abbrev v : View
   v = viewOf g image
 
-  totals-small : (i : Image) → check g v ≡ ok i → TotalsSmall (totals i)
+  abbrev vs : Views
+  vs = viewsOf g image
+
+  totals-small : (i : Image) → check g vs ≡ ok i → TotalsSmall (totals i)
   totals-small i e =
-      let c = check-sound g v i e in
+      let c = check-sound g vs i e in
       let l = within-length (g .pages) (used i) (c .clear) in
       (omega (arith, l, fit .valid .few), omega (arith, l, fit .valid .few, c .room), omega (arith, l, fit .valid .few, c .room))
 
-  content-few : (ls : List Link) → Stand v (linked ls) → length (content ls) ≤ 255 * length ls
+  content-few : (ls : List Link) → HasPackets v (linked ls) → length (content ls) ≤ 255 * length ls
   content-few [] s = omega arith
   content-few (link p b ∷ ls) s = omega (arith, length-append b (content ls), small-view g image fit p b (first ls) (s .0), content-few ls (s .1))
 
-  chain-small : (start : ℕ) (ls : List Link) → ChainStands g v start ls → (start < 65536) × (length ls < 65536) × (length (content ls) < 16777216)
+  chain-small : (start : ℕ) (ls : List Link) → ChainAt g v start ls → (start < 65536) × (length ls < 65536) × (length (content ls) < 16777216)
   chain-small start ls d = (
     omega (arith, first-stands g v start ls d .0, fit .valid .few),
     omega (arith, d .few, fit .valid .few),
-    omega (arith, content-few ls (d .stand), d .few, fit .valid .few),
+    omega (arith, content-few ls (d .packets), d .few, fit .valid .few),
   )
 
   -- every line
@@ -86,7 +88,7 @@ module _ (g : Geometry) (image : List ℕ) (fit : Fit g image) where
   both-small [] ys h k = k
   both-small (x ∷ xs) ys h k = (h .0, both-small xs ys (h .1) k)
 
-  lines-small : (t : Items) (levels level : ℕ) → level + levels ≤ 8 → Below g v levels t → LinesSmall (linesOf level t)
+  lines-small : (t : Items) (levels level : ℕ) → level + levels ≤ 8 → Below g vs levels t → LinesSmall (linesOf level t)
   lines-small end levels level h b = tt
   lines-small (page p t) levels level h b = lines-small t levels level h b
   lines-small (file l ls t) levels level h b = let k = chain-small (first ls) ls (b .0) in ((omega arith, k .0, k .1, k .2), lines-small t levels level h (b .2))
@@ -94,7 +96,7 @@ module _ (g : Geometry) (image : List ℕ) (fit : Fit g image) where
       let k = chain-small (startOf d) (b .0 .links) (b .0 .chain) in
       ((omega arith, k .0, omega arith, omega arith), both-small (linesOf (suc level) d) (linesOf level t) (under levels h (b .2) (λ n h u. lines-small d n (suc level) h u)) (lines-small t levels level h (b .3)))
     where
-      under : (n : ℕ) → level + n ≤ 8 → Under n (λ less. Below g v less d) → ((n : ℕ) → suc level + n ≤ 8 → Below g v n d → LinesSmall (linesOf (suc level) d)) → LinesSmall (linesOf (suc level) d)
+      under : (n : ℕ) → level + n ≤ 8 → Under n (λ less. Below g vs less d) → ((n : ℕ) → suc level + n ≤ 8 → Below g vs n d → LinesSmall (linesOf (suc level) d)) → LinesSmall (linesOf (suc level) d)
       under zero h u k = absurd u
       under (suc n) h u k = k n (omega arith) u
 
@@ -105,15 +107,15 @@ module _ (g : Geometry) (image : List ℕ) (fit : Fit g image) where
   line-small (suc k) (x ∷ xs) h = line-small k xs (h .1)
 
   -- the file at a path
-  file-small : (path : List ℕ) (i : Image) → check g v ≡ ok i → (bytes : List ℕ) → fileAt path i ≡ ok bytes → length bytes < 16777216
+  file-small : (path : List ℕ) (i : Image) → check g vs ≡ ok i → (bytes : List ℕ) → fileAt path i ≡ ok bytes → length bytes < 16777216
   unfolding fileAt
   file-small path i a bytes e = on-then _ _ _ e λ x w e.
       let r = reached path (i .tree) x w in
-      let b = place-below g v (x .to .directories) atRoot theRoot (i .tree) 8 (accepted-stands g v i a .below) (x .place) (r .there) in
+      let b = place-below g vs (x .to .directories) (rootPlace (i .tree)) 8 (accepted-stands g vs i a .below) (x .place) (r .there) in
       let k = fileKey (x .to) in
-      go (b .0) k (find k (x .place .items)) (find-stands g v (b .0) k (x .place .items) (b .1)) e
+      go (b .0) k (find k (x .place .items)) (find-stands g vs (b .0) k (x .place .items) (b .1)) e
     where
-      go : (n k : ℕ) (f : Found) → FoundStands g v n k f → bytesOf f ≡ ok bytes → length bytes < 16777216
+      go : (n k : ℕ) (f : Found) → FoundAt g vs n k f → bytesOf f ≡ ok bytes → length bytes < 16777216
       go n k nothing s e = unfold bytesOf in clash e
       go n k (aFile l ls) s e = unfold bytesOf in subst (λ (x : List ℕ). length x < 16777216) (ok-inj e) (chain-small (first ls) ls (s .1) .2)
       go n k (aDirectory l d) s e = unfold bytesOf in clash e
@@ -136,7 +138,7 @@ module _ (P N : ℕ) (image t : List ℕ) where
   unfolding listCall
   list-small k q x e = subst (Small LineSmall) (sym (ap (λ (y : Res Line × List ℕ). y .0) e))
       (small-asked P N image t LineSmall (λ i. lineAt k (linesOf 0 (i .tree)))
-      (λ g f i a. line-small g image f k (linesOf 0 (i .tree)) (lines-small g image f (i .tree) 8 0 (omega arith) (accepted-stands g (viewOf g image) i a .below))))
+      (λ g f i a. line-small g image f k (linesOf 0 (i .tree)) (lines-small g image f (i .tree) 8 0 (omega arith) (accepted-stands g (viewsOf g image) i a .below))))
 
   pub read-small : (path out after : List ℕ) (q : Res ℕ) (x : List ℕ) → (q, after, x) ≡ readCall P N image t path out → Small LengthSmall q
   unfolding readCall
@@ -144,7 +146,7 @@ module _ (P N : ℕ) (image t : List ℕ) where
       (length-small (asked P N image t (readBytes path out) .0)
       (small-asked P N image t (λ bytes. length bytes < 16777216) (readBytes path out) (λ g f i a. small-of _ (readBytes path out i) 14 18 1 (omega arith) (read-faults path out i) (λ bytes z. read-file g f i a bytes z))))
     where
-      read-file : (g : Geometry) → Fit g image → (i : Image) → check g (viewOf g image) ≡ ok i → (bytes : List ℕ) → readBytes path out i ≡ ok bytes → length bytes < 16777216
+      read-file : (g : Geometry) → Fit g image → (i : Image) → check g (viewsOf g image) ≡ ok i → (bytes : List ℕ) → readBytes path out i ≡ ok bytes → length bytes < 16777216
       read-file g f i a bytes z = unfold readBytes in on-then _ _ _ z λ b w z. on-refuse _ _ _ _ _ z λ _ z. subst (λ (y : List ℕ). length y < 16777216) (ok-inj z) (file-small g image f path i a b w)
 
 -- ---- an edit
@@ -157,7 +159,7 @@ module _ (P N : ℕ) (image t : List ℕ) where
   small-changed edit h = go (shape P N image t) refl
     where
       go : (s : Shape) → shape P N image t ≡ s → Small DoneSmall (inGeometry s (err 1 0, image, t) (λ g. done P N image t g (edit g)) .0)
-      go Wrong e = omega arith
+      go Invalid e = omega arith
       go (Fits g) e = let f = fit-of P N image t g e in done-small g (f .valid .few) (edit g) (h g f)
 
   pub format-small : (local : Bool) (q : Res (Unit {0})) (after x : List ℕ) → (q, after, x) ≡ formatCall P N image t local → Small DoneSmall q

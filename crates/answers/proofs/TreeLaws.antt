@@ -8,14 +8,14 @@ use lib.ListN.{length}
 use Rattle.geometry.specs.Number.{Bytes}
 use Rattle.geometry.specs.declared.Geometry.{Geometry}
 use Rattle.geometry.specs.declared.Shape.{Shape}
-use Rattle.geometry.specs.declared.Shape.the-variants.{Fits, Wrong}
+use Rattle.geometry.specs.declared.Shape.the-variants.{Fits, Invalid}
 use Rattle.geometry.specs.Geometry.{geometryOf, Fit}
 use Rattle.geometry.specs.ShapeLaws.{fit-of}
-use Rattle.packet.specs.Packet.{viewOf}
 use Rattle.rules.specs.declared.Totals.{Totals}
 use Rattle.rules.specs.declared.Line.{Line}
 use Rattle.rules.specs.Result.{Res, ok, err, andThen, IsOk}
 use Rattle.rules.specs.ResultLaws.{clash, on-refused}
+use Rattle.rules.specs.Chain.{viewsOf}
 use Rattle.rules.specs.RefusalLaws.{Refuses, refuses-ok, refuses-within, line-faults}
 use Rattle.rules.specs.FuelLaws.{check-faults}
 use Rattle.rules.specs.Tree.{Image}
@@ -26,18 +26,20 @@ use Rattle.rules.specs.Format.{format}
 use Rattle.rules.specs.Put.{put}
 use Rattle.rules.specs.Delete.{delete}
 use Rattle.rules.specs.Calls.{readBytes, lengthOf, filled, inGeometry, asked, done as doneCall, changed, checkCall, listCall, readCall, formatCall, putCall, deleteCall}
-use Rattle.rules.specs.CallLaws.{asked-fits, asked-wrong, read-faults}
+use Rattle.rules.specs.CallLaws.{asked-fits, asked-invalid, read-faults}
+use Rattle.rules.specs.Paths.{pathOf}
+use Rattle.rules.specs.Candidate.{NotReadOnly, PutFile}
 use Rattle.rules.specs.Promises.{Accepts, TellsTree, Formats, Deletes, Puts}
-use Rattle.reading.specs.CheckCall.{asked-tells, tells-said}
-use Rattle.editing.specs.Demand3.{demand-said}
-use Rattle.editing.specs.Promised.{format-stated, delete-stated, put-stated, leaves-said}
-use Rattle.table.specs.Table.{numbersOf}
+use Rattle.reading_theorems.specs.CheckCall.{asked-tells, tells-said}
+use Rattle.editing_theorems.specs.Demand3.{demand-said}
+use Rattle.editing_theorems.specs.Promised.{format-stated, delete-stated, put-stated, leaves-said}
+use Rattle.owners.specs.TableBytes.{numbersOf}
 use Rattle.answers.proofs.EditFaults.{some-pages, EditFaults, format-told, delete-told, put-told}
 use Rattle.answers.specs.declared.OwfsTotals.{OwfsTotals}
 use Rattle.answers.specs.declared.OwfsEntry.{OwfsEntry}
 use Rattle.answers.specs.declared.OwfsLength.{OwfsLength}
 use Rattle.answers.specs.declared.OwfsAnswer.{OwfsAnswer}
-use Rattle.answers.specs.Answers.{totalsFor, entryFor, lengthFor, answerFor, asksLocal, checkAnswer, listAnswer, readAnswer, formatAnswer, putAnswer, deleteAnswer}
+use Rattle.answers.specs.ExportedAnswers.{totalsFor, entryFor, lengthFor, answerFor, asksLocal, checkAnswer, listAnswer, readAnswer, formatAnswer, putAnswer, deleteAnswer}
 
 -- no refusal has the number 0
 module _ {A : Type 0} (P N : ℕ) (image t : List ℕ) (question : Image → Res A) (h : (i : Image) → Refuses 14 18 1 (question i)) where
@@ -45,10 +47,10 @@ module _ {A : Type 0} (P N : ℕ) (image t : List ℕ) (question : Image → Res
   asked-number n p k = go (geometryOf P N (length image) (length t)) refl
     where
       go : (s : Shape) → geometryOf P N (length image) (length t) ≡ s → 1 ≤ n
-      go Wrong e = let z : err 1 0 ≡ err n p = sym (ap (λ (x : Res A × List ℕ). x .0) (asked-wrong P N image t e question)) ∙ k in let i : 1 ≡ n = cc in omega arith
+      go Invalid e = let z : err 1 0 ≡ err n p = sym (ap (λ (x : Res A × List ℕ). x .0) (asked-invalid P N image t e question)) ∙ k in let i : 1 ≡ n = cc in omega arith
       go (Fits g) e =
-          let z : andThen (check g (viewOf g image)) question ≡ err n p = sym (ap (λ (x : Res A × List ℕ). x .0) (asked-fits P N image t g e question)) ∙ k in
-          on-refused _ _ _ _ z (λ c. omega (arith, check-faults g (viewOf g image) (some-pages (fit-of P N image t g e)) .number n p c .0)) (λ i _ c. omega (arith, h i .number n p c .0))
+          let z : andThen (check g (viewsOf g image)) question ≡ err n p = sym (ap (λ (x : Res A × List ℕ). x .0) (asked-fits P N image t g e question)) ∙ k in
+          on-refused _ _ _ _ z (λ c. omega (arith, check-faults g (viewsOf g image) (some-pages (fit-of P N image t g e)) .number n p c .0)) (λ i _ c. omega (arith, h i .number n p c .0))
 
   -- so an answer is there where the number told is 0
   pub done : (number : Res A → ℕ) → ((n p : ℕ) → number (err n p) ≡ n) → number (asked P N image t question .0) ≡ 0 → IsOk (asked P N image t question .0)
@@ -102,7 +104,7 @@ module _ (P N : ℕ) (image table : List ℕ) (edit : Geometry → Res (List ℕ
       left g f (err m o) q e = let i : m ≡ n = cc in omega (arith, h g f .number m o q .0)
 
       go : (s : Shape) → geometryOf P N (length image) (length table) ≡ s → inGeometry s (err 1 0, image, table) (λ g. doneCall P N image table g (edit g)) .0 ≡ err n p → 1 ≤ n
-      go Wrong q e = let i : 1 ≡ n = cc in omega arith
+      go Invalid q e = let i : 1 ≡ n = cc in omega arith
       go (Fits g) q e = left g (fit-of P N image table g q) (edit g) refl e
 
   module _ (r : OwfsAnswer) (told : r ≡ answerFor (call .0)) where
@@ -163,4 +165,4 @@ module _ (P N : ℕ) (image owners : List ℕ) (bytes : Bytes image) where
       let left : after ≡ changed P N image t f .1 = ap (λ (x : OwfsAnswer × List ℕ × List ℕ). x .1) e in
       let d = edit-done P N image t f h r told in
       let k = put-stated P N image t bytes path text pb db in
-      rw left (leaves-said d (k .0), demand-said P N image t path text d (edit-told P N image t f h r told 17 0 (omega arith)) (k .1))
+      rw left (leaves-said d (k .0), demand-said P N image t (pathOf path) NotReadOnly (PutFile text) d (edit-told P N image t f h r told 17 0 (omega arith)) (k .1))

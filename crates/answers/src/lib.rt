@@ -1,12 +1,11 @@
 // What the exported calls answer: plain numbers of 32 bits.
-use query::Length;
-use query::Listed;
-use volume::Edited;
-use walk::Walk;
+use rules::Checked;
+use rules::Edited;
+use rules::Length;
+use rules::Listed;
 ghost use mathlib.Core.Path.{_≡_};
-ghost use Rattle.volume.specs.Told.{told, editTold};
-ghost use Rattle.query.specs.Told.{lineTold, lengthTold};
-ghost use Rattle.answers.specs.Answers.{totalsFor, entryFor, lengthFor, answerFor};
+ghost use Rattle.rules.specs.Answers.{checkResult, editResult, lineResult, lengthResult};
+ghost use Rattle.answers.specs.ExportedAnswers.{totalsFor, entryFor, lengthFor, answerFor};
 ghost use Rattle.answers.specs.Small.{Small, TotalsSmall, LineSmall, LengthSmall, DoneSmall};
 
 // What check answers: 0 and the totals, or the number of a refusal and its page.
@@ -50,19 +49,19 @@ pub struct OwfsAnswer {
 }
 
 // An answer of the check as the caller sees it.
-pub fn tell(answer: Walk) -> OwfsTotals
-    requires { ⌜ Small TotalsSmall (told answer) ⌝ }
-    ensures { λ r. ⌜ r ≡ totalsFor (told answer) ⌝ }
+pub fn tell(answer: Checked) -> OwfsTotals
+    requires { ⌜ Small TotalsSmall (checkResult answer) ⌝ }
+    ensures { λ r. ⌜ r ≡ totalsFor (checkResult answer) ⌝ }
 {
     match answer {
-        Walk::Done(totals) => OwfsTotals {
+        Checked::Done(totals) => OwfsTotals {
             number: 0,
             page: 0,
             used: totals.used as u32,
             files: totals.files as u32,
             directories: totals.directories as u32,
         },
-        Walk::Refused(number, page) => OwfsTotals {
+        Checked::Refused(number, page) => OwfsTotals {
             number: number as u32,
             page: page as u32,
             used: 0,
@@ -74,8 +73,8 @@ pub fn tell(answer: Walk) -> OwfsTotals
 
 // An answer of listing as the caller sees it.
 pub fn tell_entry(answer: Listed) -> OwfsEntry
-    requires { ⌜ Small LineSmall (lineTold answer) ⌝ }
-    ensures { λ r. ⌜ r ≡ entryFor (lineTold answer) ⌝ }
+    requires { ⌜ Small LineSmall (lineResult answer) ⌝ }
+    ensures { λ r. ⌜ r ≡ entryFor (lineResult answer) ⌝ }
 {
     match answer {
         Listed::Entry(line) => OwfsEntry {
@@ -105,8 +104,8 @@ pub fn tell_entry(answer: Listed) -> OwfsEntry
 
 // An answer of reading as the caller sees it.
 pub fn tell_length(answer: Length) -> OwfsLength
-    requires { ⌜ Small LengthSmall (lengthTold answer) ⌝ }
-    ensures { λ r. ⌜ r ≡ lengthFor (lengthTold answer) ⌝ }
+    requires { ⌜ Small LengthSmall (lengthResult answer) ⌝ }
+    ensures { λ r. ⌜ r ≡ lengthFor (lengthResult answer) ⌝ }
 {
     match answer {
         Length::Done(length) => OwfsLength {
@@ -124,8 +123,8 @@ pub fn tell_length(answer: Length) -> OwfsLength
 
 // An answer of an edit as the caller sees it.
 pub fn tell_answer(answer: Edited) -> OwfsAnswer
-    requires { ⌜ Small DoneSmall (editTold answer) ⌝ }
-    ensures { λ r. ⌜ r ≡ answerFor (editTold answer) ⌝ }
+    requires { ⌜ Small DoneSmall (editResult answer) ⌝ }
+    ensures { λ r. ⌜ r ≡ answerFor (editResult answer) ⌝ }
 {
     match answer {
         Edited::Done => OwfsAnswer { number: 0, page: 0 },

@@ -6,7 +6,6 @@ use Prim.Native.Nat.{ℕ, zero, suc, _+_, _-_, _*_, _/_, _%_, _^_, _≤_, _<_}
 use native.Mathlib.Nat.{div-div-eq-div-mul, pow-succ'}
 use native.Mathlib.Omega.{arith}
 use native.Mathlib.Decide.{decLt}
-use lib.Dec.{ltb}
 use lib.ListN.{length, getD}
 use borrow.Author.Tests.{eq-eqb, ne-eqb}
 use Rattle.rules.specs.Result.{ok, err, refuse-unless}
@@ -15,7 +14,8 @@ use Rattle.rules.specs.PageSets.{bit, mem}
 use Rattle.rules.specs.PageSetLaws.{hits, same, other}
 use Rattle.rules.specs.Bitmap.{bitAt, lowestDifference}
 use Rattle.rules.specs.BitmapLaws.{lowest, agree-difference, bit-of}
-use Rattle.rules.specs.OwnerLaws.{Represents, nonzero, getD-past}
+use Rattle.owners.specs.Owned.{Represents, pageBit}
+use Rattle.owners.specs.BitLaws.{marks-none, bit-is as marked}
 use Rattle.rules.specs.Check.{judgeBits}
 use Rattle.bitmap.specs.declared.Bits.{Bits}
 use Rattle.bitmap.specs.declared.Bits.the-variants as bits
@@ -32,41 +32,26 @@ pub halved-all : (b value left k : ℕ) → value / 2 ^ left ≡ b / 2 ^ k → l
 halved-all b value zero k e h = let i : value / 2 ^ 0 ≡ value = omega arith in ap (λ (x : ℕ). x % 2) (sym i ∙ e)
 halved-all b value (suc left) k e h = absurd (omega arith)
 
--- ---- the bit that a page must have
-pub used-one : (n : ℕ) → (n ≡ 0 → ⊥) → 1 ≡ nonzero n
-used-one zero h = absurd (h refl)
-used-one (suc n) h = refl
-
-pub used-none : (n : ℕ) → n ≡ 0 → 0 ≡ nonzero n
-used-none n h = ap nonzero (sym h)
-
-pub used-past : (table : List ℕ) (k : ℕ) → length table ≤ k → 0 ≡ nonzero (getD table k 0)
-used-past table k h = used-none (getD table k 0) (getD-past table k h)
-
-used-bit : (table used : List ℕ) (j : ℕ) → Represents table used → bit (mem j used) ≡ nonzero (getD table j 0)
-used-bit table used j h = ap (λ (n : ℕ). bit (ltb 0 n)) (h j) ∙ go (getD table j 0)
-  where
-    go : (n : ℕ) → bit (ltb 0 (nonzero n)) ≡ nonzero n
-    go zero = refl
-    go (suc n) = refl
-
 -- ---- some bytes of a bitmap, after `at` others
 module _ (bytes : List ℕ) (at : ℕ) (table : List ℕ) where
   -- bit j of the bytes is right
   abbrev pub Right : ℕ → Type 0
-  Right j = getD bytes (j / 8) 0 / 2 ^ (j % 8) % 2 ≡ nonzero (getD table (8 * at + j) 0)
+  Right j = getD bytes (j / 8) 0 / 2 ^ (j % 8) % 2 ≡ pageBit table 0 (8 * at + j)
 
   pub right-on : (k : ℕ) → ((j : ℕ) → j < k → Right j) → Right k → (j : ℕ) → j < k + 1 → Right j
   right-on k h e j l = elim (hits j k) [ same i z ↦ rw i e | other i z ↦ h j (omega arith) ]
 
   module _ (raw used : List ℕ) (stands : (i : ℕ) → i < length bytes → getD raw (at + i) 0 ≡ getD bytes i 0) (r : Represents table used) where
+    used-bit : (j : ℕ) → pageBit table 0 j ≡ bit (mem j used)
+    used-bit j = marked table 0 used (marks-none table used r) j
+
     bit-is : (k : ℕ) → k < 8 * length bytes → bitAt raw (8 * at + k) ≡ getD bytes (k / 8) 0 / 2 ^ (k % 8) % 2
     bit-is k h =
         let e : 8 * at + k ≡ 8 * (at + k / 8) + k % 8 = omega arith in
         ap (bitAt raw) e ∙ bit-of raw (at + k / 8) (k % 8) (omega arith) ∙ ap (λ (x : ℕ). x / 2 ^ (k % 8) % 2) (stands (k / 8) (omega arith))
 
     agrees : (k : ℕ) → k < 8 * length bytes → Right k → bitAt raw (8 * at + k) ≡ bit (mem (8 * at + k) used)
-    agrees k h e = bit-is k h ∙ e ∙ sym (used-bit table used (8 * at + k) r)
+    agrees k h e = bit-is k h ∙ e ∙ used-bit (8 * at + k)
 
     agrees-at : (k : ℕ) → k ≤ 8 * length bytes → ((j : ℕ) → j < k → Right j) → (j : ℕ) → 8 * at ≤ j → j < 8 * at + k → bitAt raw j ≡ bit (mem j used)
     agrees-at k l h j p q =
@@ -87,7 +72,7 @@ module _ (bytes : List ℕ) (at : ℕ) (table : List ℕ) where
       low = omega arith;
       high = omega arith;
       agree = λ j p q. agrees-at raw used s r k (omega arith) h j p q;
-      differs = λ q e. n (sym (bit-is raw used s r k l) ∙ e ∙ used-bit table used (8 * at + k) r);
+      differs = λ q e. n (sym (bit-is raw used s r k l) ∙ e ∙ sym (used-bit raw used s r (8 * at + k)));
     },
     omega arith,
   )

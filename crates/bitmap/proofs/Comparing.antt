@@ -15,13 +15,13 @@ use Rattle.rules.specs.PageSets.{bit, mem}
 use Rattle.rules.specs.Chain.{Link, content}
 use Rattle.rules.specs.Bitmap.{bitAt}
 use Rattle.rules.specs.BitmapLaws.{IsLowest}
-use Rattle.rules.specs.OwnerLaws.{Represents}
+use Rattle.owners.specs.Owned.{Represents}
 use Rattle.rules.specs.Check.{judgeBits}
 use Rattle.chain.specs.declared.Cursor.{Cursor}
 use Rattle.chain.specs.declared.Step.{Step}
 use Rattle.chain.specs.declared.Step.the-variants as step
 use Rattle.chain.specs.Steps.{firstStep, stepOf}
-use Rattle.chain.specs.KnownChain.{ChainStands}
+use Rattle.chain.specs.KnownChain.{ChainAt}
 use Rattle.chain.proofs.Following.{Passed, passes-data, ReadTo, read-first, bytes-up, split-whole, read-end, read-on}
 use Rattle.bitmap.specs.declared.Bits.{Bits}
 use Rattle.bitmap.specs.declared.Bits.the-variants as bits
@@ -37,7 +37,7 @@ module _ (g : Geometry) (image : List ℕ) (fit : Fit g image) where
   abbrev v : View
   v = viewOf g image
 
-  pub started : (start : ℕ) (c : Cursor) (used : List ℕ) (ls : List Link) → c ≡ firstStep start start → ChainStands g v start ls → Comparing g v (content ls) used (length ls) c
+  pub started : (start : ℕ) (c : Cursor) (used : List ℕ) (ls : List Link) → c ≡ firstStep start start → ChainAt g v start ls → Comparing g v (content ls) used (length ls) c
   started start c used ls e d =
       let b : c .bytes ≡ 0 = ap (λ (x : Cursor). x .bytes) e in
       record { read = read-first g v start c ls e d; agree = λ j h. absurd (omega arith) }
@@ -74,8 +74,8 @@ module _ (g : Geometry) (image : List ℕ) (fit : Fit g image) where
           record { read = read-on g image fit total raw c d (C .read) bytes t z u; agree = λ j q. agree-below (8 * length bytes) (8 * c .bytes + 8 * length bytes) l j (omega arith) }
 
   -- one page of the chain compared, as the code reads it
-  module _ (raw used : List ℕ) (total : ℕ) (c : Cursor) (C : Comparing g v raw used total c) (size : ℕ) (d : Cursor) (s : Step) (m : s ≡ step.Page size d) (o : s ≡ stepOf g v c)
-      (page : List ℕ) (e : page ≡ pageOf g (c .page) image) (bytes : List ℕ) (i : bytes ≡ take size (drop 1 page)) where
+  module _ {raw used : List ℕ} {total : ℕ} {c : Cursor} (C : Comparing g v raw used total c) {size : ℕ} {d : Cursor} {s : Step} (m : s ≡ step.Page size d) (o : s ≡ stepOf g v c)
+      {page : List ℕ} (e : page ≡ pageOf g (c .page) image) {bytes : List ℕ} (i : bytes ≡ take size (drop 1 page)) where
     turned : Passed c d (C .read .more) bytes
     turned = passes-data g image fit total c (C .read .more) (C .read .following) size d s m o page e bytes i
 

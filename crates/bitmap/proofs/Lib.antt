@@ -1,2 +1,3 @@
+-- Laws of the bitmap's comparison: a byte's bits, and a chain's pages one after the other.
 pub mod BitLaws
 pub mod Comparing

@@ -8,11 +8,11 @@ use Rattle.packet.specs.Packet.{View}
 use Rattle.rules.specs.Result.{Res, ok, err}
 use Rattle.rules.specs.Chain.{Link, content}
 use Rattle.rules.specs.BitmapLaws.{IsLowest}
-use Rattle.rules.specs.OwnerLaws.{Represents}
+use Rattle.owners.specs.Owned.{Represents}
 use Rattle.rules.specs.Check.{judgeBits}
 use Rattle.bitmap.specs.declared.Bits.{Bits}
 use Rattle.bitmap.specs.declared.Bits.the-variants as bits
-use Rattle.chain.specs.KnownChain.{ChainStands}
+use Rattle.chain.specs.KnownChain.{ChainAt}
 
 -- the lowest of the n bits from k on that differs from the pages in use, or that none does
 abbrev pub Part : List ℕ → List ℕ → ℕ → ℕ → Bits → Type 0
@@ -35,4 +35,4 @@ ComparesAll raw table r = (used : List ℕ) → Represents table used → Compar
 
 -- of the bitmap in a chain from its start page on
 abbrev pub ComparesChain : Geometry → View → ℕ → List ℕ → Bits → Type 0
-ComparesChain g v start table r = (ls : List Link) → ChainStands g v start ls → ComparesAll (content ls) table r
+ComparesChain g v start table r = (ls : List Link) → ChainAt g v start ls → ComparesAll (content ls) table r

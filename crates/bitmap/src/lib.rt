@@ -4,10 +4,9 @@ use chain::Step;
 use geometry::Geometry;
 ghost use mathlib.Core.Path.{_≡_};
 ghost use Prim.Native.Nat.{_+_, _*_, _/_, _%_, _^_, _≤_, _<_};
-ghost use lib.ListN.{length, getD};
+ghost use lib.ListN.{length};
 ghost use Rattle.geometry.specs.Geometry.{Fit};
 ghost use Rattle.packet.specs.Packet.{viewOf};
-ghost use Rattle.rules.specs.OwnerLaws.{nonzero};
 ghost use Rattle.bitmap.specs.Bits.{ComparesPart, ComparesAll, ComparesChain};
 ghost use Rattle.chain.specs.KnownChain.{KnownChain};
 
@@ -31,28 +30,16 @@ fn bit_of(b: u8, k: usize) -> usize
     value % 2
 }
 
-// The bit that a page must have: 1 where it has an owner. A page past the table has none.
-pub fn in_use(owners: &[u16], page: usize) -> usize
-    ensures { λ r. ⌜ (r ≡ nonzero (getD (now (owners .entry)) page 0)) × (r ≤ 1) ⌝ }
-{
-    if page < owners.len() {
-        if owners[page] != 0 {
-            return 1;
-        }
-    }
-    0
-}
-
 // Compares some bytes of a bitmap with the table; `at` bytes of the bitmap stand before them.
-fn compare_bytes(bytes: &[u8], at: usize, owners: &[u16]) -> Bits
+fn compare_bytes(bytes: &[u8], at: usize, table: &[u16]) -> Bits
     requires { ⌜ (at ≤ 16777216) × (length (now bytes) ≤ 256) ⌝ }
-    ensures { λ r. ⌜ ComparesPart (now (bytes .entry)) at (now (owners .entry)) r ⌝ }
+    ensures { λ r. ⌜ ComparesPart (now (bytes .entry)) at (now (table .entry)) r ⌝ }
 {
     let end = 8 * bytes.len();
     let mut k = 0;
     while k < end {
         let page = 8 * at + k;
-        if bit_of(bytes[k / 8], k % 8) != in_use(owners, page) {
+        if bit_of(bytes[k / 8], k % 8) != owners::bit(table, page, 0) {
             return Bits::Differ(page);
         }
         k += 1;
@@ -61,18 +48,18 @@ fn compare_bytes(bytes: &[u8], at: usize, owners: &[u16]) -> Bits
 }
 
 // Compares a bitmap that stands in the root's control field.
-pub fn compare_local(bytes: &[u8], owners: &[u16]) -> Bits
+pub fn compare_local(bytes: &[u8], table: &[u16]) -> Bits
     requires { ⌜ length (now bytes) ≤ 256 ⌝ }
-    ensures { λ r. ⌜ ComparesAll (now (bytes .entry)) (now (owners .entry)) r ⌝ }
+    ensures { λ r. ⌜ ComparesAll (now (bytes .entry)) (now (table .entry)) r ⌝ }
 {
-    compare_bytes(bytes, 0, owners)
+    compare_bytes(bytes, 0, table)
 }
 
 // Compares a bitmap that stands in a chain which is known to stand, page by page.
-pub fn compare_chain(image: &[u8], g: Geometry, start: usize, owners: &[u16]) -> Bits
+pub fn compare_chain(image: &[u8], g: Geometry, start: usize, table: &[u16]) -> Bits
     requires { ⌜ Fit g (now image) ⌝ }
     requires { ⌜ KnownChain g (viewOf g (now image)) start ⌝ }
-    ensures { λ r. ⌜ ComparesChain g (viewOf g (now (image .entry))) start (now (owners .entry)) r ⌝ }
+    ensures { λ r. ⌜ ComparesChain g (viewOf g (now (image .entry))) start (now (table .entry)) r ⌝ }
 {
     let mut c = Cursor::new(start, start);
     loop {
@@ -84,7 +71,7 @@ pub fn compare_chain(image: &[u8], g: Geometry, start: usize, owners: &[u16]) ->
             }
             Step::Page(size, next) => {
                 let bytes = packet::data_of(geometry::page_of(image, g, page), size);
-                match compare_bytes(bytes, c.bytes, owners) {
+                match compare_bytes(bytes, c.bytes, table) {
                     Bits::Differ(bit) => {
                         return Bits::Differ(bit);
                     }

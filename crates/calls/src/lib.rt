@@ -1,4 +1,4 @@
-// The calls over a table of numbers for an owner table of bytes: the table loaded, the call, the table stored, its answer as numbers.
+// The calls over a table of numbers for an owner table of bytes, `stored`: the table loaded, the call, the table stored, its answer as numbers.
 use answers::OwfsAnswer;
 use answers::OwfsEntry;
 use answers::OwfsLength;
@@ -6,7 +6,7 @@ use answers::OwfsTotals;
 ghost use mathlib.Core.Path.{_≡_};
 ghost use Prim.Native.Nat.{_/_, min};
 ghost use lib.ListN.{length};
-ghost use Rattle.answers.specs.Answers.{checkAnswer, listAnswer, readAnswer, formatAnswer, putAnswer, deleteAnswer};
+ghost use Rattle.answers.specs.ExportedAnswers.{checkAnswer, listAnswer, readAnswer, formatAnswer, putAnswer, deleteAnswer};
 
 // Checks an image over a table for the numbers of its owner bytes.
 pub fn check_over(
@@ -14,14 +14,14 @@ pub fn check_over(
     pages: u32,
     image: &[u8],
     table: &mut [u16],
-    owners: &mut [u8],
+    stored: &mut [u8],
 ) -> OwfsTotals
-    requires { ⌜ length (now table) ≡ min (length (now owners) / 2) 65535 ⌝ }
-    ensures { λ r. ⌜ (r, now (owners .exit)) ≡ checkAnswer size pages (now (image .entry)) (now (owners .entry)) ⌝ }
+    requires { ⌜ length (now table) ≡ min (length (now stored) / 2) 65535 ⌝ }
+    ensures { λ r. ⌜ (r, now (stored .exit)) ≡ checkAnswer size pages (now (image .entry)) (now (stored .entry)) ⌝ }
 {
-    table::load(owners, table);
+    owners::load(stored, table);
     let answer = volume::check(image, size, pages, table);
-    table::store(table, owners);
+    owners::store(table, stored);
     answers::tell(answer)
 }
 
@@ -31,15 +31,15 @@ pub fn list_over(
     pages: u32,
     image: &[u8],
     table: &mut [u16],
-    owners: &mut [u8],
+    stored: &mut [u8],
     position: u32,
 ) -> OwfsEntry
-    requires { ⌜ length (now table) ≡ min (length (now owners) / 2) 65535 ⌝ }
-    ensures { λ r. ⌜ (r, now (owners .exit)) ≡ listAnswer size pages (now (image .entry)) (now (owners .entry)) position ⌝ }
+    requires { ⌜ length (now table) ≡ min (length (now stored) / 2) 65535 ⌝ }
+    ensures { λ r. ⌜ (r, now (stored .exit)) ≡ listAnswer size pages (now (image .entry)) (now (stored .entry)) position ⌝ }
 {
-    table::load(owners, table);
+    owners::load(stored, table);
     let answer = query::list(image, size, pages, table, position as usize);
-    table::store(table, owners);
+    owners::store(table, stored);
     answers::tell_entry(answer)
 }
 
@@ -51,14 +51,14 @@ pub fn read_over(
     path: &[u8],
     out: &mut [u8],
     table: &mut [u16],
-    owners: &mut [u8],
+    stored: &mut [u8],
 ) -> OwfsLength
-    requires { ⌜ length (now table) ≡ min (length (now owners) / 2) 65535 ⌝ }
-    ensures { λ r. ⌜ (r, now (out .exit), now (owners .exit)) ≡ readAnswer size pages (now (image .entry)) (now (owners .entry)) (now (path .entry)) (now (out .entry)) ⌝ }
+    requires { ⌜ length (now table) ≡ min (length (now stored) / 2) 65535 ⌝ }
+    ensures { λ r. ⌜ (r, now (out .exit), now (stored .exit)) ≡ readAnswer size pages (now (image .entry)) (now (stored .entry)) (now (path .entry)) (now (out .entry)) ⌝ }
 {
-    table::load(owners, table);
+    owners::load(stored, table);
     let answer = query::read(image, size, pages, path, out, table);
-    table::store(table, owners);
+    owners::store(table, stored);
     answers::tell_length(answer)
 }
 
@@ -68,15 +68,15 @@ pub fn format_over(
     pages: u32,
     image: &mut [u8],
     table: &mut [u16],
-    owners: &mut [u8],
+    stored: &mut [u8],
     local: u32,
 ) -> OwfsAnswer
-    requires { ⌜ length (now table) ≡ min (length (now owners) / 2) 65535 ⌝ }
-    ensures { λ r. ⌜ (r, now (image .exit), now (owners .exit)) ≡ formatAnswer size pages (now (image .entry)) (now (owners .entry)) local ⌝ }
+    requires { ⌜ length (now table) ≡ min (length (now stored) / 2) 65535 ⌝ }
+    ensures { λ r. ⌜ (r, now (image .exit), now (stored .exit)) ≡ formatAnswer size pages (now (image .entry)) (now (stored .entry)) local ⌝ }
 {
-    table::load(owners, table);
+    owners::load(stored, table);
     let answer = format::format(image, size, pages, table, local != 0);
-    table::store(table, owners);
+    owners::store(table, stored);
     answers::tell_answer(answer)
 }
 
@@ -88,14 +88,14 @@ pub fn put_over(
     path: &[u8],
     bytes: &[u8],
     table: &mut [u16],
-    owners: &mut [u8],
+    stored: &mut [u8],
 ) -> OwfsAnswer
-    requires { ⌜ length (now table) ≡ min (length (now owners) / 2) 65535 ⌝ }
-    ensures { λ r. ⌜ (r, now (image .exit), now (owners .exit)) ≡ putAnswer size pages (now (image .entry)) (now (owners .entry)) (now (path .entry)) (now (bytes .entry)) ⌝ }
+    requires { ⌜ length (now table) ≡ min (length (now stored) / 2) 65535 ⌝ }
+    ensures { λ r. ⌜ (r, now (image .exit), now (stored .exit)) ≡ putAnswer size pages (now (image .entry)) (now (stored .entry)) (now (path .entry)) (now (bytes .entry)) ⌝ }
 {
-    table::load(owners, table);
+    owners::load(stored, table);
     let answer = put::put(image, size, pages, path, bytes, table);
-    table::store(table, owners);
+    owners::store(table, stored);
     answers::tell_answer(answer)
 }
 
@@ -106,13 +106,13 @@ pub fn delete_over(
     image: &mut [u8],
     path: &[u8],
     table: &mut [u16],
-    owners: &mut [u8],
+    stored: &mut [u8],
 ) -> OwfsAnswer
-    requires { ⌜ length (now table) ≡ min (length (now owners) / 2) 65535 ⌝ }
-    ensures { λ r. ⌜ (r, now (image .exit), now (owners .exit)) ≡ deleteAnswer size pages (now (image .entry)) (now (owners .entry)) (now (path .entry)) ⌝ }
+    requires { ⌜ length (now table) ≡ min (length (now stored) / 2) 65535 ⌝ }
+    ensures { λ r. ⌜ (r, now (image .exit), now (stored .exit)) ≡ deleteAnswer size pages (now (image .entry)) (now (stored .entry)) (now (path .entry)) ⌝ }
 {
-    table::load(owners, table);
+    owners::load(stored, table);
     let answer = delete::delete(image, size, pages, path, table);
-    table::store(table, owners);
+    owners::store(table, stored);
     answers::tell_answer(answer)
 }

@@ -6,7 +6,7 @@ use Prim.Native.Nat.{ℕ, suc, _+_, _-_, _*_, _≤_, _<_}
 use native.Mathlib.Decide.{decLt}
 use native.Mathlib.Omega.{arith}
 use lib.Dec.{eqb}
-use lib.ListN.{length, getD, set, length-append}
+use lib.ListN.{length, set, length-append}
 use borrow.Author.Tests.{eqb-true, ltb-true, lt-ltb, eq-eqb, ne-eqb, not-false}
 use Rattle.geometry.specs.declared.Geometry.{Geometry}
 use Rattle.geometry.specs.Choose.{choose}
@@ -22,25 +22,14 @@ use Rattle.rules.specs.PageSets.{count, mem}
 use Rattle.rules.specs.PageSetLaws.{within-length, free-true, mem-true}
 use Rattle.rules.specs.Chain.{Link, link, pages, content, Body, Test, walk}
 use Rattle.rules.specs.ChainLaws.{packet-inv}
-use Rattle.rules.specs.OwnerLaws.{nonzero-pos, Represents, getD-past, represents-within, represents-set, represents-length, free-represents, taken, inUse, inUse-room}
+use Rattle.owners.specs.Owned.{ownerAt, Represents}
+use Rattle.owners.specs.OwnerLaws.{nonzero-pos, owner-inside, represents-within, represents-set, represents-length, free-represents, taken, inUse, inUse-room}
 use Rattle.chain.specs.declared.Cursor.{Cursor}
 use Rattle.chain.specs.declared.Entered.the-variants as enter
 use Rattle.chain.specs.declared.Claim.{Claim}
 use Rattle.chain.specs.declared.Claim.the-variants as claim
 use Rattle.chain.specs.Steps.{firstStep, after}
-use Rattle.chain.specs.Claims.{isOwned, enterOf, entered, Agrees}
-
--- ---- a page's owner
-pub has-owner : (t : List ℕ) (p : ℕ) (r : Bool) → r ≡ isOwned t p → r ≡ true → getD t p 0 ≡ 0 → ⊥
-unfolding isOwned
-has-owner t p r e q z = mathlib.Core.Bool.true≢false (sym q ∙ e ∙ ap not (eq-eqb (getD t p 0) 0 z))
-
-pub no-owner : (t : List ℕ) (p : ℕ) (r : Bool) → r ≡ isOwned t p → r ≡ false → getD t p 0 ≡ 0
-unfolding isOwned
-no-owner t p r e q = eqb-true (getD t p 0) 0 (not-false _ (sym e ∙ q))
-
-owner-inside : (t : List ℕ) (p : ℕ) → (getD t p 0 ≡ 0 → ⊥) → p < length t
-owner-inside t p h = elim (decLt p (length t)) [ yes k ↦ k | no k ↦ absurd (h (getD-past t p (omega arith))) ]
+use Rattle.chain.specs.Claims.{enterOf, entered, Agrees}
 
 -- ---- a page entered
 refused-is : (c : Cursor) (r : Res Body) (n p : ℕ) → enter.Refused n p ≡ entered c r → r ≡ err n p
@@ -98,7 +87,7 @@ module _ (g : Geometry) (v : View) (test : Test) where
     pub held-first : (t claimed : List ℕ) (c : Cursor) → c ≡ firstStep start from → Represents t claimed → Held t claimed t c
     held-first t claimed c e h = rw e (record { claimed = claimed; fuel = suc (g .pages); represents = h; left = omega arith; counted = omega arith; small = omega arith; same = λ r u a. a })
 
-    module _ (t₀ claimed₀ t : List ℕ) (c : Cursor) (H : Held t₀ claimed₀ t c) (l : length t ≡ g .pages) where
+    module _ {t₀ claimed₀ t : List ℕ} {c : Cursor} (H : Held t₀ claimed₀ t c) (l : length t ≡ g .pages) where
       open Held H using (claimed, fuel, represents, left, counted, small, same)
 
       -- a chain has at most N pages
@@ -109,13 +98,13 @@ module _ (g : Geometry) (v : View) (test : Test) where
           → walk (g .pages) v test fuel (c .count) claimed (c .from) (c .page) ≡ R
       one-left R e = let q : fuel ≡ suc (g .pages - c .count) = omega (arith, counts) in rw q e
 
-      pub crossed : (getD t (c .page) 0 ≡ 0 → ⊥) → Agrees 0 0 owner t₀ (walk (g .pages) v test (suc (g .pages)) 0 claimed₀ from start) (claim.Refused 7 (c .page)) t
+      pub crossed : 0 < ownerAt t (c .page) → Agrees 0 0 owner t₀ (walk (g .pages) v test (suc (g .pages)) 0 claimed₀ from start) (claim.Refused 7 (c .page)) t
       crossed z =
           let k = owner-inside t (c .page) z in
-          let m = mem-true (c .page) claimed (omega (arith, represents (c .page), nonzero-pos (getD t (c .page) 0) (omega arith))) in
+          let m = mem-true (c .page) claimed (omega (arith, represents (c .page), nonzero-pos (ownerAt t (c .page)) (omega arith))) in
           same (claim.Refused 7 (c .page)) t (one-left _ (walk-crossed (g .pages - c .count) claimed (c .count) (c .from) (c .page) (omega arith) m))
 
-      module _ (z : getD t (c .page) 0 ≡ 0) where
+      module _ (z : ownerAt t (c .page) ≡ 0) where
         clear : not (mem (c .page) claimed) ≡ true
         clear = free-true (c .page) claimed (free-represents t claimed (c .page) represents z)
 
@@ -139,26 +128,39 @@ module _ (g : Geometry) (v : View) (test : Test) where
           next-page : d .page ≡ x .next
           next-page = ap (λ (y : Cursor). y .page) is
 
-          pub last : d .page ≡ 0 → Agrees 0 0 owner t₀ (walk (g .pages) v test (suc (g .pages)) 0 claimed₀ from start) (claim.Chain (d .count) (d .bytes)) (set t (c .page) owner)
-          last y =
+          pub last : d .page ≡ 0 → (u : List ℕ) → u ≡ set t (c .page) owner
+              → Agrees 0 0 owner t₀ (walk (g .pages) v test (suc (g .pages)) 0 claimed₀ from start) (claim.Chain (d .count) (d .bytes)) u
+          last y u w =
               let n : x .next ≡ 0 = sym next-page ∙ y in
               let k : d .count ≡ c .count + 1 = ap (λ (y : Cursor). y .count) is in
               let b : d .bytes ≡ c .bytes + length (x .bytes ++ []) = ap (λ (y : Cursor). y .bytes) is ∙ ap (λ (l : List ℕ). c .bytes + length l) (sym (append-nil (x .bytes))) in
-              same (claim.Chain (d .count) (d .bytes)) (set t (c .page) owner) (link (c .page) (x .bytes) ∷ [], one-left _ (walk-enter (g .pages - c .count) claimed c clear ∙ simp (was, then-ok, eq-eqb (x .next) 0 n, choose-true)), k, b, refl)
+              same (claim.Chain (d .count) (d .bytes)) u (
+                link (c .page) (x .bytes) ∷ [],
+                one-left _ (walk-enter (g .pages - c .count) claimed c clear ∙ simp (was, then-ok, eq-eqb (x .next) 0 n, choose-true)),
+                k,
+                b,
+                w,
+              )
 
           onward : (d .page ≡ 0 → ⊥) → (r : Claim) (u : List ℕ)
               → Agrees (suc (c .count)) (d .bytes) owner (set t (c .page) owner) (walk (g .pages) v test (g .pages - c .count) (suc (c .count)) (c .page ∷ claimed) (c .page) (x .next)) r u
               → Agrees (c .count) (c .bytes) owner t (walk (g .pages) v test fuel (c .count) claimed (c .from) (c .page)) r u
-          onward y (claim.Chain n m) u (ls, w, a, o, b) = (link (c .page) (x .bytes) ∷ ls, one-left _ (walk-enter (g .pages - c .count) claimed c clear ∙ simp (was, then-ok, ne-eqb (x .next) 0 (λ q. y (next-page ∙ q)), choose-false, w)), omega arith, omega (arith, ap (λ (y : Cursor). y .bytes) is, length-append (x .bytes) (content ls)), b)
+          onward y (claim.Chain n m) u (ls, w, a, o, b) = (
+            link (c .page) (x .bytes) ∷ ls,
+            one-left _ (walk-enter (g .pages - c .count) claimed c clear ∙ simp (was, then-ok, ne-eqb (x .next) 0 (λ q. y (next-page ∙ q)), choose-false, w)),
+            omega arith,
+            omega (arith, ap (λ (y : Cursor). y .bytes) is, length-append (x .bytes) (content ls)),
+            b,
+          )
           onward y (claim.Refused n p) u w =
               one-left _ (walk-enter (g .pages - c .count) claimed c clear ∙ simp (was, then-ok, ne-eqb (x .next) 0 (λ q. y (next-page ∙ q)), choose-false, w, then-err))
 
-          pub again : (d .page ≡ 0 → ⊥) → 0 < owner → c .page < length t → d .bytes ≤ 256 * d .count → Held t₀ claimed₀ (set t (c .page) owner) d
-          again y o h i =
+          pub again : (d .page ≡ 0 → ⊥) → 0 < owner → c .page < length t → d .bytes ≤ 256 * d .count → (u : List ℕ) → u ≡ set t (c .page) owner → Held t₀ claimed₀ u d
+          again y o h i u w =
               let k : d .count ≡ c .count + 1 = ap (λ (y : Cursor). y .count) is in
               let k′ : d .count ≡ suc (c .count) = omega arith in
               let f : d .from ≡ c .page = ap (λ (y : Cursor). y .from) is in
-              record {
+              rw w (record {
                 claimed = c .page ∷ claimed;
                 fuel = g .pages - c .count;
                 represents = represents-set t claimed (c .page) owner represents h z o;
@@ -166,10 +168,10 @@ module _ (g : Geometry) (v : View) (test : Test) where
                 counted = omega arith;
                 small = i;
                 same = λ r u a. same r u (onward y r u (rw (k′, f, next-page) at a));
-              }
+              })
 
       -- while a page is free, the owner fits
-      pub leaves-room : claimed₀ ≡ taken t₀ → c .page < length t → getD t (c .page) 0 ≡ 0 → inUse t₀ < g .pages
+      pub leaves-room : claimed₀ ≡ taken t₀ → c .page < length t → ownerAt t (c .page) ≡ 0 → inUse t₀ < g .pages
       leaves-room e h z = omega (arith, inUse-room t (c .page) h z, represents-length t claimed represents, ap length e)
 
 -- the bytes passed stay within 256 a page

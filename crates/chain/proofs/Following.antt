@@ -20,34 +20,34 @@ use Rattle.chain.specs.declared.Step.{Step}
 use Rattle.chain.specs.declared.Step.the-variants as step
 use Rattle.chain.specs.Steps.{firstStep, after, passed, stepOf}
 use Rattle.chain.specs.Claims.{IsGood, Counted}
-use Rattle.chain.specs.KnownChain.{ChainStands}
+use Rattle.chain.specs.KnownChain.{ChainAt}
 
 -- ---- chains that stand
 -- a chain that the walk accepts
-pub chain-stands : (g : Geometry) (v : View) (test : Test) (claimed : List ℕ) (start : ℕ) (ls : List Link) → IsChain (g .pages) v test 0 claimed start ls → ChainStands g v start ls
-chain-stands g v test claimed start ls c = record {
+pub chain-at : (g : Geometry) (v : View) (test : Test) (claimed : List ℕ) (start : ℕ) (ls : List Link) → IsChain (g .pages) v test 0 claimed start ls → ChainAt g v start ls
+chain-at g v test claimed start ls c = record {
   some = c .some;
   begins = c .start;
-  stand = c .stand;
+  packets = c .packets;
   within = λ x h. range-of x (g .pages) (omega (arith, c .clear x));
   few = omega (arith, within-length (g .pages) (pages ls) (λ x. omega (arith, c .clear x)), length-pages ls);
   onward = c .onward;
 }
 
 -- its first page
-pub first-stands : (g : Geometry) (v : View) (start : ℕ) (ls : List Link) → ChainStands g v start ls → (start < g .pages) × IsGood (v start)
+pub first-stands : (g : Geometry) (v : View) (start : ℕ) (ls : List Link) → ChainAt g v start ls → (start < g .pages) × IsGood (v start)
 first-stands g v start [] d = absurd (omega (arith, d .some))
 first-stands g v start (link p b ∷ ls) d =
     let i : start ≡ p = sym (d .begins) in
-    (rw i (d .within p (omega (arith, hit-same p))), rw (i, d .stand .0) tt)
+    (rw i (d .within p (omega (arith, hit-same p))), rw (i, d .packets .0) tt)
 
 -- the chain after its first page
-rest-stands : (g : Geometry) (v : View) (start p q : ℕ) (b : List ℕ) (ls : List Link) → ChainStands g v start (link p b ∷ ls) → first ls ≡ q → (q ≡ 0 → ⊥) → ChainStands g v q ls
+rest-stands : (g : Geometry) (v : View) (start p q : ℕ) (b : List ℕ) (ls : List Link) → ChainAt g v start (link p b ∷ ls) → first ls ≡ q → (q ≡ 0 → ⊥) → ChainAt g v q ls
 rest-stands g v start p q b [] d e n = absurd (n (sym e))
 rest-stands g v start p q b (link x y ∷ ls) d e n = record {
   some = omega arith;
   begins = e;
-  stand = d .stand .1;
+  packets = d .packets .1;
   within = λ z h. d .within z (omega arith);
   few = omega (arith, d .few);
   onward = omega (arith, d .onward);
@@ -90,11 +90,11 @@ module _ (g : Geometry) (v : View) (c : Cursor) (h : c .page < g .pages) where
 
 -- ---- a position before these pages, in a chain of so many
 pub record Following (g : Geometry) (v : View) (total : ℕ) (c : Cursor) (more : List Link) : Type 0 where
-  pub chain : ChainStands g v (c .page) more
+  pub chain : ChainAt g v (c .page) more
   pub steps : c .count + length more ≡ total
   pub counted : Counted c
 
-pub follow : (g : Geometry) (v : View) (start : ℕ) (c : Cursor) (ls : List Link) → c ≡ firstStep start start → ChainStands g v start ls → Following g v (length ls) c ls
+pub follow : (g : Geometry) (v : View) (start : ℕ) (c : Cursor) (ls : List Link) → c ≡ firstStep start start → ChainAt g v start ls → Following g v (length ls) c ls
 follow g v start c ls e d = subst (λ (x : Cursor). Following g v (length ls) x ls) (sym e) (record { chain = d; steps = omega arith; counted = record { few = omega arith; small = omega arith } })
 
 -- a page passed: its number, its bytes and the pages to come
@@ -127,10 +127,10 @@ module _ (g : Geometry) (image : List ℕ) (fit : Fit g image) (total : ℕ) (c 
           omega (arith, r .room, k .2, ap length e)
 
     -- the page is the chain's next
-    passed-page : (ls : List Link) → ChainStands g v (c .page) ls → (b : List ℕ) → v (c .page) ≡ good b (d .page) → d ≡ after c (length b) (d .page) → Passed c d ls b
+    passed-page : (ls : List Link) → ChainAt g v (c .page) ls → (b : List ℕ) → v (c .page) ≡ good b (d .page) → d ≡ after c (length b) (d .page) → Passed c d ls b
     passed-page [] h b e i = absurd (omega (arith, h .some))
     passed-page (link p a ∷ ls) h b e i =
-        let q : good a (first ls) ≡ good b (d .page) = sym (h .stand .0) ∙ ap v (h .begins) ∙ e in
+        let q : good a (first ls) ≡ good b (d .page) = sym (h .packets .0) ∙ ap v (h .begins) ∙ e in
         let j : a ≡ b = cc in
         record { number = p; others = ls; split = ap (λ (x : List ℕ). link p x ∷ ls) j; next = cc; on = i; small = small-view g image fit (c .page) b (d .page) e }
 
@@ -156,7 +156,7 @@ module _ (g : Geometry) (image : List ℕ) (fit : Fit g image) (total : ℕ) (c 
     -- the pages after it
     pub follow-on : (d .page ≡ 0 → ⊥) → total ≤ g .pages → Following g v total d (P .others)
     follow-on z u =
-        let h : ChainStands g v (d .page) (P .others) = rest-stands g v (c .page) (P .number) (d .page) b (P .others) (subst (ChainStands g v (c .page)) (P .split) (F .chain)) (P .next) z in
+        let h : ChainAt g v (d .page) (P .others) = rest-stands g v (c .page) (P .number) (d .page) b (P .others) (subst (ChainAt g v (c .page)) (P .split) (F .chain)) (P .next) z in
         let l : length more ≡ suc (length (P .others)) = ap length (P .split) in
         let n : d .count ≡ c .count + 1 = ap (λ (x : Cursor). x .count) (P .on) in
         let k : d .bytes ≡ c .bytes + length b = ap (λ (x : Cursor). x .bytes) (P .on) in
@@ -174,7 +174,7 @@ pub record ReadTo (g : Geometry) (v : View) (total : ℕ) (all : List ℕ) (c : 
   pub whole : all ≡ done ++ content more
   pub passed : c .bytes ≡ length done
 
-unfoldable pub read-first : (g : Geometry) (v : View) (start : ℕ) (c : Cursor) (ls : List Link) → c ≡ firstStep start start → ChainStands g v start ls → ReadTo g v (length ls) (content ls) c
+unfoldable pub read-first : (g : Geometry) (v : View) (start : ℕ) (c : Cursor) (ls : List Link) → c ≡ firstStep start start → ChainAt g v start ls → ReadTo g v (length ls) (content ls) c
 read-first g v start c ls e d = record { done = []; more = ls; following = follow g v start c ls e d; whole = refl; passed = ap (λ (x : Cursor). x .bytes) e }
 
 module _ (g : Geometry) (image : List ℕ) (fit : Fit g image) (total : ℕ) (all : List ℕ) (c d : Cursor) (R : ReadTo g (viewOf g image) total all c) (bytes : List ℕ) (P : Passed c d (R .more) bytes) where

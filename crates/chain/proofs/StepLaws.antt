@@ -21,13 +21,12 @@ use Rattle.rules.specs.Result.{ok, err, andThen, refuse-unless}
 use Rattle.rules.specs.ResultLaws.{then-ok, then-err, refuse-true, refuse-false}
 use Rattle.rules.specs.Chain.{packetAt, Test}
 use Rattle.rules.specs.ChainLaws.{packet-good}
-use Rattle.rules.specs.OwnerLaws.{getD-past}
 use Rattle.directory.specs.Faults.{faultAt}
 use Rattle.chain.specs.declared.Cursor.{Cursor}
 use Rattle.chain.specs.declared.Step.the-variants as step
 use Rattle.chain.specs.declared.Entered.the-variants as enter
 use Rattle.chain.specs.Steps.{after, passed, stepOf}
-use Rattle.chain.specs.Claims.{IsGood, isOwned, enterOf, entered}
+use Rattle.chain.specs.Claims.{IsGood, enterOf, entered}
 
 -- ---- a step
 judged-bad : (k : Packet) → judged k ≡ Bad → k ≡ bad
@@ -158,12 +157,3 @@ module _ (g : Geometry) (image : List ℕ) (c : Cursor) (size : ℕ) (d : Cursor
 
     pub entered-on : r ≡ 0 → enter.On d ≡ entered c (enterOf g (viewOf g image) test c)
     entered-on z = enter-on g (viewOf g image) c test size d k r z told
-
--- ---- whether a page has an owner
-pub owned-in : (table : List ℕ) (p : ℕ) → not (eqb (getD table p 0) 0) ≡ isOwned table p
-unfolding isOwned
-owned-in table p = refl
-
-pub owned-past : (table : List ℕ) (p : ℕ) → length table ≤ p → false ≡ isOwned table p
-unfolding isOwned
-owned-past table p h = simp (isOwned, eq-eqb (getD table p 0) 0 (getD-past table p h))

@@ -1,22 +1,22 @@
 -- For contracts: a page entered, and a chain claimed in the owner table, against the rule's walk.
 use mathlib.Core.Path.{_≡_}
-use mathlib.Core.Bool.{Bool, not}
 use mathlib.Core.List.{List}
 use Prim.Native.Nat.{ℕ, suc, _+_, _*_, _≤_, _<_}
-use lib.Dec.{ltb, eqb}
-use lib.ListN.{length, getD}
+use lib.Dec.{ltb}
+use lib.ListN.{length}
 use Rattle.geometry.specs.declared.Geometry.{Geometry}
 use Rattle.packet.specs.Packet.{Packet, bad, good, View}
 use Rattle.rules.specs.Result.{Res, ok, err, andThen as _>>=_, andAfter as _>>_, refuse-unless}
 use Rattle.rules.specs.Chain.{Link, pages, content, Body, packetAt, Test, walk}
 use Rattle.rules.specs.Owners.{own}
-use Rattle.rules.specs.OwnerLaws.{Represents}
+use Rattle.owners.specs.Owned.{Represents, freed}
 use Rattle.chain.specs.declared.Cursor.{Cursor}
 use Rattle.chain.specs.declared.Entered.{Entered}
 use Rattle.chain.specs.declared.Entered.the-variants as enter
 use Rattle.chain.specs.declared.Claim.{Claim}
 use Rattle.chain.specs.declared.Claim.the-variants as claim
 use Rattle.chain.specs.Steps.{after}
+use Rattle.chain.specs.KnownChain.{ChainAt}
 
 -- a page that holds a right packet
 abbrev pub IsGood : Packet → Type 0
@@ -27,10 +27,6 @@ IsGood (good b n) = Unit {0}
 pub record Counted (c : Cursor) : Type 0 where
   pub few : c .count < 65536
   pub small : c .bytes ≤ 256 * c .count
-
--- a page has an owner in the table
-unfoldable pub isOwned : List ℕ → ℕ → Bool
-isOwned table p = not (eqb (getD table p 0) 0)
 
 -- the walk's tests of a page but for crossing
 unfoldable pub enterOf : Geometry → View → Test → Cursor → Res Body
@@ -54,3 +50,7 @@ Agrees k m owner t walked (claim.Refused n p) u = walked ≡ err n p
 abbrev pub Claims : Geometry → View → Test → ℕ → ℕ → ℕ → List ℕ → Claim → List ℕ → Type 0
 Claims g v test owner from start t r u =
     (claimed : List ℕ) → Represents t claimed → Agrees 0 0 owner t (walk (g .pages) v test (suc (g .pages)) 0 claimed from start) r u
+
+-- the pages of the chain from `start` on are free again
+unfoldable pub Releases : Geometry → View → ℕ → List ℕ → List ℕ → Type 0
+Releases g v start before after = (ls : List Link) → ChainAt g v start ls → after ≡ freed (pages ls) before

@@ -1,3 +1,4 @@
 pub mod Steps
-pub mod Claims
 pub mod KnownChain
+pub mod Claims
+pub mod Contents

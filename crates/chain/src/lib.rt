@@ -1,4 +1,4 @@
-// Chains: a position that steps from page to page and carries its count, and a chain's pages claimed for an owner.
+// Chains: a position that steps from page to page and carries its count; a chain's pages claimed for an owner, and made free again.
 use directory::control::Kind;
 use geometry::Geometry;
 use packet::Judged;
@@ -9,10 +9,12 @@ ghost use lib.ListN.{length};
 ghost use Rattle.geometry.specs.Geometry.{Fit};
 ghost use Rattle.packet.specs.Packet.{viewOf};
 ghost use Rattle.packet.specs.Judged.{judged};
-ghost use Rattle.rules.specs.OwnerLaws.{inUse};
+ghost use Rattle.owners.specs.OwnerLaws.{inUse};
 ghost use Rattle.directory.specs.Faults.{testOf};
 ghost use Rattle.chain.specs.Steps.{firstStep, stepOf};
-ghost use Rattle.chain.specs.Claims.{IsGood, Counted, isOwned, entered, enterOf, Claims};
+ghost use Rattle.chain.specs.Claims.{IsGood, Counted, entered, enterOf, Claims, Releases};
+ghost use Rattle.chain.specs.KnownChain.{KnownChain};
+ghost use Rattle.chain.specs.Contents.{Counts, Fits, Copies};
 
 // A position in a chain: the page to come, the page that holds its number, and how many pages and data bytes were passed.
 pub struct Cursor {
@@ -99,7 +101,7 @@ impl Cursor {
     {
         let page = self.page;
         match self.step(image, g, false) {
-            Step::Refused(number, told) => Entered::Refused(number, told),
+            Step::Refused(number, at) => Entered::Refused(number, at),
             Step::Page(size, next) => {
                 let bytes = packet::data_of(geometry::page_of(image, g, page), size);
                 let fault = directory::control::page_fault(kind, self.count, bytes, g);
@@ -112,16 +114,6 @@ impl Cursor {
     }
 }
 
-// Whether a page has an owner; a page past the table has none.
-fn is_owned(owners: &[u16], page: usize) -> bool
-    ensures { λ r. ⌜ r ≡ isOwned (now (owners .entry)) page ⌝ }
-{
-    if page < owners.len() {
-        return owners[page] != 0;
-    }
-    false
-}
-
 // Claims the pages of a chain for an owner, until the chain ends or a page is refused: its number (6), crossed (7), packet (2), then its kind.
 pub fn claim_chain(
     image: &[u8],
@@ -130,27 +122,101 @@ pub fn claim_chain(
     owner: usize,
     from: usize,
     start: usize,
-    owners: &mut [u16],
+    table: &mut [u16],
 ) -> Claim
     requires { ⌜ Fit g (now image) ⌝ }
-    requires { ⌜ (length (now owners) ≡ g .pages) × (0 < owner) × (inUse (now owners) < g .pages → owner < 65536) ⌝ }
-    ensures { λ r. ⌜ Claims g (viewOf g (now (image .entry))) (testOf g kind) owner from start (now (owners .entry)) r (now (owners .exit)) ⌝ }
+    requires { ⌜ (length (now table) ≡ g .pages) × (0 < owner) × (inUse (now table) < g .pages → owner < 65536) ⌝ }
+    ensures { λ r. ⌜ Claims g (viewOf g (now (image .entry))) (testOf g kind) owner from start (now (table .entry)) r (now (table .exit)) ⌝ }
 {
     let mut c = Cursor::new(start, from);
     loop {
         let page = c.page;
-        let crossed = is_owned(owners, page);
-        if crossed {
+        if owners::is_owned(table, page) {
             return Claim::Refused(7, page);
         }
         match c.enter(image, g, kind) {
-            Entered::Refused(number, told) => {
-                return Claim::Refused(number, told);
+            Entered::Refused(number, at) => {
+                return Claim::Refused(number, at);
             }
             Entered::On(next) => {
-                owners[page] = owner as u16;
+                owners::claim(table, page, owner);
                 if next.page == 0 {
                     return Claim::Chain(next.count, next.bytes);
+                }
+                c = next;
+            }
+        }
+    }
+}
+
+// Makes the pages of a chain that is known to stand free again.
+pub fn release_chain(image: &[u8], g: Geometry, start: usize, table: &mut [u16])
+    requires { ⌜ Fit g (now image) ⌝ }
+    requires { ⌜ KnownChain g (viewOf g (now image)) start × (length (now table) ≡ g .pages) ⌝ }
+    ensures { λ _. ⌜ Releases g (viewOf g (now (image .entry))) start (now (table .entry)) (now (table .exit)) ⌝ }
+{
+    let mut c = Cursor::new(start, start);
+    loop {
+        let page = c.page;
+        match c.step(image, g, true) {
+            // the chain is known to stand
+            Step::Refused(_, _) => {
+                return;
+            }
+            Step::Page(_, next) => {
+                owners::release(table, page);
+                if next.page == 0 {
+                    return;
+                }
+                c = next;
+            }
+        }
+    }
+}
+
+// How many bytes a chain has.
+pub fn chain_bytes(image: &[u8], g: Geometry, start: usize) -> usize
+    requires { ⌜ Fit g (now image) ⌝ }
+    requires { ⌜ KnownChain g (viewOf g (now image)) start ⌝ }
+    ensures { λ r. ⌜ Counts g (viewOf g (now (image .entry))) start r ⌝ }
+{
+    let mut c = Cursor::new(start, start);
+    loop {
+        match c.step(image, g, true) {
+            // the chain is known to stand
+            Step::Refused(_, _) => {
+                return c.bytes;
+            }
+            Step::Page(_, next) => {
+                if next.page == 0 {
+                    return next.bytes;
+                }
+                c = next;
+            }
+        }
+    }
+}
+
+// Copies a chain's bytes to the front of an output that is long enough; the rest of it stays.
+pub fn copy_chain(image: &[u8], g: Geometry, start: usize, out: &mut [u8])
+    requires { ⌜ Fit g (now image) ⌝ }
+    requires { ⌜ KnownChain g (viewOf g (now image)) start ⌝ }
+    requires { ⌜ Fits g (viewOf g (now image)) start (now out) ⌝ }
+    ensures { λ _. ⌜ Copies g (viewOf g (now (image .entry))) start (now (out .entry)) (now (out .exit)) ⌝ }
+{
+    let mut c = Cursor::new(start, start);
+    loop {
+        let page = c.page;
+        match c.step(image, g, true) {
+            // the chain is known to stand
+            Step::Refused(_, _) => {
+                return;
+            }
+            Step::Page(size, next) => {
+                let bytes = packet::data_of(geometry::page_of(image, g, page), size);
+                geometry::put_bytes(out, c.bytes, bytes);
+                if next.page == 0 {
+                    return;
                 }
                 c = next;
             }

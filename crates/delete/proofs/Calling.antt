@@ -7,32 +7,32 @@ use Rattle.geometry.specs.declared.Geometry.{Geometry}
 use Rattle.geometry.specs.declared.Shape.the-variants.{Fits}
 use Rattle.geometry.specs.Geometry.{geometryOf}
 use Rattle.geometry.specs.NumberLaws.{bytes-from}
-use Rattle.packet.specs.Packet.{viewOf}
 use Rattle.rules.specs.Result.{Res, ok, err}
 use Rattle.rules.specs.ResultLaws.{then-err}
+use Rattle.rules.specs.Chain.{viewsOf}
 use Rattle.rules.specs.Check.{check}
 use Rattle.rules.specs.Delete.{delete}
 use Rattle.rules.specs.Calls.{deleteCall}
 use Rattle.rules.specs.Promises.{Deletes}
-use Rattle.editing.specs.Promised.{delete-stated}
-use Rattle.volume.specs.declared.Edited.{Edited}
-use Rattle.volume.specs.Told.{editTold}
+use Rattle.editing_theorems.specs.Promised.{delete-stated}
+use Rattle.rules.specs.declared.Edited.{Edited}
+use Rattle.rules.specs.Answers.{editResult}
 use Rattle.volume.specs.Edits.{EditLeaves}
 use Rattle.volume.proofs.EditLaws.{changed-leaves}
 
-pub delete-fault : (g : Geometry) (path image : List ℕ) (n p : ℕ) → check g (viewOf g image) ≡ err n p → delete g path image ≡ err n p
+pub delete-fault : (g : Geometry) (path image : List ℕ) (n p : ℕ) → check g (viewsOf g image) ≡ err n p → delete g path image ≡ err n p
 unfolding delete
 delete-fault g path image n p e = simp (e, then-err)
 
 module _ (P N : ℕ) (image table path : List ℕ) where
   pub deleted : (g : Geometry) → geometryOf P N (length image) (length table) ≡ Fits g → (r : Edited) (after u : List ℕ) → EditLeaves g image (delete g path image) r after u
-      → (editTold r, after, u ++ drop (g .pages) table) ≡ deleteCall P N image table path
+      → (editResult r, after, u ++ drop (g .pages) table) ≡ deleteCall P N image table path
   unfolding deleteCall
   deleted g e r after u k = changed-leaves P N image table g e (λ g. delete g path image) r after u k
 
-  pub delete-is : (h : (i : ℕ) → getD image i 0 < 256) (r : Edited) (after t : List ℕ) → (editTold r, after, t) ≡ deleteCall P N image table path
-      → Deletes P N image table path (editTold r ≡ ok tt) after
+  pub delete-is : (h : (i : ℕ) → getD image i 0 < 256) (r : Edited) (after t : List ℕ) → (editResult r, after, t) ≡ deleteCall P N image table path
+      → Deletes P N image table path (editResult r ≡ ok tt) after
   delete-is h r after t e =
-      let q : editTold r ≡ deleteCall P N image table path .0 = ap (λ (x : Res (Unit {0}) × List ℕ × List ℕ). x .0) e in
+      let q : editResult r ≡ deleteCall P N image table path .0 = ap (λ (x : Res (Unit {0}) × List ℕ × List ℕ). x .0) e in
       let a : after ≡ deleteCall P N image table path .1 = ap (λ (x : Res (Unit {0}) × List ℕ × List ℕ). x .1) e in
       rw (q, a) (delete-stated P N image table (bytes-from image h) path)

@@ -1,3 +1,4 @@
+-- Laws of the delete from the inside out: the entry taken out, the path, the call.
 pub mod Unlinking
 pub mod PathDelete
 pub mod Calling

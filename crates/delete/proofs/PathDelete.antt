@@ -1,76 +1,102 @@
--- A delete by path: each refusal in its place, and the file that can be deleted.
-use mathlib.Core.Path.{_≡_, ap, sym, _∙_}
+-- A delete by path: each refusal in its place, and the file that can be deleted; without a limit the answer and the image are the rule's.
+use mathlib.Core.Path.{_≡_, refl, ap, sym, _∙_, subst}
 use mathlib.Core.List.{List}
 use Prim.Native.Nat.{ℕ, _≤_, _<_}
 use Rattle.geometry.specs.declared.Geometry.{Geometry}
-use Rattle.packet.specs.Packet.{View, viewOf}
+use Rattle.packet.specs.Packet.{afterWrites}
+use Rattle.packet.specs.declared.Budget.{Budget}
+use Rattle.packet.specs.Budgets.{unlimited}
 use Rattle.rules.specs.declared.Entry.{Entry}
 use Rattle.rules.specs.Result.{Res, ok, err, andThen}
-use Rattle.rules.specs.ResultLaws.{then-ok, then-err}
-use Rattle.rules.specs.Paths.{fileKey, Found, nothing, aFile, find, Target, targetOf}
+use Rattle.rules.specs.ResultLaws.{ok-inj, then-ok, then-err, then-assoc, then-cong}
+use Rattle.rules.specs.Chain.{Views, viewsOf, Link}
+use Rattle.rules.specs.Tree.{Label, Image}
+use Rattle.rules.specs.Check.{check}
+use Rattle.rules.specs.Paths.{nothing, aFile, targetOf}
+use Rattle.rules.specs.TargetLaws.{delete-target-none, delete-target-is, delete-target-absent, delete-target-kept}
 use Rattle.rules.specs.Put.{writable, plainEdit}
-use Rattle.rules.specs.Delete.{present, deleteEdit, delete}
+use Rattle.rules.specs.Delete.{present, deleteTarget, deleteEdit, delete}
 use Rattle.entries.specs.declared.Slot.{Slot}
 use Rattle.lookup.specs.declared.PathLookup.{PathLookup}
 use Rattle.lookup.specs.declared.PathLookup.the-variants as lookup
 use Rattle.lookup.specs.Targets.{FileAbsent, FileAt, Looks}
 use Rattle.lookup.specs.TargetLaws.{looks-as, is-writable, not-writable}
-use Rattle.volume.specs.declared.Edited.the-variants as edited
-use Rattle.volume.specs.Edits.{leaves, TableOf}
-use Rattle.delete.specs.Deletes.{HasFile, Unlinks, PathDeleted}
+use Rattle.edit.specs.declared.Outcome.{Outcome}
+use Rattle.edit.specs.declared.Outcome.the-variants as outcome
+use Rattle.edit.specs.OutcomeLaws.{whole-done, whole-refused}
+use Rattle.edit.specs.Plans.{Outcomes}
+use Rattle.rules.specs.declared.Edited.the-variants as edited
+use Rattle.volume.specs.Edits.{leaves, Answered, TableOf}
+use Rattle.delete.specs.Deletes.{CanDelete, deleteWrites, Unlinks, PathDeleted}
 
-module _ (g : Geometry) (image table path : List ℕ) (T : TableOf g image table) (r : PathLookup) (h : Looks g (viewOf g image) path r) where
+no-file : present nothing ≡ err 15 0
+unfolding present
+no-file = refl
+
+a-file : (l : Label) (ls : List Link) → present (aFile l ls) ≡ ok tt
+unfolding present
+a-file l ls = refl
+
+module _ (g : Geometry) (image table path : List ℕ) (T : TableOf g image table) where
   open TableOf T using (tree, accepted)
 
-  abbrev v : View
-  v = viewOf g image
+  abbrev vs : Views
+  vs = viewsOf g image
 
-  refused : (n p : ℕ) → delete g path image ≡ err n p → PathDeleted g image path (edited.Refused n p) image
-  refused n p e = sym (ap (leaves image) e)
+  module _ (r : PathLookup) (h : Looks g (viewsOf g image) path r) (budget : Budget) where
+    refused : (n p : ℕ) → ((i : Image) → check g (viewsOf g image) ≡ ok i → deleteTarget path (i .tree) ≡ err n p) → PathDeleted g image path budget image (outcome.Refused n p)
+    refused n p e i c = (simp (e i c, then-err), refl)
 
-  no-target : (n p : ℕ) → targetOf path (tree .tree) ≡ err n p → delete g path image ≡ err n p
-  unfolding delete
-  no-target n p e = simp (accepted, then-ok, e, then-err)
+    pub malformed : r ≡ lookup.Malformed → PathDeleted g image path budget image (outcome.Refused 14 0)
+    malformed e = refused 14 0 (λ i c. delete-target-none path (i .tree) 14 0 (looks-as g vs path i r h c lookup.Malformed e))
 
-  pub malformed : r ≡ lookup.Malformed → PathDeleted g image path (edited.Refused 14 0) image
-  malformed e = refused 14 0 (no-target 14 0 (looks-as g v path tree r h accepted lookup.Malformed e))
+    pub nowhere : r ≡ lookup.Nowhere → PathDeleted g image path budget image (outcome.Refused 15 0)
+    nowhere e = refused 15 0 (λ i c. delete-target-none path (i .tree) 15 0 (looks-as g vs path i r h c lookup.Nowhere e))
 
-  pub nowhere : r ≡ lookup.Nowhere → PathDeleted g image path (edited.Refused 15 0) image
-  nowhere e = refused 15 0 (no-target 15 0 (looks-as g v path tree r h accepted lookup.Nowhere e))
+    pub absent : (start name extension : ℕ) → r ≡ lookup.Absent start name extension → PathDeleted g image path budget image (outcome.Refused 15 0)
+    absent start name extension e = refused 15 0 λ i c.
+        let m : FileAbsent g vs path i start name extension = looks-as g vs path i r h c (lookup.Absent start name extension) e in
+        delete-target-absent path (i .tree) (m .target) (m .reached) 15 0 (ap present (m .absent) ∙ no-file)
 
-  -- the last tests of the rule, of what is found in the directory
-  abbrev last : Target → Found → Res (List ℕ)
-  last x f = andThen (present f) (λ _. andThen (writable f) (λ _. ok (plainEdit g (x .to .directories) (deleteEdit (x .to) (x .place)) tree image)))
+    module _ (s : Slot) (e : Entry) (q : r ≡ lookup.At s e) where
+      pub read-only : 127 < e .extension → PathDeleted g image path budget image (outcome.Refused 16 0)
+      read-only k = refused 16 0 λ i c.
+          let m : FileAt g vs path i s e = looks-as g vs path i r h c (lookup.At s e) q in
+          delete-target-kept path (i .tree) (m .target) (m .reached) 16 0 (ap present (m .found) ∙ a-file (m .label) (m .links)) (ap writable (m .found) ∙ not-writable m k)
 
-  found : (x : Target) → targetOf path (tree .tree) ≡ ok x → (f : Found) → find (fileKey (x .to)) (x .place .items) ≡ f → delete g path image ≡ last x f
-  unfolding delete
-  found x a f e = simp (accepted, then-ok, a, e)
+      there : FileAt g (viewsOf g image) path tree s e
+      there = looks-as g vs path tree r h accepted (lookup.At s e) q
 
-  pub absent : (start name extension : ℕ) → r ≡ lookup.Absent start name extension → PathDeleted g image path (edited.Refused 15 0) image
-  absent start name extension e =
-      let m : FileAbsent g v path tree start name extension = looks-as g v path tree r h accepted (lookup.Absent start name extension) e in
-      refused 15 0 (found (m .target) (m .reached) nothing (m .absent) ∙ gone (m .target))
-    where
-      gone : (x : Target) → last x nothing ≡ err 15 0
-      gone x = unfold present in simp then-err
+      pub can-delete : CanDelete g image table s e
+      can-delete = record { known = T; path = path; file = there }
 
-  module _ (s : Slot) (e : Entry) (q : r ≡ lookup.At s e) where
-    there : FileAt g v path tree s e
-    there = looks-as g v path tree r h accepted (lookup.At s e) q
+      reached : e .extension ≤ 127 → deleteTarget path (tree .tree) ≡ ok (there .target)
+      reached k = let f = there .found in
+          delete-target-is path (tree .tree) (there .target) (there .reached) (ap present f ∙ a-file (there .label) (there .links)) (ap writable f ∙ is-writable there k)
 
-    found-there : delete g path image ≡ last (there .target) (aFile (there .label) (there .links))
-    found-there = found (there .target) (there .reached) (aFile (there .label) (there .links)) (there .found)
+      pub done : e .extension ≤ 127 → (after : List ℕ) (left : Budget) → Unlinks g image table s e budget after left → PathDeleted g image path budget after (outcome.Done left)
+      unfolding Unlinks can-delete
+      done k after left u i c =
+          let a = reached k in
+          subst (λ (j : Image). Outcomes g (andThen (deleteTarget path (j .tree)) (λ x. ok (deleteWrites g j x))) image budget after (outcome.Done left)) (ok-inj (sym accepted ∙ c))
+          (deleteWrites g tree (there .target), simp (a, then-ok), u can-delete)
 
-    pub read-only : 127 < e .extension → PathDeleted g image path (edited.Refused 16 0) image
-    read-only h = refused 16 0 (found-there ∙ (unfold present in simp (then-ok, not-writable there h, then-err)))
+  -- ---- without a limit
+  rule-is : delete g path image ≡ andThen (andThen (deleteTarget path (tree .tree)) (λ x. ok (deleteWrites g tree x))) (λ ws. ok (afterWrites g ws image))
+  unfolding delete plainEdit
+  rule-is =
+      let s : andThen (check g (viewsOf g image)) (λ i. andThen (deleteTarget path (i .tree)) (λ x. ok (plainEdit g (x .to .directories) (deleteEdit (x .to) (x .place)) i image)))
+      ≡ andThen (deleteTarget path (tree .tree)) (λ x. ok (plainEdit g (x .to .directories) (deleteEdit (x .to) (x .place)) tree image)) = simp (accepted, then-ok) in
+      s ∙ sym (then-assoc _ _ _ ∙ then-cong _ _ _ (λ x _. then-ok _ _))
 
-    pub has-file : HasFile g image table s e
-    has-file = record { known = T; path = path; file = there }
+  module _ (budget : Budget) (b : budget ≡ unlimited) (after : List ℕ) (o : Outcome) (h : PathDeleted g image path budget after o) where
+    outcome-as : (x : Outcome) → o ≡ x → Outcomes g (andThen (deleteTarget path (tree .tree)) (λ x. ok (deleteWrites g tree x))) image budget after x
+    outcome-as x e = subst (λ (y : Outcome). Outcomes g (andThen (deleteTarget path (tree .tree)) (λ x. ok (deleteWrites g tree x))) image budget after y) e (h tree accepted)
 
-    writes : e .extension ≤ 127 → last (there .target) (aFile (there .label) (there .links)) ≡ ok (plainEdit g (there .target .to .directories) (deleteEdit (there .target .to) (there .target .place)) tree image)
-    unfolding present
-    writes h = simp (then-ok, is-writable there h)
+    pub answer-done : (left : Budget) → o ≡ outcome.Done left → Answered image (delete g path image) edited.Done after
+    answer-done left e = sym (ap (leaves image) (rule-is ∙ whole-done g _ image budget b after left (outcome-as (outcome.Done left) e)))
 
-    pub done : e .extension ≤ 127 → (after : List ℕ) → Unlinks g image table s e after → PathDeleted g image path edited.Done after
-    unfolding Unlinks has-file
-    done h after u = ap (λ (x : List ℕ). (ok tt, x)) (u has-file) ∙ sym (ap (leaves image) (found-there ∙ writes h))
+    pub answer-refused : (n p : ℕ) → o ≡ outcome.Refused n p → Answered image (delete g path image) (edited.Refused n p) after
+    answer-refused n p e =
+        let k = outcome-as (outcome.Refused n p) e in
+        ap (λ (x : List ℕ). (err n p, x)) (k .1) ∙ sym (ap (leaves image) (rule-is ∙ whole-refused g _ image budget b after n p k))

@@ -1,39 +1,40 @@
--- The whole delete: the file's pages released, its entry taken from its page, the bitmap written.
-use mathlib.Core.Path.{_≡_, sym, subst}
+-- The whole delete: the file's pages free again in the table, its entry taken from its page, the bitmap written.
+use mathlib.Core.Path.{_≡_, refl, ap, sym, _∙_, subst}
 use mathlib.Core.List.{List, [], _∷_}
 use Prim.Native.Nat.{ℕ, _+_}
 use native.Mathlib.Omega.{arith}
 use lib.ListN.{length}
 use Rattle.geometry.specs.declared.Geometry.{Geometry}
 use Rattle.geometry.specs.Geometry.{Fit}
-use Rattle.packet.specs.Packet.{viewOf, play}
+use Rattle.packet.specs.Packet.{viewOf}
+use Rattle.packet.specs.declared.Budget.{Budget}
+use Rattle.packet.specs.Budgets.{Progress, writeAll}
 use Rattle.rules.specs.declared.Entry.{Entry}
 use Rattle.rules.specs.Result.{ok}
 use Rattle.rules.specs.Chain.{pages}
-use Rattle.rules.specs.Tree.{innerPages, used}
-use Rattle.rules.specs.Control.{theRoot}
+use Rattle.rules.specs.Tree.{used}
+use Rattle.rules.specs.Bitmap.{bitmapOf}
 use Rattle.rules.specs.WellFormed.{WellFormed}
-use Rattle.rules.specs.OwnerLaws.{Represents, represents-owners}
-use Rattle.rules.specs.Paths.{Path, pathOf, fileKey, atRoot, Place, directoryAt}
+use Rattle.rules.specs.Paths.{Path, fileKey, Place, rootPlace, directoryAt}
 use Rattle.rules.specs.TargetLaws.{reached}
-use Rattle.rules.specs.Put.{plainEdit}
-use Rattle.rules.specs.Delete.{remove, deleteEdit}
-use Rattle.reading.specs.Accepted.{accepted-iff}
-use Rattle.editing.specs.Contexts.{locate}
-use Rattle.editing.specs.DeleteLaws.{the-edit, pages-then}
+use Rattle.rules.specs.Writes.{edited, editWrites}
+use Rattle.rules.specs.Delete.{deleteEdit}
+use Rattle.owners.specs.Owned.{Represents}
+use Rattle.owners.specs.OwnerLaws.{represents-owners, represents-freed}
+use Rattle.reading_theorems.specs.Accepted.{accepted-iff}
+use Rattle.editing_theorems.specs.DeleteLaws.{directory, one-edit, pages-then}
+use Rattle.editing_theorems.specs.EditedImage.{OneEdit, left}
+use Rattle.chain.specs.Claims.{Releases}
 use Rattle.chain.specs.KnownChain.{KnownChain}
 use Rattle.entries.specs.declared.Slot.{Slot}
-use Rattle.marks.specs.MapPages.{WritesMap, Releases}
-use Rattle.marks.specs.ReleaseLaws.{represents-release}
-use Rattle.slots.specs.Slots.{HasSpan, Rewrites, entryFrom}
-use Rattle.stages.specs.OneEdit as edit
-use Rattle.stages.specs.PageStage as stage
+use Rattle.edit.specs.Plans.{Removal, RemovesEntry}
+use Rattle.edit.specs.Steps.{whole-is}
 use Rattle.lookup.specs.Targets.{FileAt}
 use Rattle.volume.specs.Edits.{TableOf}
-use Rattle.delete.specs.Deletes.{HasFile}
+use Rattle.delete.specs.Deletes.{CanDelete}
 
-module _ (g : Geometry) (image table : List ℕ) (fit : Fit g image) (s : Slot) (e : Entry) (H : HasFile g image table s e) where
-  open HasFile H using (known, path, file)
+module _ {g : Geometry} {image table : List ℕ} (fit : Fit g image) {s : Slot} {e : Entry} (H : CanDelete g image table s e) where
+  open CanDelete H using (known, path, file)
   open TableOf known using (bytes, tree, accepted, table-is)
   open FileAt file using (target, label, links, found, chain, at)
 
@@ -43,10 +44,7 @@ module _ (g : Geometry) (image table : List ℕ) (fit : Fit g image) (s : Slot) 
   abbrev place : Place
   place = target .place
 
-  formed : pathOf path ≡ ok q
-  formed = reached path (tree .tree) target (file .reached) .formed
-
-  there : directoryAt (q .directories) atRoot theRoot (tree .tree) ≡ ok place
+  pub there : directoryAt (q .directories) (rootPlace (tree .tree)) ≡ ok place
   there = reached path (tree .tree) target (file .reached) .there
 
   abbrev k : ℕ
@@ -55,47 +53,44 @@ module _ (g : Geometry) (image table : List ℕ) (fit : Fit g image) (s : Slot) 
   pub well : WellFormed g image tree
   well = accepted-iff g image fit bytes tree .0 accepted
 
-  pub removal : edit.OneEdit g image
-  removal = record {
-    tree = tree;
-    well = well;
-    bytes = bytes;
-    names = q .directories;
-    place = place;
-    located = locate (q .directories) atRoot theRoot (tree .tree) place there;
-    after = remove k (place .items);
-    chain = [];
-    kept = innerPages (remove k (place .items));
-    edit = the-edit g path image bytes tree well q formed place there label links found;
-    fits = tt;
-    apart = λ x. omega (arith, pages-then g path image bytes tree well q formed place there label links found x, well .holds .apart x);
-  }
+  abbrev removal : OneEdit (directory g image bytes tree well (q .directories) place there k)
+  removal = one-edit g image bytes tree well (q .directories) place there k
 
-  -- ---- the table without the file's pages
+  -- the chain that goes
   pub known-chain : KnownChain g (viewOf g image) (e .start)
   known-chain = record { links = links; chain = chain }
 
-  table-left : (u : List ℕ) → Releases g (viewOf g image) (e .start) table u → Represents u (edit.left g image removal)
-  unfolding Releases removal
-  table-left u r = subst (λ (t : List ℕ). Represents t (edit.left g image removal)) (sym (r links chain)) (represents-release table (used tree) (edit.left g image removal) (pages links)
-      (subst (λ (t : List ℕ). Represents t (used tree)) (sym table-is) (represents-owners (g .pages) tree (well .holds .apart))) (pages-then g path image bytes tree well q formed place there label links found))
+  -- the table without its pages, and the entry's place
+  pub plan : (u : List ℕ) → Releases g (viewOf g image) (e .start) table u → Removal g image u s
+  unfolding Releases
+  plan u r = record {
+    marks = bitmapOf g (used tree) (tree .map);
+    directory = directory g image bytes tree well (q .directories) place there k;
+    edit = removal;
+    none = refl;
+    entering = record {
+      exchanges = λ _. record {
+        before = at .before;
+        entries = at .entries;
+        exchanged = e ∷ [];
+        later = at .later;
+        shape = at .shape;
+        then = at .removed;
+        first-is = at .at-is;
+        last-is = ap (λ (n : ℕ). n + 1) (at .at-is);
+        skip-is = at .skip-is;
+        next-is = at .next-is;
+      };
+      joins = λ z. absurd (z refl);
+    };
+    kept = subst (λ (t : List ℕ). Represents t (left removal)) (sym (r links chain)) (represents-freed table (used tree) (left removal) (pages links)
+        (subst (λ (t : List ℕ). Represents t (used tree)) (sym table-is) (represents-owners (g .pages) tree (well .holds .apart)))
+        (λ x. rw found at (pages-then g image bytes tree well (q .directories) place there k x)));
+  }
 
-  -- ---- the directory's page
-  pub has-entry : HasSpan g (viewOf g image) (s .page) (entryFrom g s (s .at)) (entryFrom g s (s .at + 1)) 0
-  unfolding play removal
-  has-entry = subst (λ (x : ℕ). HasSpan g (viewOf g image) (s .page) (entryFrom g s x) (entryFrom g s (x + 1)) 0) (at .at-is)
-      (stage.span g image removal (s .page) (s .skip) (at .before) (at .entries) (e ∷ []) [] (at .later) (at .skip-is) (at .shape) (at .removed label links found))
-
-  pub staged : (b : List ℕ) → Rewrites g (s .page) (entryFrom g s (s .at)) (entryFrom g s (s .at + 1)) [] (s .next .page) image b → b ≡ edit.stage₂ g image removal
-  unfolding play removal
-  staged b r =
-      let m = stage.packet g image removal (s .page) (s .skip) (at .before) (at .entries) (e ∷ []) [] (at .later) (at .skip-is) (at .shape) (at .removed label links found) in
-      let i = at .next-is _ _ m in
-      stage.page-stage g image removal (s .page) (s .skip) (at .before) (at .entries) (e ∷ []) [] (at .later) (at .skip-is) (at .shape) (at .removed label links found) b
-      (subst (λ (n : ℕ). Rewrites g (s .page) (entryFrom g s (length (at .entries))) (entryFrom g s (length (at .entries) + 1)) [] n image b) i
-      (subst (λ (x : ℕ). Rewrites g (s .page) (entryFrom g s x) (entryFrom g s (x + 1)) [] (s .next .page) image b) (sym (at .at-is)) r))
-
-  -- ---- the whole
-  pub unlinked : (u b c : List ℕ) → Releases g (viewOf g image) (e .start) table u → b ≡ edit.stage₂ g image removal → WritesMap g u b c → c ≡ plainEdit g (q .directories) (deleteEdit q place) tree image
-  unfolding deleteEdit removal
-  unlinked u b c r i w = edit.map-stage g image removal b i u c (table-left u r) w
+  -- the page writes are the rule's
+  pub unlinked : (u : List ℕ) → Releases g (viewOf g image) (e .start) table u → (budget : Budget) (after : List ℕ) (rest : Budget) → RemovesEntry g image u s budget after rest
+      → _≡_ {A = Progress} (record { image = after; budget = rest })
+      (writeAll g (editWrites g (bitmapOf g (used tree) (tree .map)) (deleteEdit q place) tree (edited g (q .directories) (deleteEdit q place) tree)) (record { image = image; budget = budget }))
+  unfolding deleteEdit plan
+  unlinked u r budget after rest h = h (plan u r) ∙ sym (whole-is removal budget)

@@ -1,12 +1,14 @@
 // Delete: a file's entry goes from its directory, and its pages are free.
 use directory::extensions::extension_of;
+use edit::Outcome;
 use entries::Slot;
 use geometry::Geometry;
 use geometry::Shape;
 use lookup::PathLookup;
+use packet::Budget;
+use rules::Checked;
+use rules::Edited;
 use rules::Entry;
-use volume::Edited;
-use walk::Walk;
 ghost use mathlib.Core.Path.{_≡_};
 ghost use lib.ListN.{length};
 ghost use Rattle.geometry.specs.Geometry.{Fit};
@@ -14,67 +16,82 @@ ghost use Rattle.rules.specs.Delete.{delete as deleted};
 ghost use Rattle.rules.specs.Result.{ok};
 ghost use Rattle.rules.specs.Calls.{deleteCall};
 ghost use Rattle.rules.specs.Promises.{Deletes};
-ghost use Rattle.volume.specs.Told.{editTold};
+ghost use Rattle.rules.specs.Answers.{editResult};
 ghost use Rattle.volume.specs.Edits.{TableOf, EditLeaves};
-ghost use Rattle.delete.specs.Deletes.{HasFile, Unlinks, PathDeleted};
+ghost use Rattle.packet.specs.Budgets.{Open};
+ghost use Rattle.delete.specs.Deletes.{CanDelete, Unlinks, PathDeleted};
 
-// Deletes the file of an entry: its pages are released in the table, its directory's page is written without it, then the bitmap.
-fn unlink(image: &mut [u8], g: Geometry, slot: Slot, e: Entry, owners: &mut [u16])
+// Deletes the file of an entry within a budget: its pages are free again in the table, its directory's page is written without it, then the bitmap.
+fn unlink(
+    image: &mut [u8],
+    g: Geometry,
+    slot: Slot,
+    e: Entry,
+    table: &mut [u16],
+    budget: Budget,
+) -> Budget
     requires { ⌜ Fit g (now image) ⌝ }
-    requires { ⌜ (length (now owners) ≡ g .pages) × HasFile g (now image) (now owners) slot e ⌝ }
-    ensures { λ _. ⌜ Unlinks g (now (image .entry)) (now (owners .entry)) slot e (now (image .exit)) ⌝ }
+    requires { ⌜ (length (now table) ≡ g .pages) × CanDelete g (now image) (now table) slot e × Open budget ⌝ }
+    ensures { λ r. ⌜ Unlinks g (now (image .entry)) (now (table .entry)) slot e budget (now (image .exit)) r ⌝ }
 {
-    marks::release(image, g, e.start, owners);
-    slots::exchange(image, g, slot, slot.at, slot.at + 1, b"");
-    marks::write_map(image, g, owners);
+    chain::release_chain(image, g, e.start, table);
+    edit::remove_entry(image, g, slot, table, budget)
 }
 
-// Deletes the file at a path. The image is accepted, and the table has the owners of its pages. Refusals: 14, 15, 16.
-fn delete_path(image: &mut [u8], g: Geometry, path: &[u8], owners: &mut [u16]) -> Edited
+// Deletes the file at a path within a budget. The table has the owners of the image's pages. 14, 15, 16.
+fn delete_path(
+    image: &mut [u8],
+    g: Geometry,
+    path: &[u8],
+    table: &mut [u16],
+    budget: Budget,
+) -> Outcome
     requires { ⌜ Fit g (now image) ⌝ }
-    requires { ⌜ (length (now owners) ≡ g .pages) × TableOf g (now image) (now owners) ⌝ }
-    ensures { λ r. ⌜ PathDeleted g (now (image .entry)) (now (path .entry)) r (now (image .exit)) ⌝ }
+    requires { ⌜ (length (now table) ≡ g .pages) × TableOf g (now image) (now table) × Open budget ⌝ }
+    ensures { λ r. ⌜ PathDeleted g (now (image .entry)) (now (path .entry)) budget (now (image .exit)) r ⌝ }
 {
     match lookup::find_file(image, g, path) {
-        PathLookup::Malformed => Edited::Refused(14, 0),
-        PathLookup::Nowhere => Edited::Refused(15, 0),
-        PathLookup::Absent(_, _, _) => Edited::Refused(15, 0),
+        PathLookup::Malformed => Outcome::Refused(14, 0),
+        PathLookup::Nowhere => Outcome::Refused(15, 0),
+        PathLookup::Absent(_, _, _) => Outcome::Refused(15, 0),
         PathLookup::At(slot, e) => {
             if extension_of(e.extension).attribute != 0 {
-                return Edited::Refused(16, 0);
+                return Outcome::Refused(16, 0);
             }
-            unlink(image, g, slot, e, owners);
-            Edited::Done
+            Outcome::Done(unlink(image, g, slot, e, table, budget))
         }
     }
 }
 
-// Deletes in an image whose geometry is known: the check, the path, then the table of the image as it then stands.
-fn delete_in(image: &mut [u8], g: Geometry, path: &[u8], owners: &mut [u16]) -> Edited
+// Deletes in an image whose geometry is known: the check, the delete, then the table of the image as it then stands.
+fn delete_in(image: &mut [u8], g: Geometry, path: &[u8], table: &mut [u16]) -> Edited
     requires { ⌜ Fit g (now image) ⌝ }
-    requires { ⌜ length (now owners) ≡ g .pages ⌝ }
-    ensures { λ r. ⌜ EditLeaves g (now (image .entry)) (deleted g (now (path .entry)) (now (image .entry))) r (now (image .exit)) (now (owners .exit)) ⌝ }
+    requires { ⌜ length (now table) ≡ g .pages ⌝ }
+    ensures { λ r. ⌜ EditLeaves g (now (image .entry)) (deleted g (now (path .entry)) (now (image .entry))) r (now (image .exit)) (now (table .exit)) ⌝ }
 {
-    match volume::check_table(image, g, owners) {
-        Walk::Refused(number, page) => Edited::Refused(number, page),
-        Walk::Done(_) => {
-            let answer = delete_path(image, g, path, owners);
-            volume::check_table(image, g, owners);
-            answer
+    match volume::check_table(image, g, table) {
+        Checked::Refused(number, page) => Edited::Refused(number, page),
+        Checked::Done(_) => {
+            let outcome = delete_path(image, g, path, table, Budget::unlimited());
+            volume::check_table(image, g, table);
+            match outcome {
+                Outcome::Done(_) => Edited::Done,
+                Outcome::Refused(number, page) => Edited::Refused(number, page),
+            }
         }
     }
 }
 
 // Deletes the file at a path. Fills the owner table as a check of the image as it then stands.
-pub fn delete(image: &mut [u8], size: u32, pages: u32, path: &[u8], owners: &mut [u16]) -> Edited
-    ensures { λ r. ⌜ (editTold r, now (image .exit), now (owners .exit)) ≡ deleteCall size pages (now (image .entry)) (now (owners .entry)) (now (path .entry)) ⌝ }
-    ensures { λ r. ⌜ Deletes size pages (now (image .entry)) (now (owners .entry)) (now (path .entry)) (editTold r ≡ ok tt) (now (image .exit)) ⌝ }
+pub fn delete(image: &mut [u8], size: u32, pages: u32, path: &[u8], table: &mut [u16]) -> Edited
+    ensures { λ r. ⌜ (editResult r, now (image .exit), now (table .exit)) ≡ deleteCall size pages (now (image .entry)) (now (table .entry)) (now (path .entry)) ⌝ }
+    ensures { λ r. ⌜ Deletes size pages (now (image .entry)) (now (table .entry)) (now (path .entry)) (editResult r ≡ ok tt) (now (image .exit)) ⌝ }
 {
-    match Geometry::new(size, pages, image.len(), owners.len()) {
-        Shape::Wrong => Edited::Refused(1, 0),
+    match Geometry::new(size, pages, image.len(), table.len()) {
+        Shape::Invalid => Edited::Refused(1, 0),
         Shape::Fits(g) => {
             let n = g.pages;
-            delete_in(image, g, path, &mut owners[..n])
+            delete_in(image, g, path, &mut table[..n])
         }
     }
 }

@@ -4,6 +4,7 @@ use mathlib.Core.Bool.{Bool, true, false}
 use mathlib.Core.List.{List}
 use Prim.Native.Nat.{ℕ, zero, suc, _+_, _-_, _*_, _%_, _≤_, _<_}
 use native.Mathlib.Omega.{arith}
+use lib.Dec.{eqb}
 use lib.ListN.{length, getD, take, drop, length-drop}
 use lib.Seq.{take-take, drop-drop}
 use borrow.Author.Tests.{le-leb, lt-leb, eq-eqb, ne-eqb}
@@ -14,7 +15,7 @@ use Rattle.geometry.specs.ListLaws.{drop-take}
 use Rattle.geometry.specs.Number.{number}
 use Rattle.rules.specs.Result.{andThen, refuse-unless}
 use Rattle.rules.specs.Chain.{anyPage}
-use Rattle.rules.specs.Control.{marker, Above, controlAt, fieldAt, mostLocal, placeZeros, headOf, rootPage, subPage}
+use Rattle.rules.specs.Control.{marker, Parent, controlAt, fieldAt, mostLocal, placeZeros, headOf, rootPage, subPage}
 use Rattle.directory.specs.declared.control.Root.{Root}
 use Rattle.directory.specs.declared.control.Root.the-variants.{Local, Remote, Refused}
 use Rattle.directory.specs.declared.control.Kind.{Kind}
@@ -60,39 +61,51 @@ module _ (g : Geometry) (b : List ℕ) (k : ℕ) (q : k ≡ controlSize g) where
     root-marker z = simp (headOf, ← q, le-leb k (length b) h, ← e, marker, ne-eqb m (169 + g .width) z)
 
     module _ (z : m ≡ 169 + g .width) where
+      marked : eqb m (169 + g .width) ≡ true
+      marked = eq-eqb m (169 + g .width) z
+
       pub root-progress : (controlAt (g .width) b % 2 ≡ 0 → ⊥) → Refused 5 ≡ control (g .width) (headOf g b)
       unfolding headOf andThen refuse-unless marker
-      root-progress y = simp (headOf, ← q, le-leb k (length b) h, ← e, marker, eq-eqb m (169 + g .width) z, ne-eqb (controlAt (g .width) b % 2) 0 y)
+      root-progress y = simp (headOf, ← q, le-leb k (length b) h, ← e, marker, marked, ne-eqb (controlAt (g .width) b % 2) 0 y)
 
       module _ (y : controlAt (g .width) b % 2 ≡ 0) (a : ℕ) (d : a ≡ number (take (g .width) (drop 1 b))) where
+        idle : eqb (controlAt (g .width) b % 2) 0 ≡ true
+        idle = eq-eqb (controlAt (g .width) b % 2) 0 y
+
         pub root-address : (a ≡ 0 → ⊥) → Refused 4 ≡ control (g .width) (headOf g b)
         unfolding headOf andThen refuse-unless marker
-        root-address w = simp (headOf, ← q, le-leb k (length b) h, ← e, marker, eq-eqb m (169 + g .width) z, eq-eqb (controlAt (g .width) b % 2) 0 y, ← d, ne-eqb a 0 w)
+        root-address w = simp (headOf, ← q, le-leb k (length b) h, ← e, marker, marked, idle, ← d, ne-eqb a 0 w)
 
         module _ (w : a ≡ 0) where
+          no-address : eqb a 0 ≡ true
+          no-address = eq-eqb a 0 w
+
           pub root-bits : (controlAt (g .width) b % 128 ≡ 0 → ⊥) → Refused 4 ≡ control (g .width) (headOf g b)
           unfolding headOf andThen refuse-unless marker
-          root-bits v = simp (headOf, ← q, le-leb k (length b) h, ← e, marker, eq-eqb m (169 + g .width) z, eq-eqb (controlAt (g .width) b % 2) 0 y, ← d, eq-eqb a 0 w, ne-eqb (controlAt (g .width) b % 128) 0 v)
+          root-bits v = simp (headOf, ← q, le-leb k (length b) h, ← e, marker, marked, idle, ← d, no-address, ne-eqb (controlAt (g .width) b % 128) 0 v)
 
           module _ (v : controlAt (g .width) b % 128 ≡ 0) where
+            no-bits : eqb (controlAt (g .width) b % 128) 0 ≡ true
+            no-bits = eq-eqb (controlAt (g .width) b % 128) 0 v
+
             remote : controlAt (g .width) b < 128 → (t : Bool) → placeZeros (g .width) (fieldAt (g .width) b) ≡ t → place (g .width) (fieldAt (g .width) b) ≡ control (g .width) (headOf g b)
             unfolding headOf andThen refuse-unless marker place
-            remote u true s = simp (place, headOf, ← q, le-leb k (length b) h, ← e, marker, eq-eqb m (169 + g .width) z, eq-eqb (controlAt (g .width) b % 2) 0 y, ← d, eq-eqb a 0 w, eq-eqb (controlAt (g .width) b % 128) 0 v, lt-leb 128 (controlAt (g .width) b) u, choose-false, s, choose-true)
-            remote u false s = simp (place, headOf, ← q, le-leb k (length b) h, ← e, marker, eq-eqb m (169 + g .width) z, eq-eqb (controlAt (g .width) b % 2) 0 y, ← d, eq-eqb a 0 w, eq-eqb (controlAt (g .width) b % 128) 0 v, lt-leb 128 (controlAt (g .width) b) u, choose-false, s)
+            remote u true s = simp (place, headOf, ← q, le-leb k (length b) h, ← e, marker, marked, idle, ← d, no-address, no-bits, lt-leb 128 (controlAt (g .width) b) u, choose-false, s, choose-true)
+            remote u false s = simp (place, headOf, ← q, le-leb k (length b) h, ← e, marker, marked, idle, ← d, no-address, no-bits, lt-leb 128 (controlAt (g .width) b) u, choose-false, s)
 
             pub root-remote : controlAt (g .width) b < 128 → (r : Root) → r ≡ place (g .width) (fieldAt (g .width) b) → r ≡ control (g .width) (headOf g b)
             root-remote u r f = f ∙ remote u (placeZeros (g .width) (fieldAt (g .width) b)) refl
 
             pub root-local : 128 ≤ controlAt (g .width) b → g .pages ≤ mostLocal → Local ≡ control (g .width) (headOf g b)
             unfolding headOf andThen refuse-unless marker
-            root-local u l = simp (headOf, ← q, le-leb k (length b) h, ← e, marker, eq-eqb m (169 + g .width) z, eq-eqb (controlAt (g .width) b % 2) 0 y, ← d, eq-eqb a 0 w, eq-eqb (controlAt (g .width) b % 128) 0 v, le-leb 128 (controlAt (g .width) b) u, choose-true, le-leb (g .pages) mostLocal l)
+            root-local u l = simp (headOf, ← q, le-leb k (length b) h, ← e, marker, marked, idle, ← d, no-address, no-bits, le-leb 128 (controlAt (g .width) b) u, choose-true, le-leb (g .pages) mostLocal l)
 
             pub root-large : 128 ≤ controlAt (g .width) b → mostLocal < g .pages → Refused 4 ≡ control (g .width) (headOf g b)
             unfolding headOf andThen refuse-unless marker
-            root-large u l = simp (headOf, ← q, le-leb k (length b) h, ← e, marker, eq-eqb m (169 + g .width) z, eq-eqb (controlAt (g .width) b % 2) 0 y, ← d, eq-eqb a 0 w, eq-eqb (controlAt (g .width) b % 128) 0 v, le-leb 128 (controlAt (g .width) b) u, choose-true, lt-leb (g .pages) mostLocal l)
+            root-large u l = simp (headOf, ← q, le-leb k (length b) h, ← e, marker, marked, idle, ← d, no-address, no-bits, le-leb 128 (controlAt (g .width) b) u, choose-true, lt-leb (g .pages) mostLocal l)
 
 -- a subdirectory's first page, test after test
-module _ (g : Geometry) (up : Above) (b : List ℕ) (k : ℕ) (q : k ≡ controlSize g) where
+module _ (g : Geometry) (up : Parent) (b : List ℕ) (k : ℕ) (q : k ≡ controlSize g) where
   pub sub-short : length b < k → SubFault g up b 4
   unfolding subPage andThen refuse-unless faultAt
   sub-short h p = simp (subPage, ← q, lt-leb k (length b) h)

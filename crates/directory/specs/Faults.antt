@@ -9,7 +9,7 @@ use Rattle.geometry.specs.Number.{number}
 use Rattle.rules.specs.Result.{Res, ok, err}
 use Rattle.rules.specs.Chain.{Test, anyPage}
 use Rattle.rules.specs.declared.Entry.{Entry}
-use Rattle.rules.specs.Control.{Above, Head, mapStart, mapCount, placeZeros, wholeEntries, rootPage, subPage}
+use Rattle.rules.specs.Control.{Parent, Head, mapStart, mapCount, placeZeros, wholeEntries, rootPage, subPage}
 use Rattle.rules.specs.Check.{judgeLabel}
 use Rattle.directory.specs.declared.control.Root.{Root}
 use Rattle.directory.specs.declared.control.Root.the-variants.{Local, Remote, Refused}
@@ -46,5 +46,5 @@ WholeFault g size r = (b : List ℕ) (p : ℕ) → length b ≡ size → wholeEn
 abbrev pub PageFault : Geometry → Kind → ℕ → List ℕ → ℕ → Type 0
 PageFault g k i b r = (p : ℕ) → testOf g k i p b ≡ faultAt r p
 
-abbrev pub SubFault : Geometry → Above → List ℕ → ℕ → Type 0
+abbrev pub SubFault : Geometry → Parent → List ℕ → ℕ → Type 0
 SubFault g up b r = (p : ℕ) → subPage g up 0 p b ≡ faultAt r p

@@ -8,26 +8,26 @@ use lib.ListN.{length, take, drop, length-drop}
 use lib.Seq.{take-all}
 use borrow.Author.Tests.{le-leb}
 use Rattle.geometry.specs.declared.Geometry.{Geometry}
-use Rattle.geometry.specs.declared.Shape.the-variants.{Fits, Wrong}
+use Rattle.geometry.specs.declared.Shape.the-variants.{Fits, Invalid}
 use Rattle.geometry.specs.Choose.{choose}
 use Rattle.geometry.specs.ChooseLaws.{choose-true, choose-false, on-choose}
 use Rattle.geometry.specs.Geometry.{geometryOf, Fit}
 use Rattle.geometry.specs.ShapeLaws.{sized-of}
-use Rattle.packet.specs.Packet.{viewOf}
 use Rattle.rules.specs.declared.Totals.{Totals}
+use Rattle.rules.specs.Chain.{viewsOf}
 use Rattle.rules.specs.ListText.{dumpOffset, dumpRight}
-use Rattle.walk.specs.declared.Walk.{Walk}
-use Rattle.walk.specs.declared.Walk.the-variants as w
+use Rattle.rules.specs.declared.Checked.{Checked}
+use Rattle.rules.specs.declared.Checked.the-variants as w
 use Rattle.volume.specs.Scans.{TableChecked}
 use Rattle.dump.specs.declared.Place.the-variants as place
-use Rattle.dump.specs.declared.Checked.the-variants as checked
+use Rattle.dump.specs.declared.Opened.the-variants as checked
 use Rattle.dump.specs.Prints.{placeOf, Checks}
 use Rattle.dump.specs.DumpLaws.{Right, right-sizes}
 
 -- ---- the header
-pub place-wrong : (dump : List ℕ) → (Right dump (dumpOffset dump) → ⊥) → place.Malformed ≡ placeOf dump
+pub place-invalid : (dump : List ℕ) → (Right dump (dumpOffset dump) → ⊥) → place.Malformed ≡ placeOf dump
 unfolding placeOf
-place-wrong dump k = go (dumpRight dump) refl
+place-invalid dump k = go (dumpRight dump) refl
   where
     go : (t : Bool) → dumpRight dump ≡ t → place.Malformed ≡ choose t (place.At (dumpOffset dump)) place.Malformed
     go true e = absurd (k (right-sizes dump e))
@@ -58,8 +58,8 @@ image-is dump offset e =
     take-all (length dump - offset) (drop offset dump) (omega (arith, length-drop offset dump)) ∙ ap (λ (o : ℕ). drop o dump) (k .1)
 
 -- ---- the check
-pub checks-wrong : (P N : ℕ) (image : List ℕ) → geometryOf P N (length image) 65535 ≡ Wrong → Checks P N image (checked.Refused 1 0)
-checks-wrong P N image e = rw e refl
+pub checks-invalid : (P N : ℕ) (image : List ℕ) → geometryOf P N (length image) 65535 ≡ Invalid → Checks P N image (checked.Refused 1 0)
+checks-invalid P N image e = rw e refl
 
 module _ (P N : ℕ) (image : List ℕ) (g : Geometry) (e : geometryOf P N (length image) 65535 ≡ Fits g) where
   pub fits : Fit g image
@@ -68,11 +68,11 @@ module _ (P N : ℕ) (image : List ℕ) (g : Geometry) (e : geometryOf P N (leng
   pub few : g .pages ≤ 65535
   few = fits .valid .few
 
-  module _ (r : Walk) (u : List ℕ) (k : TableChecked g (viewOf g image) r u) where
+  module _ (r : Checked) (u : List ℕ) (k : TableChecked g (viewsOf g image) r u) where
     pub checks-refused : (n p : ℕ) → r ≡ w.Refused n p → Checks P N image (checked.Refused n p)
-    checks-refused n p i = let a : TableChecked g (viewOf g image) (w.Refused n p) u = subst (λ (x : Walk). TableChecked g (viewOf g image) x u) i k in rw e (a .0)
+    checks-refused n p i = let a : TableChecked g (viewsOf g image) (w.Refused n p) u = subst (λ (x : Checked). TableChecked g (viewsOf g image) x u) i k in rw e (a .0)
 
     pub checks-done : (t : Totals) → r ≡ w.Done t → Checks P N image (checked.Done g t)
     checks-done t i =
-        let a : TableChecked g (viewOf g image) (w.Done t) u = subst (λ (x : Walk). TableChecked g (viewOf g image) x u) i k in
+        let a : TableChecked g (viewsOf g image) (w.Done t) u = subst (λ (x : Checked). TableChecked g (viewsOf g image) x u) i k in
         (e, record { fit = fits; tree = a .0; accepted = a .1; counted = a .2 })

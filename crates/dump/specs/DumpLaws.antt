@@ -33,9 +33,9 @@ right-sizes dump e =
 unfoldable by-test : List ℕ → Bool → List ℕ
 by-test dump t = refusalText (andAfter (refuse-unless t 19 0) (dumpText dump (drop (dumpOffset dump) dump)))
 
-pub listed-wrong : (dump : List ℕ) → dumpRight dump ≡ false → listText dump ≡ refusalText (err 19 0)
+pub listed-invalid : (dump : List ℕ) → dumpRight dump ≡ false → listText dump ≡ refusalText (err 19 0)
 unfolding listText by-test andThen refuse-unless
-listed-wrong dump e = ap (by-test dump) e
+listed-invalid dump e = ap (by-test dump) e
 
 pub listed-right : (dump : List ℕ) → dumpRight dump ≡ true → listText dump ≡ refusalText (dumpText dump (drop (dumpOffset dump) dump))
 unfolding listText by-test andThen refuse-unless

@@ -1,4 +1,4 @@
-pub mod Told
+pub mod PrintResult
 pub mod Prints
 pub mod LineLaws
 pub mod DumpLaws

@@ -6,11 +6,11 @@ use native.Mathlib.Omega.{arith}
 use native.Mathlib.Numerals.{add-one}
 use lib.ListN.{length, take, length-append}
 use Rattle.geometry.specs.declared.Geometry.{Geometry}
-use Rattle.packet.specs.Packet.{viewOf}
 use Rattle.rules.specs.declared.Line.{Line}
 use Rattle.rules.specs.Result.{Res, ok, err}
 use Rattle.rules.specs.ResultLaws.{clash, ok-inj}
 use Rattle.rules.specs.PageSetLaws.{within-length}
+use Rattle.rules.specs.Chain.{viewsOf}
 use Rattle.rules.specs.Tree.{Items, end, page, file, dir, Image, used}
 use Rattle.rules.specs.Check.{check}
 use Rattle.rules.specs.Soundness.{check-sound}
@@ -27,16 +27,16 @@ lines-count level (file l ls t) = omega (arith, lines-count level t)
 lines-count level (dir l d t) = omega (arith, length-append (linesOf (suc level) d) (linesOf level t), lines-count (suc level) d, lines-count level t)
 
 -- of an accepted image
-pub lines-are : (g : Geometry) (image : List ℕ) (i : Image) → check g (viewOf g image) ≡ ok i → linesIn g image ≡ linesOf 0 (i .tree)
+pub lines-are : (g : Geometry) (image : List ℕ) (i : Image) → check g (viewsOf g image) ≡ ok i → linesIn g image ≡ linesOf 0 (i .tree)
 unfolding linesIn
 lines-are g image i e = ap linesOr e
 
 pub lines-few : (g : Geometry) (image : List ℕ) → length (linesIn g image) ≤ g .pages
 unfolding linesIn
-lines-few g image = go (check g (viewOf g image)) refl
+lines-few g image = go (check g (viewsOf g image)) refl
   where
-    go : (r : Res Image) → check g (viewOf g image) ≡ r → length (linesOr r) ≤ g .pages
-    go (ok i) e = let c = check-sound g (viewOf g image) i e in omega (arith, lines-count 0 (i .tree), within-length (g .pages) (used i) (c .clear), c .room)
+    go : (r : Res Image) → check g (viewsOf g image) ≡ r → length (linesOr r) ≤ g .pages
+    go (ok i) e = let c = check-sound g (viewsOf g image) i e in omega (arith, lines-count 0 (i .tree), within-length (g .pages) (used i) (c .clear), c .room)
     go (err n p) e = omega arith
 
 -- ---- one line after the other

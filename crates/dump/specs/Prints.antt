@@ -7,10 +7,10 @@ use Rattle.geometry.specs.declared.Geometry.{Geometry}
 use Rattle.geometry.specs.declared.Shape.the-variants.{Fits}
 use Rattle.geometry.specs.Choose.{choose}
 use Rattle.geometry.specs.Geometry.{geometryOf, Fit}
-use Rattle.packet.specs.Packet.{viewOf}
 use Rattle.rules.specs.declared.Totals.{Totals}
 use Rattle.rules.specs.declared.Line.{Line}
 use Rattle.rules.specs.Result.{Res, ok, err}
+use Rattle.rules.specs.Chain.{viewsOf}
 use Rattle.rules.specs.Tree.{Image}
 use Rattle.rules.specs.Check.{check}
 use Rattle.rules.specs.Owners.{totals}
@@ -21,8 +21,8 @@ use Rattle.dump.specs.declared.Printed.{Printed}
 use Rattle.dump.specs.declared.Printed.the-variants as printed
 use Rattle.dump.specs.declared.Place.{Place}
 use Rattle.dump.specs.declared.Place.the-variants as place
-use Rattle.dump.specs.declared.Checked.{Checked}
-use Rattle.dump.specs.declared.Checked.the-variants as checked
+use Rattle.dump.specs.declared.Opened.{Opened}
+use Rattle.dump.specs.declared.Opened.the-variants as checked
 
 -- where the image stands in a dump that is right
 unfoldable pub placeOf : List ℕ → Place
@@ -34,27 +34,27 @@ linesOr (ok i) = linesOf 0 (i .tree)
 linesOr (err n p) = []
 
 unfoldable pub linesIn : Geometry → List ℕ → List Line
-linesIn g image = linesOr (check g (viewOf g image))
+linesIn g image = linesOr (check g (viewsOf g image))
 
 -- an image that is accepted, with its totals
 pub record AcceptedWith (g : Geometry) (image : List ℕ) (t : Totals) : Type 0 where
   pub fit : Fit g image
   pub tree : Image
-  pub accepted : check g (viewOf g image) ≡ ok tree
+  pub accepted : check g (viewsOf g image) ≡ ok tree
   pub counted : t ≡ totals tree
 
 -- what is known of the image after an answer
-abbrev pub IsChecked : List ℕ → Checked → Type 0
-IsChecked image (checked.Refused n p) = Unit {0}
-IsChecked image (checked.Done g t) = AcceptedWith g image t
+abbrev pub IsOpened : List ℕ → Opened → Type 0
+IsOpened image (checked.Refused n p) = Unit {0}
+IsOpened image (checked.Done g t) = AcceptedWith g image t
 
 -- the check's answer in a table of 65,535 numbers
-abbrev pub Checks : ℕ → ℕ → List ℕ → Checked → Type 0
-Checks P N image (checked.Refused n p) = inGeometry (geometryOf P N (length image) 65535) (err 1 0) (λ g. check g (viewOf g image)) ≡ err n p
+abbrev pub Checks : ℕ → ℕ → List ℕ → Opened → Type 0
+Checks P N image (checked.Refused n p) = inGeometry (geometryOf P N (length image) 65535) (err 1 0) (λ g. check g (viewsOf g image)) ≡ err n p
 Checks P N image (checked.Done g t) = (geometryOf P N (length image) 65535 ≡ Fits g) × AcceptedWith g image t
 
 -- the text of an answer
-unfoldable pub answerText : List ℕ → Checked → List ℕ
+unfoldable pub answerText : List ℕ → Opened → List ℕ
 answerText image (checked.Refused n p) = refusalText (err n p)
 answerText image (checked.Done g t) = totalsText g t ++ linesText (linesIn g image)
 

@@ -2,18 +2,18 @@
 use geometry::Geometry;
 use geometry::MOST_OWNERS;
 use geometry::Shape;
-use listing::Look;
+use listing::LineSearch;
+use rules::Checked;
 use rules::Totals;
-use walk::Walk;
 ghost use mathlib.Core.Path.{_≡_};
 ghost use Prim.Native.Nat.{_≤_};
 ghost use Rattle.geometry.specs.Geometry.{Fit};
-ghost use Rattle.packet.specs.Packet.{viewOf};
+ghost use Rattle.rules.specs.Chain.{viewsOf};
 ghost use Rattle.rules.specs.ListText.{linesText, textCall};
-ghost use Rattle.listing.specs.Standing.{Accepted};
+ghost use Rattle.listing.specs.KnownTree.{HasImage};
 ghost use Rattle.text.specs.Placed.{Written};
-ghost use Rattle.dump.specs.Told.{told};
-ghost use Rattle.dump.specs.Prints.{placeOf, linesIn, IsChecked, Checks, answerText, Prints};
+ghost use Rattle.dump.specs.PrintResult.{printResult};
+ghost use Rattle.dump.specs.Prints.{placeOf, linesIn, IsOpened, Checks, answerText, Prints};
 
 // What is printed: so many bytes of the output, or none because it is too short.
 pub enum Printed {
@@ -28,7 +28,7 @@ enum Place {
 }
 
 // The answer of an image's check.
-enum Checked {
+enum Opened {
     Refused(u8, usize),
     Done(Geometry, Totals),
 }
@@ -75,17 +75,17 @@ fn place_of(dump: &[u8]) -> Place
 }
 
 // Checks an image over an owner table of its own.
-fn check_image(image: &[u8], size: u32, pages: u32) -> Checked
+fn check_image(image: &[u8], size: u32, pages: u32) -> Opened
     ensures { λ r. ⌜ Checks size pages (now (image .entry)) r ⌝ }
 {
     match Geometry::new(size, pages, image.len(), MOST_OWNERS) {
-        Shape::Wrong => Checked::Refused(1, 0),
+        Shape::Invalid => Opened::Refused(1, 0),
         Shape::Fits(g) => {
             let n = g.pages;
-            let mut owners = [0u16; MOST_OWNERS];
-            match volume::check_table(image, g, &mut owners[..n]) {
-                Walk::Refused(number, page) => Checked::Refused(number, page),
-                Walk::Done(totals) => Checked::Done(g, totals),
+            let mut table = [0u16; MOST_OWNERS];
+            match volume::check_table(image, g, &mut table[..n]) {
+                Checked::Refused(number, page) => Opened::Refused(number, page),
+                Checked::Done(totals) => Opened::Done(g, totals),
             }
         }
     }
@@ -94,28 +94,28 @@ fn check_image(image: &[u8], size: u32, pages: u32) -> Checked
 // Writes the lines of all entries of an accepted image, in walk order.
 fn put_lines(image: &[u8], g: Geometry, out: &mut [u8], at: usize) -> usize
     requires { ⌜ Fit g (now image) ⌝ }
-    requires { ⌜ Accepted g (viewOf g (now image)) × (at ≤ 200) ⌝ }
+    requires { ⌜ HasImage g (viewsOf g (now image)) × (at ≤ 200) ⌝ }
     ensures { λ r. ⌜ Written at (linesText (linesIn g (now (image .entry)))) (now (out .entry)) r (now (out .exit)) ⌝ }
 {
     let mut next = at;
     let mut k = 0;
     loop {
         match listing::line_at(image, g, k) {
-            Look::Left(_) => return next,
-            Look::Found(line) => next = text::put_line(out, next, line),
+            LineSearch::Left(_) => return next,
+            LineSearch::Found(line) => next = text::put_line(out, next, line),
         }
         k += 1;
     }
 }
 
 // Writes the whole text.
-fn put_text(image: &[u8], answer: Checked, out: &mut [u8]) -> usize
-    requires { ⌜ IsChecked (now image) answer ⌝ }
+fn put_text(image: &[u8], answer: Opened, out: &mut [u8]) -> usize
+    requires { ⌜ IsOpened (now image) answer ⌝ }
     ensures { λ r. ⌜ Written 0 (answerText (now (image .entry)) answer) (now (out .entry)) r (now (out .exit)) ⌝ }
 {
     match answer {
-        Checked::Refused(number, page) => text::put_refusal(out, 0, number, page),
-        Checked::Done(g, totals) => {
+        Opened::Refused(number, page) => text::put_refusal(out, 0, number, page),
+        Opened::Done(g, totals) => {
             let lines = text::put_totals(out, 0, g, totals);
             put_lines(image, g, out, lines)
         }
@@ -123,8 +123,8 @@ fn put_text(image: &[u8], answer: Checked, out: &mut [u8]) -> usize
 }
 
 // Counts the text's bytes in no output, and writes it if it fits.
-fn print(image: &[u8], answer: Checked, out: &mut [u8]) -> Printed
-    requires { ⌜ IsChecked (now image) answer ⌝ }
+fn print(image: &[u8], answer: Opened, out: &mut [u8]) -> Printed
+    requires { ⌜ IsOpened (now image) answer ⌝ }
     ensures { λ r. ⌜ Prints (answerText (now (image .entry)) answer) (now (out .entry)) r (now (out .exit)) ⌝ }
 {
     let length = put_text(image, answer, &mut out[..0]);
@@ -137,10 +137,10 @@ fn print(image: &[u8], answer: Checked, out: &mut [u8]) -> Printed
 
 // Prints the text of a dump into an output; its image is checked once.
 pub fn list_text(dump: &[u8], out: &mut [u8]) -> Printed
-    ensures { λ r. ⌜ (told r, now (out .exit)) ≡ textCall (now (dump .entry)) (now (out .entry)) ⌝ }
+    ensures { λ r. ⌜ (printResult r, now (out .exit)) ≡ textCall (now (dump .entry)) (now (out .entry)) ⌝ }
 {
     match place_of(dump) {
-        Place::Malformed => print(dump, Checked::Refused(19, 0), out),
+        Place::Malformed => print(dump, Opened::Refused(19, 0), out),
         Place::At(offset) => {
             let size = geometry::number_at(dump, 0, SIZE_BYTES) as u32;
             let pages = geometry::number_at(dump, PAGES_AT, PAGES_BYTES) as u32;

@@ -1,20 +1,21 @@
 -- Keys of entries: read one after the other, and searched.
 use mathlib.Core.Path.{_≡_, refl, ap, ap₂, sym, _∙_}
 use mathlib.Core.Bool.{Bool, true, false}
-use mathlib.Core.List.{List, [], _∷_, _++_}
+use mathlib.Core.List.{List, _∷_}
 use Prim.Native.Nat.{ℕ, zero, suc, _+_, _-_, _*_, _≤_, _<_, min}
+use native.Mathlib.Decide.{decLe}
 use native.Mathlib.Nat.{mul-le-mul-left}
 use native.Mathlib.Omega.{arith}
 use lib.Dec.{ltb, eqb}
-use lib.ListN.{length, getD, take, drop}
-use lib.Seq.{drop-drop, take-take, getD-take, take-all, take-append-le, take-append-add}
+use lib.ListN.{length, take, drop}
+use lib.Seq.{drop-drop, take-take, getD-take, take-add}
 use borrow.Author.Tests.{lt-ltb, le-ltb, ltb-true, ltb-false, eqb-true, eqb-false}
 use Rattle.geometry.specs.declared.Geometry.{Geometry}
 use Rattle.geometry.specs.Geometry.{entrySize, Valid}
 use Rattle.geometry.specs.ListLaws.{drop-of-take}
 use Rattle.geometry.specs.Number.{number}
 use Rattle.rules.specs.PageSets.{hit, count, mem}
-use Rattle.rules.specs.PageSetLaws.{hits, same, other, hit-same, count-append}
+use Rattle.rules.specs.PageSetLaws.{hits, same, other, hit-same, count-append, mem-true}
 use Rattle.rules.specs.Names.{key}
 use Rattle.entries.specs.EntrySlots.{entryKey, keysFrom}
 
@@ -30,12 +31,6 @@ keys-cut g h (suc m) s l k =
     ap₂ (λ (x : ℕ) (xs : List ℕ). x ∷ xs)
     (ap₂ (λ (x : List ℕ) (y : ℕ). key (number x) y) (take-take 4 s l (omega arith)) (getD-take s l 4 0 (omega arith)))
     (ap (keysFrom g m) (drop-of-take (entrySize g) s l j) ∙ keys-cut g h m (s - entrySize g) (drop (entrySize g) l) (omega arith))
-
--- the first of more keys are fewer keys
-pub keys-take : (g : Geometry) (m k : ℕ) (b : List ℕ) → m ≤ k → take m (keysFrom g k b) ≡ keysFrom g m b
-keys-take g zero k b h = refl
-keys-take g (suc m) zero b h = absurd (omega arith)
-keys-take g (suc m) (suc k) b h = ap (λ (xs : List ℕ). key (number (take 4 b)) (getD b 4 0) ∷ xs) (keys-take g m k (drop (entrySize g) b) (omega arith))
 
 -- ---- a search from entry i on
 module _ (g : Geometry) (page : List ℕ) (k m i at : ℕ) (h : i < m) (r : Bool) (f : r ≡ eqb (entryKey (drop at page)) k) where
@@ -68,32 +63,29 @@ keys-begin g page k m from = let e : m - 0 ≡ m = omega arith in rw e
 pub keys-end : (g : Geometry) (page : List ℕ) (k m i at : ℕ) → m ≤ i → false ≡ mem k (keysFrom g (m - i) (drop at page))
 keys-end g page k m i at h = let e : m - i ≡ 0 = omega arith in rw e (sym (le-ltb 0 0 (omega arith)))
 
--- ---- a search in the first `left` keys of xs ++ ys, first among xs
-module _ (k left : ℕ) (xs ys : List ℕ) where
-  pub in-first : mem k (take (min left (length xs)) xs) ≡ true → mem k (take left (xs ++ ys)) ≡ true
-  in-first e = lt-ltb 0 (count k (take left (xs ++ ys))) (omega (arith, ltb-true 0 (count k (take (min left (length xs)) xs)) e, more))
-    where
-      grow : (a : ℕ) (us vs : List ℕ) → count k (take (min a (length us)) us) ≤ count k (take a (us ++ vs))
-      grow zero us vs = let z : min 0 (length us) ≡ 0 = omega arith in rw z (omega arith)
-      grow (suc a) [] vs = let z : min (suc a) 0 ≡ 0 = omega arith in rw z (omega arith)
-      grow (suc a) (u ∷ us) vs = let z : min (suc a) (suc (length us)) ≡ suc (min a (length us)) = omega arith in rw z (omega (arith, grow a us vs))
+-- ---- a search in the first `left` of some keys, first among the first n
+module _ (k left n : ℕ) (l : List ℕ) where
+  two-parts : n ≤ left → count k (take left l) ≡ count k (take n l) + count k (take (left - n) (drop n l))
+  two-parts h =
+      let s : left ≡ n + (left - n) = omega arith in
+      ap (λ (a : ℕ). count k (take a l)) s ∙ ap (count k) (take-add n (left - n) l) ∙ count-append k (take n l) (take (left - n) (drop n l))
 
-      more : count k (take (min left (length xs)) xs) ≤ count k (take left (xs ++ ys))
-      more = grow left xs ys
+  pub in-first : mem k (take (min left n) l) ≡ true → mem k (take left l) ≡ true
+  in-first e = elim (decLe n left) [
+    | yes h ↦ let m : min left n ≡ n = omega arith in mem-true k (take left l) (omega (arith, two-parts h, ltb-true 0 (count k (take n l)) (sym (ap (λ (a : ℕ). mem k (take a l)) m) ∙ e)))
+    | no h ↦ let m : min left n ≡ left = omega arith in sym (ap (λ (a : ℕ). mem k (take a l)) m) ∙ e
+  ]
 
-  module _ (e : mem k (take (min left (length xs)) xs) ≡ false) where
-    pub not-in-first : left ≤ length xs → mem k (take left (xs ++ ys)) ≡ false
-    not-in-first h =
-        let m : min left (length xs) ≡ left = omega arith in
-        ap (mem k) (take-append-le left xs ys h) ∙ (rw m at e)
+  module _ (e : mem k (take (min left n) l) ≡ false) where
+    pub not-in-first : left ≤ n → mem k (take left l) ≡ false
+    not-in-first h = let m : min left n ≡ left = omega arith in sym (ap (λ (a : ℕ). mem k (take a l)) m) ∙ e
 
-    pub in-rest : length xs < left → mem k (take left (xs ++ ys)) ≡ mem k (take (left - length xs) ys)
+    pub in-rest : n < left → mem k (take left l) ≡ mem k (take (left - n) (drop n l))
     in-rest h =
-        let m : min left (length xs) ≡ length xs = omega arith in
-        let s : left ≡ length xs + (left - length xs) = omega arith in
-        let none : count k xs ≡ 0 = omega (arith, ltb-false 0 (count k (take (min left (length xs)) xs)) e, ap (λ (a : ℕ). count k (take a xs)) m, ap (count k) (take-all (length xs) xs (omega arith))) in
-        let c : count k (xs ++ take (left - length xs) ys) ≡ count k (take (left - length xs) ys) = omega (arith, count-append k xs (take (left - length xs) ys)) in
-        ap (λ (a : ℕ). mem k (take a (xs ++ ys))) s ∙ ap (mem k) (take-append-add xs ys (left - length xs)) ∙ ap (ltb 0) c
+        let m : min left n ≡ n = omega arith in
+        let z : count k (take n l) ≡ 0 = omega (arith, ltb-false 0 (count k (take n l)) (sym (ap (λ (a : ℕ). mem k (take a l)) m) ∙ e)) in
+        let c : count k (take left l) ≡ count k (take (left - n) (drop n l)) = omega (arith, two-parts (omega arith)) in
+        ap (ltb 0) c
 
 pub entry-least : (g : Geometry) → Valid g → 7 ≤ entrySize g
 unfolding entrySize

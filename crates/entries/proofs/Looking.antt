@@ -1,39 +1,29 @@
 -- The search for a key among a directory's first entries, page by page: what is left to be searched decides.
-use mathlib.Core.Path.{_≡_, refl, ap, ap₂, sym, _∙_, subst}
+use mathlib.Core.Path.{_≡_, refl, ap, ap₂, sym, _∙_}
 use mathlib.Core.Bool.{Bool, true, false}
-use mathlib.Core.List.{List, [], _∷_, _++_}
+use mathlib.Core.List.{List, []}
 use Prim.Native.Nat.{ℕ, zero, suc, _+_, _-_, _*_, _/_, _≤_, _<_, min}
 use native.Mathlib.Decide.{decLe}
 use native.Mathlib.Nat.{mul-le-mul-left, mul-div-le}
 use native.Mathlib.Omega.{arith}
-use lib.ListN.{length, take, drop, length-append, length-drop}
-use lib.Seq.{drop-drop}
+use lib.ListN.{length, take, drop, length-drop}
 use Rattle.geometry.specs.declared.Geometry.{Geometry}
 use Rattle.geometry.specs.Geometry.{entrySize, controlSize, Fit}
-use Rattle.geometry.specs.ListLaws.{drop-of-take}
 use Rattle.geometry.specs.Page.{pageOf}
 use Rattle.geometry.specs.PageLaws.{page-length}
 use Rattle.packet.specs.Packet.{good, View, viewOf}
-use Rattle.packet.specs.Reading.{right-packet}
 use Rattle.rules.specs.PageSets.{mem}
-use Rattle.rules.specs.Chain.{Link, link, first}
-use Rattle.chain.specs.Claims.{IsGood}
-use Rattle.chain.specs.Steps.{firstStep}
+use Rattle.rules.specs.Chain.{Link, first}
+use Rattle.rules.specs.Tree.{Token, linkTokens}
 use Rattle.entries.specs.declared.Slot.{Slot}
-use Rattle.entries.specs.EntrySlots.{keysFrom, chainKeys, Fits, openOf}
-use Rattle.entries.proofs.KeyLaws.{length-keys, keys-cut, keys-take, in-first, not-in-first, in-rest}
-use Rattle.entries.proofs.AtSlot.{AtSlot, open-good, at-slot-first, next-page, at-slot-next}
-use Rattle.chain.specs.KnownChain.{ChainStands}
+use Rattle.entries.specs.EntrySlots.{keysFrom, chainKeys}
+use Rattle.entries.specs.TokensAt.{entriesAt, TokensAt, PageAt, PageAhead, LastPage}
+use Rattle.entries.proofs.KeyLaws.{keys-cut, in-first, not-in-first, in-rest, entry-least}
+use Rattle.entries.proofs.Places.{data-from}
+use Rattle.entries.proofs.TokenLaws.{tokenKeys, token-keys, first-keys, keys-after}
 
--- the bytes from a place of a packet's data on, as the code reads them from the page
-pub data-from : (g : Geometry) (image : List ℕ) (p at : ℕ) (b : List ℕ) (n : ℕ) → viewOf g image p ≡ good b n → at ≤ length b → drop at b ≡ take (length b - at) (drop (1 + at) (pageOf g p image))
-unfolding viewOf
-data-from g image p at b n e i =
-    let r = right-packet (g .width) p (pageOf g p image) b n e in
-    ap (drop at) (r .bytes-are) ∙ drop-of-take at (length b) (drop 1 (pageOf g p image)) i ∙ ap (take (length b - at)) (drop-drop at 1 (pageOf g p image))
-
--- the keys of a page's entries
-pub page-keys : (g : Geometry) (image : List ℕ) (p skip m : ℕ) (b : List ℕ) (n : ℕ) → 7 ≤ entrySize g → viewOf g image p ≡ good b n → m ≤ length (drop skip b) / entrySize g
+-- the keys of a page's entries, as the code reads them from the page
+page-keys : (g : Geometry) (image : List ℕ) (p skip m : ℕ) (b : List ℕ) (n : ℕ) → 7 ≤ entrySize g → viewOf g image p ≡ good b n → m ≤ length (drop skip b) / entrySize g
     → keysFrom g m (drop (1 + skip) (pageOf g p image)) ≡ keysFrom g m (drop skip b)
 page-keys g image p skip m b n h e k =
     let l : entrySize g * m ≤ entrySize g * (length (drop skip b) / entrySize g) = mul-le-mul-left (entrySize g) k in
@@ -47,79 +37,71 @@ page-keys g image p skip m b n h e k =
     none zero q = refl
     none (suc m) q = absurd (omega arith)
 
--- what holds before a page is searched
-pub record Looking (g : Geometry) (v : View) (k : ℕ) (answer : Bool) (total : ℕ) (s : Slot) (left : ℕ) : Type 0 where
-  pub bytes : List ℕ
-  pub more : List Link
-  pub at-slot : AtSlot g v total s bytes more
-  pub enough : left ≤ length (keysFrom g (s .count) (drop (s .skip) bytes) ++ chainKeys g 0 more)
-  pub same : mem k (take left (keysFrom g (s .count) (drop (s .skip) bytes) ++ chainKeys g 0 more)) ≡ answer
+-- at the first entry of a page, where `left` keys are still to be searched
+pub record Looking (g : Geometry) (v : View) (k : ℕ) (answer : Bool) (s : Slot) (left : ℕ) : Type 0 where
+  pub ts : List Token
+  pub ahead : TokensAt g v s ts
+  pub at-start : s .at ≡ 0
+  pub enough : left ≤ length (tokenKeys ts)
+  pub same : mem k (take left (tokenKeys ts)) ≡ answer
 
-module _ (g : Geometry) (image : List ℕ) (fit : Fit g image) where
+pub look-first : {g : Geometry} {v : View} {s : Slot} (k m : ℕ) (ls : List Link) → PageAt g v (controlSize g) s (linkTokens g (controlSize g) ls) → m ≤ length (chainKeys g (controlSize g) ls)
+    → Looking g v k (mem k (take m (chainKeys g (controlSize g) ls))) s m
+look-first {g} k m ls p n =
+    let e : tokenKeys (p .later) ≡ chainKeys g (controlSize g) ls = ap tokenKeys (sym (p .split)) ∙ token-keys g (controlSize g) ls in
+    record { ts = p .later; ahead = p .ahead; at-start = p .at-start; enough = omega (arith, ap length e); same = ap (λ (l : List ℕ). mem k (take m l)) e }
+
+module _ {g : Geometry} {image : List ℕ} (fit : Fit g image) {k : ℕ} {answer : Bool} {s : Slot} {left : ℕ} (L : Looking g (viewOf g image) k answer s left) where
+  open Looking L using (ts, ahead, at-start, enough, same)
+
   abbrev v : View
   v = viewOf g image
 
-  pub started : (k m start : ℕ) (s : Slot) (ls : List Link) → s ≡ openOf g v (controlSize g) (firstStep start start) → ChainStands g v start ls → m ≤ length (chainKeys g (controlSize g) ls)
-      → Looking g v k (mem k (take m (chainKeys g (controlSize g) ls))) (length ls) s m
-  started k m start s [] e d n = absurd (omega (arith, d .some))
-  started k m start s (link p b ∷ ls) e d n =
-      let f = at-slot-first g image fit start p b ls d in
-      subst (λ (x : Slot). Looking g v k (mem k (take m (chainKeys g (controlSize g) (link p b ∷ ls)))) (suc (length ls)) x m) (sym (e ∙ open-good g v (controlSize g) (firstStep start start) b (first ls) (f .0)))
-      (record { bytes = b; more = ls; at-slot = f .1; enough = n; same = refl })
+  module _ (page : List ℕ) (e : page ≡ pageOf g (s .page) image) (j : ℕ) (i : j ≡ min left (s .count)) where
+    -- what is searched lies in the page
+    pub searched : (1 + s .skip + entrySize g * j ≤ length page) × (length page ≤ 256)
+    searched =
+        let a : entrySize g * j ≤ entrySize g * s .count = mul-le-mul-left (entrySize g) (omega arith) in
+        let l = ap length e ∙ page-length g image (s .page) fit (ahead .at-slot .fits .inside) in
+        (omega (arith, ahead .at-slot .fits .room), omega (arith, fit .valid .most))
 
-  -- what is searched lies in the page
-  pub searched : (s : Slot) (left j : ℕ) (page : List ℕ) → Fits g s → page ≡ pageOf g (s .page) image → j ≡ min left (s .count) → (1 + s .skip + entrySize g * j ≤ length page) × (length page ≤ 256)
-  searched s left j page f e i =
-      let a : entrySize g * j ≤ entrySize g * s .count = mul-le-mul-left (entrySize g) (omega arith) in
-      let l = ap length e ∙ page-length g image (s .page) fit (f .inside) in
-      (omega (arith, f .room), omega (arith, fit .valid .most))
+    module _ (r : Bool) (f : r ≡ mem k (keysFrom g j (drop (1 + s .skip) page))) where
+      -- it is the page's part of what is left
+      read : r ≡ mem k (take (min left (s .count)) (tokenKeys ts))
+      read =
+          let m = min left (s .count) in
+          let n : m ≤ s .count - s .at = omega (arith, at-start) in
+          let b = entriesAt g (s .skip) (s .at) (ahead .bytes) in
+          let z : entrySize g * s .at ≡ 0 = ap (λ (x : ℕ). entrySize g * x) at-start ∙ omega arith in
+          let o : keysFrom g m (drop (1 + s .skip) (pageOf g (s .page) image)) ≡ keysFrom g m b =
+          page-keys g image (s .page) (s .skip) m (ahead .bytes) (first (ahead .more)) (entry-least g (fit .valid)) (ahead .at-slot .here) (omega (arith, ahead .at-slot .count-is))
+          ∙ ap (λ (x : ℕ). keysFrom g m (drop x (drop (s .skip) (ahead .bytes)))) (sym z) in
+          let q : keysFrom g m b ≡ take m (tokenKeys ts) = sym (first-keys g m (s .count - s .at) b (linkTokens g 0 (ahead .more)) n) ∙ ap (λ (x : List Token). take m (tokenKeys x)) (sym (ahead .are)) in
+          f ∙ ap₂ (λ (a : ℕ) (x : List ℕ). mem k (keysFrom g a (drop (1 + s .skip) x))) i e ∙ ap (mem k) (o ∙ q)
 
-  module _ (k : ℕ) (answer : Bool) (total : ℕ) (s : Slot) (left : ℕ) (L : Looking g v k answer total s left) (h : 7 ≤ entrySize g) (page : List ℕ) (e : page ≡ pageOf g (s .page) image)
-      (j : ℕ) (i : j ≡ min left (s .count)) (r : Bool) (f : r ≡ mem k (keysFrom g j (drop (1 + s .skip) page))) where
-    open Looking L using (bytes, more, at-slot, enough, same)
+      pub look-found : r ≡ true → true ≡ answer
+      look-found z = sym (in-first k left (s .count) (tokenKeys ts) (sym read ∙ z)) ∙ same
 
-    abbrev keys : List ℕ
-    keys = keysFrom g (s .count) (drop (s .skip) bytes)
+      module _ (z : r ≡ false) where
+        pub look-done : left ≤ s .count → false ≡ answer
+        look-done l = sym (not-in-first k left (s .count) (tokenKeys ts) (sym read ∙ z) l) ∙ same
 
-    read : r ≡ mem k (take (min left (length keys)) keys)
-    read =
-        let l = length-keys g (s .count) (drop (s .skip) bytes) in
-        let a : min left (s .count) ≤ s .count = omega arith in
-        f ∙ ap₂ (λ (a : ℕ) (x : List ℕ). mem k (keysFrom g a (drop (1 + s .skip) x))) i e
-        ∙ ap (mem k) (page-keys g image (s .page) (s .skip) (min left (s .count)) bytes (first more) h (at-slot .here) (omega (arith, at-slot .count-is)) ∙ sym (keys-take g (min left (s .count)) (s .count) (drop (s .skip) bytes) a))
-        ∙ ap (λ (i : ℕ). mem k (take (min left i) keys)) (sym l)
+        -- some are left, so there is a next page
+        module _ (l : s .count < left) where
+          pub look-some : LastPage s ts → ⊥
+          look-some x = omega (arith, enough, ap (λ (y : List Token). length (tokenKeys y)) (x .rest .split), keys-after (x .entries) [] .0, x .rest .count-is)
 
-    pub found : r ≡ true → true ≡ answer
-    found z = sym (in-first k left keys (chainKeys g 0 more) (sym read ∙ z)) ∙ same
-
-    module _ (z : r ≡ false) where
-      pub not-found : left ≤ s .count → false ≡ answer
-      not-found l = sym (not-in-first k left keys (chainKeys g 0 more) (sym read ∙ z) (omega (arith, length-keys g (s .count) (drop (s .skip) bytes)))) ∙ same
-
-      some-left : s .count < left → 0 < length (chainKeys g 0 more)
-      some-left l = omega (arith, enough, length-append keys (chainKeys g 0 more), length-keys g (s .count) (drop (s .skip) bytes))
-
-      some-more : (ls : List Link) → 0 < length (chainKeys g 0 ls) → 0 < length ls
-      some-more [] l = l
-      some-more (x ∷ ls) l = omega arith
-
-      -- there is a next page
-      pub next-good : s .count < left → (s .next .page < g .pages) × IsGood (v (s .next .page)) × (s .next .count < total)
-      next-good l = next-page g image fit total s bytes more at-slot (some-more more (some-left l))
-
-      pub look-on : (t : Slot) → t ≡ openOf g v 0 (s .next) → s .count < left → total ≤ g .pages → Looking g v k answer total t (left - s .count)
-      look-on t i l u = go more refl at-slot
-        where
-          go : (ls : List Link) → more ≡ ls → AtSlot g v total s bytes ls → Looking g v k answer total t (left - s .count)
-          go [] q o = absurd (omega (arith, some-left l, ap (λ (x : List Link). length (chainKeys g 0 x)) q))
-          go (link p b ∷ ls) q o =
-              let w = at-slot-next g image fit total s bytes p b ls o u in
-              let m : length keys ≡ s .count = length-keys g (s .count) (drop (s .skip) bytes) in
-              subst (λ (x : Slot). Looking g v k answer total x (left - s .count)) (sym (i ∙ open-good g v 0 (s .next) b (first ls) (w .0))) (record {
-                bytes = b;
-                more = ls;
-                at-slot = w .1;
-                enough = omega (arith, enough, length-append keys (chainKeys g 0 more), ap (λ (x : List Link). length (chainKeys g 0 x)) q);
-                same = ap (λ (x : ℕ). mem k (take (left - x) (chainKeys g 0 (link p b ∷ ls)))) (sym m) ∙ ap (λ (x : List Link). mem k (take (left - length keys) (chainKeys g 0 x))) (sym q)
-                    ∙ sym (in-rest k left keys (chainKeys g 0 more) (sym read ∙ z) (omega arith)) ∙ same;
-              })
+          pub look-on : {s′ : Slot} → PageAhead g v s ts s′ → Looking g v k answer s′ (left - s .count)
+          look-on p =
+              let a = keys-after (p .entries) (p .after) in
+              let n : length (p .entries) ≡ s .count = omega (arith, p .rest .count-is, at-start) in
+              let later : tokenKeys (p .after) ≡ tokenKeys (p .page .later) = ap tokenKeys (p .page .split) in
+              let d : drop (s .count) (tokenKeys ts) ≡ tokenKeys (p .page .later) =
+              ap₂ (λ (x : ℕ) (y : List Token). drop x (tokenKeys y)) (sym n) (p .rest .split) ∙ a .1 ∙ later in
+              record {
+                ts = p .page .later;
+                ahead = p .page .ahead;
+                at-start = p .page .at-start;
+                enough = omega (arith, enough, ap (λ (y : List Token). length (tokenKeys y)) (p .rest .split), a .0, ap length later);
+                same = ap (λ (x : List ℕ). mem k (take (left - s .count) x)) (sym d) ∙ sym (in-rest k left (s .count) (tokenKeys ts) (sym read ∙ z) l) ∙ same;
+              }

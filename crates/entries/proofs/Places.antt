@@ -1,4 +1,4 @@
--- A place in a directory: the entry read there, what is left in its page, and the measure of a loop over places.
+-- A place in a directory: the entry that is read there, and what is left in its page.
 use mathlib.Core.Path.{_≡_, ap, sym, _∙_}
 use mathlib.Core.List.{List, _∷_, _++_}
 use Prim.Native.Nat.{ℕ, suc, _+_, _-_, _*_, _/_, _≤_, _<_}
@@ -11,21 +11,24 @@ use Rattle.geometry.specs.Geometry.{entrySize, Valid, Fit}
 use Rattle.geometry.specs.ListLaws.{drop-of-take}
 use Rattle.geometry.specs.Number.{number}
 use Rattle.geometry.specs.Page.{pageOf}
-use Rattle.packet.specs.Packet.{viewOf}
+use Rattle.packet.specs.Packet.{good, viewOf}
+use Rattle.packet.specs.Reading.{right-packet}
 use Rattle.rules.specs.declared.Entry.{Entry}
 use Rattle.rules.specs.Chain.{Link, first}
 use Rattle.rules.specs.Names.{entryOf}
 use Rattle.rules.specs.Tree.{Token, entry, entriesIn}
 use Rattle.entries.specs.declared.Slot.{Slot}
-use Rattle.entries.specs.EntrySlots.{Fits, advanced}
+use Rattle.entries.specs.EntrySlots.{Fits}
+use Rattle.entries.specs.TokensAt.{AtSlot, entriesAt}
 use Rattle.entries.proofs.KeyLaws.{entry-least}
-use Rattle.entries.proofs.AtSlot.{AtSlot}
-use Rattle.entries.proofs.Looking.{data-from}
 
 -- ---- one entry of a page
--- the bytes of the entries from number i on
-abbrev pub entriesAt : Geometry → ℕ → ℕ → List ℕ → List ℕ
-entriesAt g skip i b = drop (entrySize g * i) (drop skip b)
+-- the bytes from a place of a packet's data on, as the code reads them from the page
+pub data-from : (g : Geometry) (image : List ℕ) (p at : ℕ) (b : List ℕ) (n : ℕ) → viewOf g image p ≡ good b n → at ≤ length b → drop at b ≡ take (length b - at) (drop (1 + at) (pageOf g p image))
+unfolding viewOf
+data-from g image p at b n e i =
+    let r = right-packet (g .width) p (pageOf g p image) b n e in
+    ap (drop at) (r .bytes-are) ∙ drop-of-take at (length b) (drop 1 (pageOf g p image)) i ∙ ap (take (length b - at)) (drop-drop at 1 (pageOf g p image))
 
 entry-cut : (n s : ℕ) (l : List ℕ) → 5 + 2 * n ≤ s → entryOf n (take s l) ≡ entryOf n l
 entry-cut n s l h = λ i. record {
@@ -39,10 +42,10 @@ entry-cut n s l h = λ i. record {
     part a n k = ap (take n) (drop-of-take a s l (omega arith)) ∙ take-take n (s - a) (drop a l) (omega arith)
 
 -- the entry that the code reads from the page is that of the packet's data
-pub entry-read : (g : Geometry) (image : List ℕ) (total : ℕ) (s : Slot) (b : List ℕ) (more : List Link) (e : Entry) → Fit g image → AtSlot g (viewOf g image) total s b more → s .at < s .count
+pub entry-read : (g : Geometry) (image : List ℕ) (s : Slot) (b : List ℕ) (more : List Link) (e : Entry) → Fit g image → AtSlot g (viewOf g image) s b more → s .at < s .count
     → e ≡ entryOf (g .width) (drop (1 + s .skip + entrySize g * s .at) (pageOf g (s .page) image)) → e ≡ entryOf (g .width) (entriesAt g (s .skip) (s .at) b)
 unfolding entrySize
-entry-read g image total s b more e fit h l q =
+entry-read g image s b more e fit h l q =
     let es = entrySize g in
     let k : es * suc (s .at) ≤ es * s .count = mul-le-mul-left es l in
     let j : es * (length (drop (s .skip) b) / es) ≤ length (drop (s .skip) b) = mul-div-le (length (drop (s .skip) b)) es in
@@ -65,12 +68,5 @@ module _ (g : Geometry) (skip i n : ℕ) (b : List ℕ) (h : i < n) where
       ap (λ (x : ℕ). entriesIn g x (entriesAt g skip i b) ++ ts) s ∙ ap (λ (x : List ℕ). entry (entryOf (g .width) (entriesAt g skip i b)) ∷ (entriesIn g (n - (i + 1)) x ++ ts)) after-one
 
 -- ---- counts that fit
-pub slot-few : (g : Geometry) (s : Slot) → Valid g → Fits g s → s .count < 256
-slot-few g s v f = let a : 7 * s .count ≤ entrySize g * s .count = mul-le-mul-right (s .count) (entry-least g v) in omega (arith, f .room, v .most)
-
--- the loop's measure falls: past an entry, and over to the next page
-pub past-less : (N : ℕ) (s s′ : Slot) → s′ ≡ advanced s → s .at < s .count → (N - s′ .next .count) * 256 + (s′ .count - s′ .at) < (N - s .next .count) * 256 + (s .count - s .at)
-past-less N s s′ e h = rw e (omega arith)
-
-pub page-less : (N a b x y z : ℕ) → b ≡ a + 1 → a < N → x < 256 → (N - b) * 256 + (x - y) < (N - a) * 256 + z
-page-less N a b x y z e h k = omega arith
+pub slot-few : {g : Geometry} {s : Slot} → Valid g → Fits g s → s .count < 256
+slot-few {g} {s} v f = let a : 7 * s .count ≤ entrySize g * s .count = mul-le-mul-right (s .count) (entry-least g v) in omega (arith, f .room, v .most)

@@ -12,7 +12,7 @@ use Rattle.rules.specs.PageSets.{mem}
 use Rattle.rules.specs.Chain.{Link, link}
 use Rattle.rules.specs.Names.{key}
 use Rattle.chain.specs.declared.Cursor.{Cursor}
-use Rattle.chain.specs.KnownChain.{ChainStands}
+use Rattle.chain.specs.KnownChain.{ChainAt}
 use Rattle.chain.specs.Steps.{after}
 use Rattle.entries.specs.declared.Slot.{Slot}
 
@@ -53,13 +53,13 @@ advanced s = atEntry s (s .at + 1)
 -- there is a directory's chain, and it has at least so many entries
 pub record HasEntries (g : Geometry) (v : View) (start m : ℕ) : Type 0 where
   pub links : List Link
-  pub chain : ChainStands g v start links
+  pub chain : ChainAt g v start links
   pub enough : m ≤ length (chainKeys g (controlSize g) links)
 
 -- how many entries the directory from `start` on has
 abbrev pub CountsEntries : Geometry → View → ℕ → ℕ → Type 0
-CountsEntries g v start n = (ls : List Link) → ChainStands g v start ls → n ≡ length (chainKeys g (controlSize g) ls)
+CountsEntries g v start n = (ls : List Link) → ChainAt g v start ls → n ≡ length (chainKeys g (controlSize g) ls)
 
 -- whether one of the first m entries of the directory from `start` on has this key
 abbrev pub Repeats : Geometry → View → ℕ → ℕ → ℕ → Bool → Type 0
-Repeats g v start m k r = (ls : List Link) → ChainStands g v start ls → m ≤ length (chainKeys g (controlSize g) ls) → r ≡ mem k (take m (chainKeys g (controlSize g) ls))
+Repeats g v start m k r = (ls : List Link) → ChainAt g v start ls → m ≤ length (chainKeys g (controlSize g) ls) → r ≡ mem k (take m (chainKeys g (controlSize g) ls))

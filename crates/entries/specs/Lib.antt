@@ -1,1 +1,2 @@
 pub mod EntrySlots
+pub mod TokensAt

@@ -1,4 +1,4 @@
-// The entries of a directory, page by page, and the search for a second entry of one name.
+// The entries of a directory: the step to the next of them, and to the next page; their number, and the search for a second entry of one name.
 use chain::Cursor;
 use chain::Step;
 use directory::entries::after_entry;
@@ -12,16 +12,15 @@ ghost use mathlib.Core.Path.{_≡_};
 ghost use Prim.Native.Nat.{_+_, _*_, _≤_, _<_, min};
 ghost use lib.Dec.{eqb};
 ghost use lib.ListN.{length, drop};
-ghost use Rattle.geometry.specs.Geometry.{entrySize, controlSize, Fit, Valid};
-ghost use Rattle.geometry.specs.Page.{pageOf};
+ghost use Rattle.geometry.specs.Geometry.{entrySize, Fit, Valid};
 ghost use Rattle.packet.specs.Packet.{viewOf};
 ghost use Rattle.rules.specs.PageSets.{mem};
-ghost use Rattle.rules.specs.Names.{key, entryOf};
+ghost use Rattle.rules.specs.Names.{key};
 ghost use Rattle.directory.specs.EntryPlaces.{HasEntry};
 ghost use Rattle.chain.specs.Claims.{Counted, IsGood};
 ghost use Rattle.chain.specs.KnownChain.{KnownChain};
-ghost use Rattle.chain.specs.Steps.{firstStep};
-ghost use Rattle.entries.specs.EntrySlots.{entryKey, keysFrom, Fits, openOf, advanced, HasEntries, CountsEntries, Repeats};
+ghost use Rattle.entries.specs.EntrySlots.{entryKey, keysFrom, openOf, advanced, HasEntries, CountsEntries, Repeats};
+ghost use Rattle.entries.specs.TokensAt.{InDirectory, Begins, IsEntry, IsNextPage, IsNextEntry};
 
 // A place in a directory: a page, the bytes before its entries, how many it has and the next of them; the position of the page after it.
 pub struct Slot {
@@ -30,6 +29,12 @@ pub struct Slot {
     pub count: usize,
     pub at: usize,
     pub next: Cursor,
+}
+
+// The next place of a directory, or that there is none.
+pub enum Next {
+    At(Slot),
+    End,
 }
 
 // Name and extension number as one number.
@@ -41,7 +46,7 @@ pub fn key_of(name: u32, extension: u8) -> u64
 
 impl Slot {
     // At the first entry of a page that is known to hold a right packet.
-    pub fn begin(c: Cursor, skip: usize, image: &[u8], g: Geometry) -> Slot
+    fn begin(c: Cursor, skip: usize, image: &[u8], g: Geometry) -> Slot
         requires { ⌜ Fit g (now image) ⌝ }
         requires { ⌜ Counted c × (c .page < g .pages) × IsGood (viewOf g (now image) (c .page)) × (skip ≤ 31) ⌝ }
         ensures { λ r. ⌜ r ≡ openOf g (viewOf g (now (image .entry))) skip c ⌝ }
@@ -77,7 +82,7 @@ impl Slot {
     pub fn first(image: &[u8], g: Geometry, start: usize) -> Slot
         requires { ⌜ Fit g (now image) ⌝ }
         requires { ⌜ KnownChain g (viewOf g (now image)) start ⌝ }
-        ensures { λ r. ⌜ r ≡ openOf g (viewOf g (now (image .entry))) (controlSize g) (firstStep start start) ⌝ }
+        ensures { λ r. ⌜ Begins g (viewOf g (now (image .entry))) start r ⌝ }
     {
         Slot::begin(Cursor::new(start, start), g.control_size(), image, g)
     }
@@ -97,14 +102,45 @@ impl Slot {
         }
     }
 
-    // The next entry.
+    // The entry at a place.
     pub fn entry(self, image: &[u8], g: Geometry) -> Entry
         requires { ⌜ Fit g (now image) ⌝ }
-        requires { ⌜ Fits g self × (self .at < self .count) ⌝ }
-        ensures { λ r. ⌜ (r ≡ entryOf (g .width) (drop (1 + self .skip + entrySize g * self .at) (pageOf g (self .page) (now (image .entry))))) × (r .start < 65536) × (r .pages < 65536) ⌝ }
+        requires { ⌜ InDirectory g (viewOf g (now image)) self × (self .at < self .count) ⌝ }
+        ensures { λ r. ⌜ IsEntry g (viewOf g (now (image .entry))) self r ⌝ }
     {
         let at = LENGTH_BYTES + self.skip + g.entry_size() * self.at;
         read_entry(geometry::page_of(image, g, self.page), at, g.width)
+    }
+
+    // The first entry of the next page, past the entries that are left on this one.
+    pub fn next_page(self, image: &[u8], g: Geometry) -> Next
+        requires { ⌜ Fit g (now image) ⌝ }
+        requires { ⌜ InDirectory g (viewOf g (now image)) self ⌝ }
+        ensures { λ r. ⌜ IsNextPage g (viewOf g (now (image .entry))) self r ⌝ }
+    {
+        let next = self.next;
+        if next.page == 0 {
+            return Next::End;
+        }
+        Next::At(Slot::begin(next, 0, image, g))
+    }
+
+    // The next entry: the one at this place, or the first on a later page.
+    pub fn next_entry(self, image: &[u8], g: Geometry) -> Next
+        requires { ⌜ Fit g (now image) ⌝ }
+        requires { ⌜ InDirectory g (viewOf g (now image)) self ⌝ }
+        ensures { λ r. ⌜ IsNextEntry g (viewOf g (now (image .entry))) self r ⌝ }
+    {
+        let mut slot = self;
+        loop {
+            if slot.at < slot.count {
+                return Next::At(slot);
+            }
+            let Next::At(later) = slot.next_page(image, g) else {
+                return Next::End;
+            };
+            slot = later;
+        }
     }
 }
 
@@ -155,11 +191,10 @@ pub fn count_of(image: &[u8], g: Geometry, start: usize) -> usize
     let mut n = 0;
     loop {
         n += slot.count;
-        let next = slot.next;
-        if next.page == 0 {
+        let Next::At(later) = slot.next_page(image, g) else {
             return n;
-        }
-        slot = Slot::begin(next, 0, image, g);
+        };
+        slot = later;
     }
 }
 
@@ -181,7 +216,10 @@ pub fn is_repeated(image: &[u8], g: Geometry, start: usize, m: usize, key: u64) 
             return false;
         }
         left -= count;
-        let next = slot.next;
-        slot = Slot::begin(next, 0, image, g);
+        let Next::At(later) = slot.next_page(image, g) else {
+            // the directory has more than the entries passed
+            return false;
+        };
+        slot = later;
     }
 }

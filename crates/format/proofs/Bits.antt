@@ -8,11 +8,11 @@ use lib.ListN.{length}
 use lib.Seq.{take-at, drop-at, take-all}
 use Rattle.geometry.specs.declared.Geometry.{Geometry}
 use Rattle.geometry.specs.Geometry.{dataCapacity, bitmapSize, Valid, Fit}
-use Rattle.packet.specs.Packet.{Write, write, writePage, play}
-use Rattle.rules.specs.Chain.{linked, spread, pagesFor}
+use Rattle.packet.specs.Packet.{Write, write, writePage, afterWrites}
+use Rattle.rules.specs.Chain.{linked, chainOf, pagesFor}
 use Rattle.rules.specs.Format.{upward}
-use Rattle.editing.specs.Capacity.{capacity-is, capacity-least}
-use Rattle.editing.specs.FormatLaws.{map-room}
+use Rattle.editing_theorems.specs.Capacity.{capacity-is, capacity-least}
+use Rattle.editing_theorems.specs.FormatLaws.{map-room}
 use Rattle.marks.specs.Marks.{marksFrom}
 use Rattle.marks.specs.MarkLaws.{length-marks, marks-append}
 use Rattle.format.specs.Formats.{mapPageCount, bitsWrites}
@@ -28,27 +28,27 @@ pages-last : (capacity n : ℕ) → 0 < capacity → n ≤ capacity → pagesFor
 pages-last capacity n h k = ap suc (div-eq-of-lt (omega arith))
 
 -- ---- the packets from a page on: so many bytes left after those done
-module _ (capacity : ℕ) (h : 0 < capacity) (table : List ℕ) where
+module _ (capacity : ℕ) (h : 0 < capacity) (table : List ℕ) (bound : ℕ) where
   abbrev pub bitsFrom : ℕ → ℕ → ℕ → List Write
-  bitsFrom page done left = linked (spread capacity (upward page (pagesFor capacity left)) (marksFrom table (8 * done) left))
+  bitsFrom page done left = linked (chainOf capacity (upward page (pagesFor capacity left)) (marksFrom table bound (8 * done) left))
 
-  more : (page done left : ℕ) → capacity < left → bitsFrom page done left ≡ write page (marksFrom table (8 * done) capacity) (page + 1) ∷ bitsFrom (page + 1) (done + capacity) (left - capacity)
+  more : (page done left : ℕ) → capacity < left → bitsFrom page done left ≡ write page (marksFrom table bound (8 * done) capacity) (page + 1) ∷ bitsFrom (page + 1) (done + capacity) (left - capacity)
   more page done left k =
-      let a = marksFrom table (8 * done) capacity in
-      let b = marksFrom table (8 * (done + capacity)) (left - capacity) in
+      let a = marksFrom table bound (8 * done) capacity in
+      let b = marksFrom table bound (8 * (done + capacity)) (left - capacity) in
       let e : left ≡ capacity + (left - capacity) = omega arith in
       let f : 8 * done + 8 * capacity ≡ 8 * (done + capacity) = omega arith in
-      let s : marksFrom table (8 * done) left ≡ a ++ b = ap (marksFrom table (8 * done)) e ∙ marks-append table capacity (left - capacity) (8 * done) ∙ ap (λ (x : ℕ). a ++ marksFrom table x (left - capacity)) f in
-      let l = length-marks table capacity (8 * done) in
-      let rest : List ℕ → List Write = λ xs. linked (spread capacity (upward (page + 1) (pagesFor capacity (left - capacity))) xs) in
-      ap (λ (m : ℕ). linked (spread capacity (upward page m) (marksFrom table (8 * done) left))) (pages-more capacity left h k)
-      ∙ ap (λ (xs : List ℕ). linked (spread capacity (upward page (suc (pagesFor capacity (left - capacity)))) xs)) s
+      let s : marksFrom table bound (8 * done) left ≡ a ++ b = ap (marksFrom table bound (8 * done)) e ∙ marks-append table bound capacity (left - capacity) (8 * done) ∙ ap (λ (x : ℕ). a ++ marksFrom table bound x (left - capacity)) f in
+      let l = length-marks table bound capacity (8 * done) in
+      let rest : List ℕ → List Write = λ xs. linked (chainOf capacity (upward (page + 1) (pagesFor capacity (left - capacity))) xs) in
+      ap (λ (m : ℕ). linked (chainOf capacity (upward page m) (marksFrom table bound (8 * done) left))) (pages-more capacity left h k)
+      ∙ ap (λ (xs : List ℕ). linked (chainOf capacity (upward page (suc (pagesFor capacity (left - capacity)))) xs)) s
       ∙ ap₂ (λ (xs ys : List ℕ). write page xs (page + 1) ∷ rest ys) (take-at a b capacity l) (drop-at a b capacity l)
 
-  last : (page done left : ℕ) → left ≤ capacity → bitsFrom page done left ≡ write page (marksFrom table (8 * done) left) 0 ∷ []
+  last : (page done left : ℕ) → left ≤ capacity → bitsFrom page done left ≡ write page (marksFrom table bound (8 * done) left) 0 ∷ []
   last page done left k =
-      ap (λ (m : ℕ). linked (spread capacity (upward page m) (marksFrom table (8 * done) left))) (pages-last capacity left h k)
-      ∙ ap (λ (xs : List ℕ). write page xs 0 ∷ []) (take-all capacity (marksFrom table (8 * done) left) (omega (arith, length-marks table left (8 * done))))
+      ap (λ (m : ℕ). linked (chainOf capacity (upward page m) (marksFrom table bound (8 * done) left))) (pages-last capacity left h k)
+      ∙ ap (λ (xs : List ℕ). write page xs 0 ∷ []) (take-all capacity (marksFrom table bound (8 * done) left) (omega (arith, length-marks table bound left (8 * done))))
 
 size-is : (g : Geometry) → bitmapSize g ≡ (g .pages + 7) / 8
 unfolding bitmapSize
@@ -68,18 +68,18 @@ module _ (g : Geometry) (v : Valid g) (bytes capacity : ℕ) (e : bytes ≡ bitm
   count-below count table k l = omega (arith, count-is count k, map-room g v)
 
 -- ---- the loop: what is left to write from here gives the whole
-pub record Held (g : Geometry) (table start image : List ℕ) (capacity page done left : ℕ) : Type 0 where
+pub record Held (g : Geometry) (table : List ℕ) (bound : ℕ) (start image : List ℕ) (capacity page done left : ℕ) : Type 0 where
   pub fit : Fit g image
   pub capacity-is : capacity ≡ dataCapacity g
   pub some : 1 ≤ left
   pub all : done + left ≡ bitmapSize g
   pub few : bitmapSize g ≤ 8192
   pub below : page + pagesFor capacity left ≤ g .pages
-  pub onward : play g (linked (spread capacity (upward page (pagesFor capacity left)) (marksFrom table (8 * done) left))) image ≡ play g (bitsWrites g table) start
+  pub onward : afterWrites g (linked (chainOf capacity (upward page (pagesFor capacity left)) (marksFrom table bound (8 * done) left))) image ≡ afterWrites g (bitsWrites g table bound) start
 
-pub held-first : (g : Geometry) (table image : List ℕ) (capacity size : ℕ) → Fit g image → capacity ≡ dataCapacity g → size ≡ bitmapSize g → Held g table image image capacity 1 0 size
+pub held-first : (g : Geometry) (table : List ℕ) (bound : ℕ) (image : List ℕ) (capacity size : ℕ) → Fit g image → capacity ≡ dataCapacity g → size ≡ bitmapSize g → Held g table bound image image capacity 1 0 size
 unfolding bitsWrites mapPageCount
-held-first g table image capacity size fit e f = rw (e, f) (record {
+held-first g table bound image capacity size fit e f = rw (e, f) (record {
   fit = fit;
   capacity-is = refl;
   some = size-bounds g (fit .valid) .0;
@@ -89,7 +89,7 @@ held-first g table image capacity size fit e f = rw (e, f) (record {
   onward = refl;
 })
 
-module _ (g : Geometry) (table start image : List ℕ) (capacity page done left : ℕ) (held : Held g table start image capacity page done left) where
+module _ {g : Geometry} {table : List ℕ} {bound : ℕ} {start image : List ℕ} {capacity page done left : ℕ} (held : Held g table bound start image capacity page done left) where
   pub some-capacity : 0 < capacity
   some-capacity = omega (arith, held .capacity-is, capacity-least g (held .fit .valid))
 
@@ -97,9 +97,9 @@ module _ (g : Geometry) (table start image : List ℕ) (capacity page done left 
   pub held-asks : (size : ℕ) → size ≤ left → size ≤ capacity → (page < g .pages) × (size ≤ dataCapacity g) × (done + size ≤ 65536)
   held-asks size h k = (omega (arith, held .below), omega (arith, held .capacity-is), omega (arith, held .all, held .few))
 
-  pub held-on : (after : List ℕ) → capacity < left → length after ≡ length image → after ≡ writePage g (write page (marksFrom table (8 * done) capacity) (page + 1)) image
-      → Held g table start after capacity (page + 1) (done + capacity) (left - capacity)
-  unfolding play
+  pub held-on : (after : List ℕ) → capacity < left → length after ≡ length image → after ≡ writePage g (write page (marksFrom table bound (8 * done) capacity) (page + 1)) image
+      → Held g table bound start after capacity (page + 1) (done + capacity) (left - capacity)
+  unfolding afterWrites
   held-on after h l e = record {
     fit = record { valid = held .fit .valid; whole = l ∙ held .fit .whole };
     capacity-is = held .capacity-is;
@@ -107,10 +107,10 @@ module _ (g : Geometry) (table start image : List ℕ) (capacity page done left 
     all = omega (arith, held .all);
     few = held .few;
     below = omega (arith, held .below, pages-more capacity left some-capacity h);
-    onward = ap (play g (bitsFrom capacity some-capacity table (page + 1) (done + capacity) (left - capacity))) e
-        ∙ sym (ap (λ (ws : List Write). play g ws image) (more capacity some-capacity table page done left h)) ∙ held .onward;
+    onward = ap (afterWrites g (bitsFrom capacity some-capacity table bound (page + 1) (done + capacity) (left - capacity))) e
+        ∙ sym (ap (λ (ws : List Write). afterWrites g ws image) (more capacity some-capacity table bound page done left h)) ∙ held .onward;
   }
 
-  pub held-last : (after : List ℕ) → left ≤ capacity → after ≡ writePage g (write page (marksFrom table (8 * done) left) 0) image → after ≡ play g (bitsWrites g table) start
-  unfolding play
-  held-last after h e = e ∙ sym (ap (λ (ws : List Write). play g ws image) (last capacity some-capacity table page done left h)) ∙ held .onward
+  pub held-last : (after : List ℕ) → left ≤ capacity → after ≡ writePage g (write page (marksFrom table bound (8 * done) left) 0) image → after ≡ afterWrites g (bitsWrites g table bound) start
+  unfolding afterWrites
+  held-last after h e = e ∙ sym (ap (λ (ws : List Write). afterWrites g ws image) (last capacity some-capacity table bound page done left h)) ∙ held .onward

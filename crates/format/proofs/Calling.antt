@@ -12,22 +12,22 @@ use Rattle.rules.specs.Result.{Res, ok}
 use Rattle.rules.specs.Format.{format}
 use Rattle.rules.specs.Calls.{formatCall}
 use Rattle.rules.specs.Promises.{Formats}
-use Rattle.editing.specs.Promised.{format-stated}
-use Rattle.volume.specs.declared.Edited.{Edited}
-use Rattle.volume.specs.Told.{editTold}
+use Rattle.editing_theorems.specs.Promised.{format-stated}
+use Rattle.rules.specs.declared.Edited.{Edited}
+use Rattle.rules.specs.Answers.{editResult}
 use Rattle.volume.specs.Edits.{EditLeaves}
 use Rattle.volume.proofs.EditLaws.{changed-leaves}
 
 module _ (P N : ℕ) (image table : List ℕ) where
   -- ---- format
   pub format-leaves : (g : Geometry) → geometryOf P N (length image) (length table) ≡ Fits g → (local : Bool) (r : Edited) (after u : List ℕ) → EditLeaves g image (format g local image) r after u
-      → (editTold r, after, u ++ drop (g .pages) table) ≡ formatCall P N image table local
+      → (editResult r, after, u ++ drop (g .pages) table) ≡ formatCall P N image table local
   unfolding formatCall
   format-leaves g e local r after u k = changed-leaves P N image table g e (λ g. format g local image) r after u k
 
-  pub format-is : ((i : ℕ) → getD image i 0 < 256) → (local : Bool) (r : Edited) (after t : List ℕ) → (editTold r, after, t) ≡ formatCall P N image table local
-      → Formats P N image table local (editTold r ≡ ok tt) (λ x. editTold r ≡ x) after
+  pub format-is : ((i : ℕ) → getD image i 0 < 256) → (local : Bool) (r : Edited) (after t : List ℕ) → (editResult r, after, t) ≡ formatCall P N image table local
+      → Formats P N image table local (editResult r ≡ ok tt) (λ x. editResult r ≡ x) after
   format-is h local r after t e =
-      let q : editTold r ≡ formatCall P N image table local .0 = ap (λ (x : Res (Unit {0}) × List ℕ × List ℕ). x .0) e in
+      let q : editResult r ≡ formatCall P N image table local .0 = ap (λ (x : Res (Unit {0}) × List ℕ × List ℕ). x .0) e in
       let a : after ≡ formatCall P N image table local .1 = ap (λ (x : Res (Unit {0}) × List ℕ × List ℕ). x .1) e in
       rw (q, a) (format-stated P N image table (bytes-from image h) local)

@@ -8,22 +8,22 @@ use Rattle.geometry.specs.declared.Geometry.{Geometry}
 use Rattle.geometry.specs.ChooseLaws.{choose-true, choose-false}
 use Rattle.geometry.specs.Geometry.{dataCapacity, bitmapSize, Valid, Fit}
 use Rattle.geometry.specs.Number.{Bytes}
-use Rattle.packet.specs.Packet.{Write, write, writePage, play}
+use Rattle.packet.specs.Packet.{Write, write, writePage, afterWrites}
 use Rattle.rules.specs.Result.{Res, ok, err}
 use Rattle.rules.specs.ResultLaws.{then-ok, then-err, refuse-true, refuse-false}
 use Rattle.rules.specs.PageSets.{hit}
 use Rattle.rules.specs.PageSetLaws.{range-le}
-use Rattle.rules.specs.Chain.{Link, linked, spread, pagesFor}
-use Rattle.rules.specs.ChainLaws.{length-spread}
+use Rattle.rules.specs.Chain.{Link, linked, chainOf, pagesFor}
+use Rattle.rules.specs.ChainLaws.{length-chain-of}
 use Rattle.rules.specs.Tree.{inRoot, inFile}
 use Rattle.rules.specs.Control.{rootControl, placeBytes, mostLocal, localAllowed}
 use Rattle.rules.specs.Bitmap.{bitmapFrom, refill}
 use Rattle.rules.specs.BitmapLaws.{length-bitmap, bytes-bitmap, refill-same}
-use Rattle.rules.specs.OwnerLaws.{Represents}
+use Rattle.owners.specs.Owned.{Marks}
 use Rattle.rules.specs.Format.{upward, emptyImage, formatWrites, format}
-use Rattle.editing.specs.Plays.{bytes-play, play-stands, play-same}
-use Rattle.editing.specs.NewChains.{length-upward}
-use Rattle.editing.specs.FormatLaws.{root-fits, map-content, map-bits}
+use Rattle.editing_theorems.specs.AfterWrites.{bytes-after-writes, after-writes-packets, after-writes-same}
+use Rattle.editing_theorems.specs.NewChains.{length-upward}
+use Rattle.editing_theorems.specs.FormatLaws.{root-fits, map-content, map-bits}
 use Rattle.marks.specs.MarkLaws.{marks-are}
 use Rattle.format.specs.Formats.{controlField, mapPageCount, bitsWrites, emptied}
 use Rattle.volume.specs.Edits.{leaves}
@@ -45,13 +45,13 @@ unfolding controlField rootControl
 field-local g = rw bits-of-zero (sym (append-nil (controlField (g .width) 128 (1 ∷ 0 ∷ 0 ∷ 0 ∷ []))))
 
 pub local-emptied : (g : Geometry) (image after : List ℕ) → Fit g image → Bytes image → after ≡ writePage g (write 0 (controlField (g .width) 128 (1 ∷ 0 ∷ 0 ∷ 0 ∷ [])) 0) image → after ≡ emptied g true image
-unfolding emptied play
+unfolding emptied afterWrites
 local-emptied g image after fit bytes e =
     let w : List Write = localWrite g ∷ [] in
     let f = root-fits g (fit .valid) (bitmapFrom (0 ∷ []) 0 4) inRoot (bytes-bitmap (0 ∷ []) 0 4) (length-bitmap (0 ∷ []) 0 4) in
-    let s = play-stands g w f image fit (λ x. range-le x 1) in
-    e ∙ ap (λ (b : List ℕ). writePage g (write 0 b 0) image) (field-local g) ∙ sym (play-same g w (play g w image) (bytes-play g w f image fit bytes) s)
-    ∙ sym (ap (λ (ws : List Write). play g ws image) (local-writes g))
+    let s = after-writes-packets g w f image fit (λ x. range-le x 1) in
+    e ∙ ap (λ (b : List ℕ). writePage g (write 0 b 0) image) (field-local g) ∙ sym (after-writes-same g w (afterWrites g w image) (bytes-after-writes g w f image fit bytes) s)
+    ∙ sym (ap (λ (ws : List Write). afterWrites g ws image) (local-writes g))
 
 -- ---- a bitmap file
 module _ (g : Geometry) (valid : Valid g) where
@@ -59,7 +59,7 @@ module _ (g : Geometry) (valid : Valid g) where
   fileBits = bitmapFrom (0 ∷ upward 1 (pagesFor (dataCapacity g) (bitmapSize g))) 0 (bitmapSize g)
 
   abbrev fileChain : List Link
-  fileChain = spread (dataCapacity g) (upward 1 (pagesFor (dataCapacity g) (bitmapSize g))) fileBits
+  fileChain = chainOf (dataCapacity g) (upward 1 (pagesFor (dataCapacity g) (bitmapSize g))) fileBits
 
   file-writes : formatWrites g (emptyImage g false) ≡ write 0 (rootControl (g .width) fileBits (inFile fileChain) ++ []) 0 ∷ linked fileChain
   unfolding formatWrites emptyImage
@@ -70,18 +70,18 @@ module _ (g : Geometry) (valid : Valid g) where
   field-file : controlField (g .width) 0 (placeBytes (g .width) 1 (mapPageCount g)) ≡ rootControl (g .width) fileBits (inFile fileChain) ++ []
   unfolding controlField rootControl mapPageCount
   field-file =
-      let c = length-spread (dataCapacity g) (upward 1 (pagesFor (dataCapacity g) (bitmapSize g))) fileBits ∙ length-upward 1 (pagesFor (dataCapacity g) (bitmapSize g)) in
+      let c = length-chain-of (dataCapacity g) (upward 1 (pagesFor (dataCapacity g) (bitmapSize g))) fileBits ∙ length-upward 1 (pagesFor (dataCapacity g) (bitmapSize g)) in
       ap (λ (m : ℕ). controlField (g .width) 0 (placeBytes (g .width) 1 m)) (sym c) ∙ sym (append-nil (rootControl (g .width) fileBits (inFile fileChain)))
 
-  pub file-emptied : (image root after table four : List ℕ) (count : ℕ) → count ≡ mapPageCount g → Represents table (0 ∷ upward 1 count)
-      → four ≡ placeBytes (g .width) 1 count → root ≡ writePage g (write 0 (controlField (g .width) 0 four) 0) image → after ≡ play g (bitsWrites g table) root → after ≡ emptied g false image
-  unfolding emptied play bitsWrites mapPageCount
-  file-emptied image root after table four count c h p e f =
-      let h′ : Represents table (0 ∷ upward 1 (pagesFor (dataCapacity g) (bitmapSize g))) = subst (λ (m : ℕ). Represents table (0 ∷ upward 1 m)) c h in
-      let b : bitsWrites g table ≡ linked fileChain = ap (λ (xs : List ℕ). linked (spread (dataCapacity g) (upward 1 (pagesFor (dataCapacity g) (bitmapSize g))) xs)) (marks-are table _ h′ (bitmapSize g) 0) in
+  pub file-emptied : (image root after table : List ℕ) (below : ℕ) (four : List ℕ) (count : ℕ) → count ≡ mapPageCount g → Marks table below (0 ∷ upward 1 count)
+      → four ≡ placeBytes (g .width) 1 count → root ≡ writePage g (write 0 (controlField (g .width) 0 four) 0) image → after ≡ afterWrites g (bitsWrites g table below) root → after ≡ emptied g false image
+  unfolding emptied afterWrites bitsWrites mapPageCount
+  file-emptied image root after table below four count c h p e f =
+      let h′ : Marks table below (0 ∷ upward 1 (pagesFor (dataCapacity g) (bitmapSize g))) = subst (λ (m : ℕ). Marks table below (0 ∷ upward 1 m)) c h in
+      let b : bitsWrites g table below ≡ linked fileChain = ap (λ (xs : List ℕ). linked (chainOf (dataCapacity g) (upward 1 (pagesFor (dataCapacity g) (bitmapSize g))) xs)) (marks-are table below _ h′ (bitmapSize g) 0) in
       let r : root ≡ writePage g (write 0 (rootControl (g .width) fileBits (inFile fileChain) ++ []) 0) image = e ∙ ap (λ (x : List ℕ). writePage g (write 0 (controlField (g .width) 0 x) 0) image) (p ∙ ap (placeBytes (g .width) 1) c)
       ∙ ap (λ (x : List ℕ). writePage g (write 0 x 0) image) field-file in
-      f ∙ ap₂ (λ (ws : List Write) (x : List ℕ). play g ws x) b r ∙ sym (ap (λ (ws : List Write). play g ws image) file-writes)
+      f ∙ ap₂ (λ (ws : List Write) (x : List ℕ). afterWrites g ws x) b r ∙ sym (ap (λ (ws : List Write). afterWrites g ws image) file-writes)
 
 pub emptied-as : (g : Geometry) (local asked : Bool) (image after : List ℕ) → local ≡ asked → after ≡ emptied g asked image → after ≡ emptied g local image
 emptied-as g local asked image after e k = k ∙ ap (λ (b : Bool). emptied g b image) (sym e)

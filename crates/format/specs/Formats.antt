@@ -5,8 +5,8 @@ use Prim.Native.Nat.{ℕ}
 use Rattle.geometry.specs.declared.Geometry.{Geometry}
 use Rattle.geometry.specs.Geometry.{dataCapacity, bitmapSize}
 use Rattle.geometry.specs.Number.{numberBytes}
-use Rattle.packet.specs.Packet.{Write, play}
-use Rattle.rules.specs.Chain.{linked, spread, pagesFor}
+use Rattle.packet.specs.Packet.{Write, afterWrites}
+use Rattle.rules.specs.Chain.{linked, chainOf, pagesFor}
 use Rattle.rules.specs.Control.{marker}
 use Rattle.rules.specs.Format.{upward, emptyImage, formatWrites}
 use Rattle.marks.specs.Marks.{marksFrom}
@@ -19,10 +19,10 @@ controlField n control four = marker n ∷ (numberBytes n 0 ++ (control ∷ four
 unfoldable pub mapPageCount : Geometry → ℕ
 mapPageCount g = pagesFor (dataCapacity g) (bitmapSize g)
 
--- the packets of a new bitmap file whose bits an owner table tells
-unfoldable pub bitsWrites : Geometry → List ℕ → List Write
-bitsWrites g table = linked (spread (dataCapacity g) (upward 1 (mapPageCount g)) (marksFrom table 0 (bitmapSize g)))
+-- the packets of a new bitmap file whose bits an owner table and a bound tell
+unfoldable pub bitsWrites : Geometry → List ℕ → ℕ → List Write
+bitsWrites g table below = linked (chainOf (dataCapacity g) (upward 1 (mapPageCount g)) (marksFrom table below 0 (bitmapSize g)))
 
 -- the image without entries, written over an image
 unfoldable pub emptied : Geometry → Bool → List ℕ → List ℕ
-emptied g local image = play g (formatWrites g (emptyImage g local)) image
+emptied g local image = afterWrites g (formatWrites g (emptyImage g local)) image

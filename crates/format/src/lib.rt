@@ -13,24 +13,20 @@ use geometry::MOST_CONTROL_BYTES;
 use geometry::MOST_DATA_BYTES;
 use geometry::MOST_LOCAL_PAGES;
 use geometry::Shape;
-use geometry::TAKEN;
-use volume::Edited;
+use rules::Edited;
 ghost use mathlib.Core.Path.{_≡_};
 ghost use mathlib.Core.Bool.{true, false, not, _||_};
-ghost use mathlib.Core.List.{_∷_};
 ghost use Prim.Native.Nat.{_+_, _*_, _≤_, _<_};
 ghost use lib.ListN.{length};
 ghost use Rattle.geometry.specs.Geometry.{Fit, dataCapacity};
-ghost use Rattle.packet.specs.Packet.{writePage, write, play};
+ghost use Rattle.packet.specs.Packet.{writePage, write, afterWrites};
 ghost use Rattle.rules.specs.Control.{placeBytes, localAllowed};
-ghost use Rattle.rules.specs.PageSets.{count};
-ghost use Rattle.rules.specs.OwnerLaws.{nonzero, Represents};
-ghost use Rattle.rules.specs.Format.{upward, format as formatted};
+ghost use Rattle.rules.specs.Format.{format as formatted};
 ghost use Rattle.rules.specs.Result.{ok};
 ghost use Rattle.rules.specs.Calls.{formatCall};
 ghost use Rattle.rules.specs.Promises.{Formats};
 ghost use Rattle.marks.specs.Marks.{marksFrom};
-ghost use Rattle.volume.specs.Told.{editTold};
+ghost use Rattle.rules.specs.Answers.{editResult};
 ghost use Rattle.volume.specs.Edits.{EditLeaves};
 ghost use Rattle.format.specs.Formats.{controlField, bitsWrites, emptied};
 
@@ -85,29 +81,7 @@ fn write_local(image: &mut [u8], g: Geometry)
     write_root(image, g, LOCAL, b"\x01\0\0\0");
 }
 
-// The mark of a page where those up to the last are in use.
-fn mark_of(page: usize, last: usize) -> u16
-    ensures { λ r. ⌜ count page (0 ∷ upward 1 last) ≡ nonzero r ⌝ }
-{
-    if page <= last {
-        return TAKEN;
-    }
-    0
-}
-
-// Marks the pages up to the last in use, and no others.
-fn mark(owners: &mut [u16], last: usize)
-    requires { ⌜ last < length (now owners) ⌝ }
-    ensures { λ _. ⌜ Represents (now (owners .exit)) (0 ∷ upward 1 last) ⌝ }
-{
-    let mut i = 0;
-    while i < owners.len() {
-        owners[i] = mark_of(i, last);
-        i += 1;
-    }
-}
-
-// Writes a page of the bitmap file: so many bytes of the bitmap from byte `done` on.
+// Writes a page of the bitmap file: so many bytes of the bitmap from byte `done` on. All pages below a bound are in use.
 fn write_bytes(
     image: &mut [u8],
     g: Geometry,
@@ -115,59 +89,60 @@ fn write_bytes(
     next: usize,
     done: usize,
     size: usize,
-    owners: &[u16],
+    table: &[u16],
+    below: usize,
 )
     requires { ⌜ Fit g (now image) ⌝ }
     requires { ⌜ (page < g .pages) × (size ≤ dataCapacity g) × (done + size ≤ 65536) ⌝ }
-    ensures { λ _. ⌜ now (image .exit) ≡ writePage g (write page (marksFrom (now (owners .entry)) (8 * done) size) next) (now (image .entry)) ⌝ }
+    ensures { λ _. ⌜ now (image .exit) ≡ writePage g (write page (marksFrom (now (table .entry)) below (8 * done) size) next) (now (image .entry)) ⌝ }
 {
     let mut bytes = [0u8; MOST_DATA_BYTES];
-    marks::fill(&mut bytes[..size], 8 * done, owners);
+    marks::fill(&mut bytes[..size], 8 * done, table, below);
     packet::write_page(image, g, page, &bytes[..size], next);
 }
 
 // Writes the bitmap file from page 1 upward: full packets, then the last.
-fn write_bits(image: &mut [u8], g: Geometry, owners: &[u16])
+fn write_bits(image: &mut [u8], g: Geometry, table: &[u16], below: usize)
     requires { ⌜ Fit g (now image) ⌝ }
-    ensures { λ _. ⌜ now (image .exit) ≡ play g (bitsWrites g (now (owners .entry))) (now (image .entry)) ⌝ }
+    ensures { λ _. ⌜ now (image .exit) ≡ afterWrites g (bitsWrites g (now (table .entry)) below) (now (image .entry)) ⌝ }
 {
     let capacity = g.data_capacity();
     let mut left = g.bitmap_size();
     let mut page: usize = 1;
     let mut done: usize = 0;
     while capacity < left {
-        write_bytes(image, g, page, page + 1, done, capacity, owners);
+        write_bytes(image, g, page, page + 1, done, capacity, table, below);
         page += 1;
         done += capacity;
         left -= capacity;
     }
-    write_bytes(image, g, page, 0, done, left, owners);
+    write_bytes(image, g, page, 0, done, left, table, below);
 }
 
-// Writes an image without entries with a bitmap file. The table serves to work out the bitmap's bits.
-fn write_file(image: &mut [u8], g: Geometry, owners: &mut [u16])
+// Writes an image without entries with a bitmap file: the pages up to its last are in use, no others.
+fn write_file(image: &mut [u8], g: Geometry, table: &mut [u16])
     requires { ⌜ Fit g (now image) ⌝ }
-    requires { ⌜ length (now owners) ≡ g .pages ⌝ }
+    requires { ⌜ length (now table) ≡ g .pages ⌝ }
     ensures { λ _. ⌜ now (image .exit) ≡ emptied g false (now (image .entry)) ⌝ }
 {
-    let count = storing::pages_for(g.bitmap_size(), g.data_capacity());
+    let count = writes::pages_for(g.bitmap_size(), g.data_capacity());
     let mut four = [0u8; BITMAP_FIELD_BYTES];
     fill_place(&mut four, g.width, count);
     write_root(image, g, FILE, &four);
-    mark(owners, count);
-    write_bits(image, g, owners);
+    owners::clear(table);
+    write_bits(image, g, table, count + 1);
 }
 
 // Writes an image without entries.
-fn write_empty(image: &mut [u8], g: Geometry, owners: &mut [u16], local: bool)
+fn write_empty(image: &mut [u8], g: Geometry, table: &mut [u16], local: bool)
     requires { ⌜ Fit g (now image) ⌝ }
-    requires { ⌜ length (now owners) ≡ g .pages ⌝ }
+    requires { ⌜ length (now table) ≡ g .pages ⌝ }
     ensures { λ _. ⌜ now (image .exit) ≡ emptied g local (now (image .entry)) ⌝ }
 {
     if local {
         write_local(image, g);
     } else {
-        write_file(image, g, owners);
+        write_file(image, g, table);
     }
 }
 
@@ -182,31 +157,31 @@ fn is_allowed(g: Geometry, local: bool) -> bool
 }
 
 // Formats an image whose geometry is known: 4 for a local bitmap with N above 32.
-fn format_in(image: &mut [u8], g: Geometry, owners: &mut [u16], local: bool) -> Edited
+fn format_in(image: &mut [u8], g: Geometry, table: &mut [u16], local: bool) -> Edited
     requires { ⌜ Fit g (now image) ⌝ }
-    requires { ⌜ length (now owners) ≡ g .pages ⌝ }
-    ensures { λ r. ⌜ EditLeaves g (now (image .entry)) (formatted g local (now (image .entry))) r (now (image .exit)) (now (owners .exit)) ⌝ }
+    requires { ⌜ length (now table) ≡ g .pages ⌝ }
+    ensures { λ r. ⌜ EditLeaves g (now (image .entry)) (formatted g local (now (image .entry))) r (now (image .exit)) (now (table .exit)) ⌝ }
 {
     if is_allowed(g, local) {
-        write_empty(image, g, owners, local);
-        volume::check_table(image, g, owners);
+        write_empty(image, g, table, local);
+        volume::check_table(image, g, table);
         return Edited::Done;
     }
-    volume::check_table(image, g, owners);
+    volume::check_table(image, g, table);
     Edited::Refused(4, 0)
 }
 
 // Formats an image: page 0 and, unless the bitmap is to be local, the bitmap file from page 1 upward.
 // Fills the owner table as a check of the image as it then stands.
-pub fn format(image: &mut [u8], size: u32, pages: u32, owners: &mut [u16], local: bool) -> Edited
-    ensures { λ r. ⌜ (editTold r, now (image .exit), now (owners .exit)) ≡ formatCall size pages (now (image .entry)) (now (owners .entry)) local ⌝ }
-    ensures { λ r. ⌜ Formats size pages (now (image .entry)) (now (owners .entry)) local (editTold r ≡ ok tt) (λ x. editTold r ≡ x) (now (image .exit)) ⌝ }
+pub fn format(image: &mut [u8], size: u32, pages: u32, table: &mut [u16], local: bool) -> Edited
+    ensures { λ r. ⌜ (editResult r, now (image .exit), now (table .exit)) ≡ formatCall size pages (now (image .entry)) (now (table .entry)) local ⌝ }
+    ensures { λ r. ⌜ Formats size pages (now (image .entry)) (now (table .entry)) local (editResult r ≡ ok tt) (λ x. editResult r ≡ x) (now (image .exit)) ⌝ }
 {
-    match Geometry::new(size, pages, image.len(), owners.len()) {
-        Shape::Wrong => Edited::Refused(1, 0),
+    match Geometry::new(size, pages, image.len(), table.len()) {
+        Shape::Invalid => Edited::Refused(1, 0),
         Shape::Fits(g) => {
             let n = g.pages;
-            format_in(image, g, &mut owners[..n], local)
+            format_in(image, g, &mut table[..n], local)
         }
     }
 }

@@ -4,37 +4,37 @@ use Prim.Native.Nat.{ℕ, _+_, _-_, _*_, _/_, _≤_, _<_}
 use native.Mathlib.Omega.{arith}
 use borrow.Author.Tests.{le-leb, lt-leb, eq-eqb, ne-eqb}
 use Rattle.geometry.specs.declared.Geometry.{Geometry}
-use Rattle.geometry.specs.declared.Shape.the-variants.{Fits, Wrong}
+use Rattle.geometry.specs.declared.Shape.the-variants.{Fits, Invalid}
 use Rattle.geometry.specs.ChooseLaws.{choose-true, choose-false}
 use Rattle.geometry.specs.Geometry.{geometryOf, right, widthFor, dataCapacity, entrySize, controlSize, firstEntries, laterEntries}
 
 module _ (P N i o : ℕ) where
-  pub small-page : P < 32 → Wrong ≡ geometryOf P N i o
+  pub small-page : P < 32 → Invalid ≡ geometryOf P N i o
   unfolding geometryOf right
   small-page h = simp (geometryOf, right, lt-leb 32 P h, choose-false)
 
   module _ (a : 32 ≤ P) where
-    pub large-page : 256 < P → Wrong ≡ geometryOf P N i o
+    pub large-page : 256 < P → Invalid ≡ geometryOf P N i o
     unfolding geometryOf right
     large-page h = simp (geometryOf, right, le-leb 32 P a, lt-leb P 256 h, choose-false)
 
     module _ (b : P ≤ 256) where
-      pub few-pages : N < 2 → Wrong ≡ geometryOf P N i o
+      pub few-pages : N < 2 → Invalid ≡ geometryOf P N i o
       unfolding geometryOf right
       few-pages h = simp (geometryOf, right, le-leb 32 P a, le-leb P 256 b, lt-leb 2 N h, choose-false)
 
       module _ (c : 2 ≤ N) where
-        pub many-pages : 65535 < N → Wrong ≡ geometryOf P N i o
+        pub many-pages : 65535 < N → Invalid ≡ geometryOf P N i o
         unfolding geometryOf right
         many-pages h = simp (geometryOf, right, le-leb 32 P a, le-leb P 256 b, le-leb 2 N c, lt-leb N 65535 h, choose-false)
 
         module _ (d : N ≤ 65535) where
-          pub wrong-image : (i ≡ P * N → ⊥) → Wrong ≡ geometryOf P N i o
+          pub wrong-image : (i ≡ P * N → ⊥) → Invalid ≡ geometryOf P N i o
           unfolding geometryOf right
           wrong-image h = simp (geometryOf, right, le-leb 32 P a, le-leb P 256 b, le-leb 2 N c, le-leb N 65535 d, ne-eqb i (P * N) h, choose-false)
 
           module _ (e : i ≡ P * N) where
-            pub short-table : o < N → Wrong ≡ geometryOf P N i o
+            pub short-table : o < N → Invalid ≡ geometryOf P N i o
             unfolding geometryOf right
             short-table h = simp (geometryOf, right, le-leb 32 P a, le-leb P 256 b, le-leb 2 N c, le-leb N 65535 d, eq-eqb i (P * N) e, lt-leb N o h, choose-false)
 

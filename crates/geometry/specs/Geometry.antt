@@ -7,7 +7,7 @@ use lib.ListN.{length}
 use lib.Dec.{leb, eqb}
 use Rattle.geometry.specs.declared.Geometry.{Geometry}
 use Rattle.geometry.specs.declared.Shape.{Shape}
-use Rattle.geometry.specs.declared.Shape.the-variants.{Fits, Wrong}
+use Rattle.geometry.specs.declared.Shape.the-variants.{Fits, Invalid}
 use Rattle.geometry.specs.Choose.{choose}
 
 -- page numbers take one byte for N up to 256, two above
@@ -20,7 +20,7 @@ right size pages image owners = leb 32 size && (leb size 256 && (leb 2 pages && 
 
 -- the geometry, or number 1
 unfoldable pub geometryOf : ℕ → ℕ → ℕ → ℕ → Shape
-geometryOf size pages image owners = choose (right size pages image owners) (Fits (record { size = size; pages = pages; width = widthFor pages })) Wrong
+geometryOf size pages image owners = choose (right size pages image owners) (Fits (record { size = size; pages = pages; width = widthFor pages })) Invalid
 
 -- at most P - 3 - n data bytes in a packet
 unfoldable pub dataCapacity : Geometry → ℕ

@@ -16,7 +16,7 @@ pub struct Geometry {
 // A geometry that fits, or refusal 1.
 pub enum Shape {
     Fits(Geometry),
-    Wrong,
+    Invalid,
 }
 
 // The least and greatest page length and page count.
@@ -111,25 +111,22 @@ pub const MAP_OWNER: usize = 2;
 
 pub const FIRST_OWNER: usize = 3;
 
-// What marks a page that an edit takes; the check after the edit makes the table anew.
-pub const TAKEN: u16 = 3;
-
 impl Geometry {
     // Judges page length, page count, image length and owner table length.
     pub fn new(size: u32, pages: u32, image: usize, owners: usize) -> Shape
         ensures { λ r. ⌜ r ≡ geometryOf size pages image owners ⌝ }
     {
         if size < LEAST_SIZE {
-            return Shape::Wrong;
+            return Shape::Invalid;
         }
         if MOST_SIZE < size {
-            return Shape::Wrong;
+            return Shape::Invalid;
         }
         if pages < LEAST_PAGES {
-            return Shape::Wrong;
+            return Shape::Invalid;
         }
         if MOST_PAGES < pages {
-            return Shape::Wrong;
+            return Shape::Invalid;
         }
         Geometry::sized(size as usize, pages as usize, image, owners)
     }
@@ -140,10 +137,10 @@ impl Geometry {
         ensures { λ r. ⌜ r ≡ geometryOf size pages image owners ⌝ }
     {
         if image != size * pages {
-            return Shape::Wrong;
+            return Shape::Invalid;
         }
         if owners < pages {
-            return Shape::Wrong;
+            return Shape::Invalid;
         }
         let mut width = 2;
         if pages <= MOST_NARROW {

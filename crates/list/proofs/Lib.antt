@@ -1,1 +1,2 @@
+-- Laws of the program `list`: its buffers have room.
 mod Room

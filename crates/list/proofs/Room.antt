@@ -11,16 +11,16 @@ use Rattle.rules.specs.ResultLaws.{clash, ok-inj}
 use Rattle.rules.specs.ListText.{listText, textCall}
 use Rattle.dump.specs.declared.Printed.{Printed}
 use Rattle.dump.specs.declared.Printed.the-variants as printed
-use Rattle.dump.specs.Told.{told}
+use Rattle.dump.specs.PrintResult.{printResult}
 use Rattle.dump.specs.TextFits.{text-front, room-enough}
 use Rattle.list.specs.Input.{IsRead, PrintsText}
 
-module _ (front out after : List ℕ) (r : Printed) (h : 102600 ≤ length out) (e : (told r, after) ≡ textCall front out) where
-  whole : _≡_ {A = Res ℕ × List ℕ} (told r, after) (ok (length (listText front)), listText front ++ drop (length (listText front)) out)
+module _ (front out after : List ℕ) (r : Printed) (h : 102600 ≤ length out) (e : (printResult r, after) ≡ textCall front out) where
+  whole : _≡_ {A = Res ℕ × List ℕ} (printResult r, after) (ok (length (listText front)), listText front ++ drop (length (listText front)) out)
   whole = e ∙ room-enough front out h
 
-  tells : (s : Printed) → r ≡ s → told s ≡ ok (length (listText front))
-  tells s i = subst (λ (x : Printed). told x ≡ ok (length (listText front))) i (ap (λ (x : Res ℕ × List ℕ). x .0) whole)
+  tells : (s : Printed) → r ≡ s → printResult s ≡ ok (length (listText front))
+  tells s i = subst (λ (x : Printed). printResult x ≡ ok (length (listText front))) i (ap (λ (x : Res ℕ × List ℕ). x .0) whole)
 
   pub never-short : {C : Type 0} → r ≡ printed.TooShort → C
   never-short i = clash (tells printed.TooShort i)

@@ -1,153 +1,127 @@
 -- The search over a directory's entries as the code goes: a place in the chain, and that whatever answers what is ahead answers all.
-use mathlib.Core.Path.{_≡_, refl, sym, subst}
+use mathlib.Core.Path.{_≡_, refl, ap, sym, _∙_, subst}
 use mathlib.Core.List.{List, [], _∷_, _++_}
-use Prim.Native.Nat.{ℕ, zero, suc, _+_, _*_, _≤_, _<_}
+use Prim.Native.Nat.{ℕ, zero, suc}
 use native.Mathlib.Omega.{arith}
-use lib.ListN.{length, drop}
 use Rattle.geometry.specs.declared.Geometry.{Geometry}
-use Rattle.geometry.specs.Geometry.{entrySize, controlSize, Fit}
-use Rattle.geometry.specs.Page.{pageOf}
-use Rattle.packet.specs.Packet.{View, viewOf}
 use Rattle.rules.specs.declared.Entry.{Entry}
 use Rattle.rules.specs.declared.Line.{Line}
-use Rattle.rules.specs.Names.{entryOf}
-use Rattle.rules.specs.Tree.{Items, end, page, file, dir, startOf, fileEntry, directoryEntry, Token, newPage, entry, tokens}
+use Rattle.rules.specs.Chain.{Views}
+use Rattle.rules.specs.Tree.{labelOf, Items, end, startOf, Token, entry, tokens}
+use Rattle.rules.specs.TreeLaws.{pageTokens, page-first, partEntry, entry-first, onPages, pages-first, only-pages, lines-pages}
 use Rattle.rules.specs.WellFormed.{Under}
 use Rattle.rules.specs.Listing.{linesOf}
-use Rattle.rules.specs.Check.{Part, chain, directory}
-use Rattle.chain.specs.Claims.{IsGood, Counted}
-use Rattle.chain.specs.Steps.{firstStep}
+use Rattle.rules.specs.Check.{Part, chain, directory, add}
+use Rattle.chain.specs.KnownChain.{ChainAt}
 use Rattle.entries.specs.declared.Slot.{Slot}
-use Rattle.entries.specs.EntrySlots.{openOf, advanced}
-use Rattle.entries.proofs.TokensAt.{TokensAt, PageAt, EntryAt, next-entry, no-more, page-after, next-tokens, first-page}
-use Rattle.listing.specs.declared.Look.{Look}
-use Rattle.listing.specs.declared.Look.the-variants as look
-use Rattle.listing.specs.Standing.{Chained, Below, Stands, PartStands, HasPart, partLines, Looks, LooksPart}
+use Rattle.entries.specs.EntrySlots.{advanced}
+use Rattle.entries.specs.TokensAt.{TokensAt, InDirectory, Begins, IsEntry, NextEntry, NoEntry}
+use Rattle.entries.proofs.Stepping.{ReadAhead, read-ahead}
+use Rattle.listing.specs.declared.LineSearch.{LineSearch}
+use Rattle.listing.specs.declared.LineSearch.the-variants as look
+use Rattle.listing.specs.KnownTree.{Chained, Below, DirectoryAt, PartAt, HasPart, partLines, Looks, LooksPart}
 use Rattle.listing.proofs.Lines.{looks-first, looks-on}
 
--- ---- a tree by its tokens
-module _ (g : Geometry) (v : View) (levels level : ℕ) where
-  -- a page begins
-  record Opened (ts : List Token) (t : Items) : Type 0 where
-    pub rest : Items
-    pub shape : ts ≡ tokens rest
-    pub below : Below g v levels rest
-    pub lines : linesOf level t ≡ linesOf level rest
-
-  opens : (t : Items) (p : ℕ) (ts : List Token) → newPage p ∷ ts ≡ tokens t → Below g v levels t → Opened ts t
-  opens end p ts q b = absurd (let z : _≡_ {A = ℕ} 0 1 = cc in omega arith)
-  opens (page x t) p ts q b = record { rest = t; shape = cc; below = b; lines = refl }
-  opens (file l ls t) p ts q b = absurd (let z : _≡_ {A = ℕ} 0 1 = cc in omega arith)
-  opens (dir l d t) p ts q b = absurd (let z : _≡_ {A = ℕ} 0 1 = cc in omega arith)
-
-  ends : (t : Items) → [] ≡ tokens t → linesOf level t ≡ []
-  ends end q = refl
-  ends (page x t) q = absurd (let z : _≡_ {A = ℕ} 0 1 = cc in omega arith)
-  ends (file l ls t) q = absurd (let z : _≡_ {A = ℕ} 0 1 = cc in omega arith)
-  ends (dir l d t) q = absurd (let z : _≡_ {A = ℕ} 0 1 = cc in omega arith)
-
-  -- an entry, what it names, and the rest
+-- ---- pages in front of an entry, what it names, and the rest
+module _ (g : Geometry) (vs : Views) (levels level : ℕ) where
   record Entered (e : Entry) (ts : List Token) (t : Items) : Type 0 where
     pub part : Part
     pub rest : Items
-    pub stands : PartStands g v levels e part
-    pub shape : ts ≡ tokens rest
-    pub below : Below g v levels rest
+    pub stands : PartAt g vs levels e part
+    pub left : tokens rest ≡ ts
+    pub below : Below g vs levels rest
     pub lines : linesOf level t ≡ partLines level e part ++ linesOf level rest
 
-  under-stands : (n start : ℕ) (d : Items) → Chained g v start d → Under n (λ less. Below g v less d) → Under n (λ less. Stands g v less start d)
+  below-pages : (ps : List ℕ) (t : Items) → Below g vs levels (onPages ps t) → Below g vs levels t
+  below-pages [] t b = b
+  below-pages (p ∷ ps) t b = below-pages ps t b
+
+  under-stands : (n start : ℕ) (d : Items) → Chained g (vs .pages) start d → Under n (λ less. Below g vs less d) → Under n (λ less. DirectoryAt g vs less start d)
   under-stands zero start d c u = u
   under-stands (suc n) start d c u = record { chained = c; below = u }
 
-  enters : (t : Items) (e : Entry) (ts : List Token) → entry e ∷ ts ≡ tokens t → Below g v levels t → Entered e ts t
-  enters end e ts q b = absurd (let z : _≡_ {A = ℕ} 0 1 = cc in omega arith)
-  enters (page x t) e ts q b = absurd (let z : _≡_ {A = ℕ} 0 1 = cc in omega arith)
-  enters (file l ls t) e ts q b =
-      let i : fileEntry l ls ≡ e = cc in
-      let j : ts ≡ tokens t = cc in
-      subst (λ (x : Entry). Entered x ts (file l ls t)) i (record { part = chain ls; rest = t; stands = (b .0, refl, b .1); shape = j; below = b .2; lines = refl })
-  enters (dir l d t) e ts q b =
-      let i : directoryEntry l d ≡ e = cc in
-      let j : ts ≡ tokens t = cc in
-      subst (λ (x : Entry). Entered x ts (dir l d t)) i
-      (record { part = directory d; rest = t; stands = (refl, refl, b .1, under-stands levels (startOf d) d (b .0) (b .2)); shape = j; below = b .3; lines = refl })
+  part-stands : (e : Entry) (x : Part) (t : Items) → e ≡ partEntry (labelOf e) x → Below g vs levels (add e x t) → PartAt g vs levels e x × Below g vs levels t
+  part-stands e (chain ls) t q b = ((subst (λ (p : ℕ). ChainAt g (vs .file (e .extension)) p ls) (ap (λ (y : Entry). y .start) (sym q)) (b .0), ap (λ (y : Entry). y .pages) q, b .1), b .2)
+  part-stands e (directory d) t q b =
+      let i : startOf d ≡ e .start = ap (λ (y : Entry). y .start) (sym q) in
+      ((i, ap (λ (y : Entry). y .pages) q, b .1, subst (λ (p : ℕ). Under levels (λ less. DirectoryAt g vs less p d)) i (under-stands levels (startOf d) d (b .0) (b .2))), b .3)
 
--- ---- what is ahead at a place, where position k is looked for, in the search for position k₀ of t₀
-pub record Ahead (g : Geometry) (v : View) (levels level k₀ : ℕ) (t₀ : Items) (s : Slot) (k : ℕ) : Type 0 where
-  pub total : ℕ
-  pub rest : Items
-  pub ahead : TokensAt g v total s (tokens rest)
-  pub below : Below g v levels rest
-  pub finish : (r : Look) → Looks k (linesOf level rest) r → Looks k₀ (linesOf level t₀) r
+  part-lines : (e : Entry) (x : Part) (t : Items) → linesOf level (add e x t) ≡ partLines level e x ++ linesOf level t
+  part-lines e (chain ls) t = refl
+  part-lines e (directory d) t = refl
 
-module _ (g : Geometry) (image : List ℕ) (fit : Fit g image) (levels level k₀ : ℕ) (t₀ : Items) where
-  abbrev v : View
-  v = viewOf g image
-
-  abbrev Now : Slot → ℕ → Type 0
-  Now = Ahead g v levels level k₀ t₀
-
-  -- at the first entry of a page of the directory t
-  opened : (total k : ℕ) (s : Slot) (t : Items) → Below g v levels t → ((r : Look) → Looks k (linesOf level t) r → Looks k₀ (linesOf level t₀) r) → PageAt g v total s (tokens t) → Now s k
-  opened total k s t b f p =
-      let o = opens g v levels level t (s .page) (p .later) (sym (p .split)) b in
+  enters : (ps : List ℕ) (e : Entry) (ts : List Token) (t : Items) → tokens t ≡ pageTokens ps ++ (entry e ∷ ts) → Below g vs levels t → Entered e ts t
+  enters ps e ts t q b =
+      let a = pages-first ps (entry e ∷ ts) t q in
+      let o = entry-first e ts (a .rest) (a .left) in
+      let k = part-stands e (o .part) (o .rest) (o .entry-is) (subst (Below g vs levels) (o .is) (below-pages ps (a .rest) (subst (Below g vs levels) (a .is) b))) in
       record {
-        total = total;
+        part = o .part;
         rest = o .rest;
-        ahead = subst (TokensAt g v total s) (o .shape) (p .ahead);
-        below = o .below;
-        finish = λ r u. f r (subst (λ (xs : List Line). Looks k xs r) (sym (o .lines)) u);
+        stands = k .0;
+        left = o .left;
+        below = k .1;
+        lines = ap (linesOf level) (a .is) ∙ lines-pages level ps (a .rest) ∙ ap (linesOf level) (o .is) ∙ part-lines e (o .part) (o .rest);
       }
 
-  module _ (s : Slot) (k : ℕ) (A : Now s k) where
-    open Ahead A using (total, rest, ahead, below, finish)
+-- ---- what is ahead at a place, where position k is looked for, in the search for position k₀ of t₀
+pub record Ahead (g : Geometry) (vs : Views) (levels level k₀ : ℕ) (t₀ : Items) (s : Slot) (k : ℕ) : Type 0 where
+  pub rest : Items
+  pub ahead : TokensAt g (vs .pages) s (tokens rest)
+  pub below : Below g vs levels rest
+  pub finish : (r : LineSearch) → Looks k (linesOf level rest) r → Looks k₀ (linesOf level t₀) r
 
-    module _ (i : s .at < s .count) (e : Entry) (q : e ≡ entryOf (g .width) (drop (1 + s .skip + entrySize g * s .at) (pageOf g (s .page) image))) where
-      read : EntryAt g v total s e (tokens rest)
-      read = next-entry g image fit total s (tokens rest) ahead i e q
+-- the first page
+pub ahead-first : {g : Geometry} {vs : Views} {levels start : ℕ} {t : Items} {s : Slot} (level k : ℕ) → Begins g (vs .pages) start s → DirectoryAt g vs levels start t → Ahead g vs levels level k t s k
+ahead-first {g} {vs} {levels} {start} {t} {s} level k b S =
+    let p = b (S .chained .links) (S .chained .chain) in
+    let o = page-first (s .page) (p .later) t (sym (S .chained .shape) ∙ p .split) in
+    record {
+      rest = o .rest;
+      ahead = subst (TokensAt g (vs .pages) s) (sym (o .left)) (p .ahead);
+      below = subst (Below g vs levels) (o .is) (S .below);
+      finish = λ r u. subst (λ (x : Items). Looks k (linesOf level x) r) (sym (o .is)) u;
+    }
 
-      entered : Entered g v levels level e (read .later) rest
-      entered = enters g v levels level rest e (read .later) (sym (read .split)) below
+module _ {g : Geometry} {vs : Views} {levels level k₀ : ℕ} {t₀ : Items} {s : Slot} {k : ℕ} (A : Ahead g vs levels level k₀ t₀ s k) where
+  open Ahead A using (rest, ahead, below, finish)
 
-      -- what the entry names stands
-      pub ahead-part : HasPart g v levels e
-      ahead-part = record { part = entered .part; stands = entered .stands }
+  pub ahead-in : InDirectory g (vs .pages) s
+  ahead-in = record { ts = tokens rest; ahead = ahead }
 
-      module _ (r : Look) (f : LooksPart g v levels level e k r) where
-        told : (a : Look) → r ≡ a → Looks k (partLines level e (entered .part)) a
-        told a o = subst (Looks k (partLines level e (entered .part))) o (f (entered .part) (entered .stands))
+  -- no entry is ahead
+  pub ahead-done : ((ts : List Token) → TokensAt g (vs .pages) s ts → NoEntry ts) → Looks k₀ (linesOf level t₀) (look.Left k)
+  ahead-done n =
+      let o = n (tokens rest) ahead in
+      let e : linesOf level rest ≡ [] = ap (linesOf level) (only-pages (o .pages) rest (o .are)) ∙ lines-pages level (o .pages) end in
+      finish (look.Left k) (subst (λ (xs : List Line). Looks k xs (look.Left k)) (sym e) (omega arith))
 
-        pub ahead-found : (x : Line) → r ≡ look.Found x → Looks k₀ (linesOf level t₀) (look.Found x)
-        ahead-found x o =
-            let a = looks-first k (partLines level e (entered .part)) (linesOf level (entered .rest)) x (told (look.Found x) o) in
-            finish (look.Found x) (subst (λ (xs : List Line). Looks k xs (look.Found x)) (sym (entered .lines)) a)
+  -- the next entry
+  module _ {at : Slot} {e : Entry} (n : NextEntry g (vs .pages) s at) (i : IsEntry g (vs .pages) at e) where
+    abbrev read : ReadAhead g (vs .pages) s (tokens rest) at e
+    read = read-ahead n i (tokens rest) ahead
 
-        pub ahead-past : (j : ℕ) → r ≡ look.Left j → (s′ : Slot) → s′ ≡ advanced s → Now s′ j
-        ahead-past j o s′ y = subst (λ (x : Slot). Now x j) (sym y) (record {
-          total = total;
-          rest = entered .rest;
-          ahead = subst (TokensAt g v total (advanced s)) (entered .shape) (read .ahead);
-          below = entered .below;
-          finish = λ a h. finish a (subst (λ (xs : List Line). Looks k xs a) (sym (entered .lines))
-              (looks-on k j (partLines level e (entered .part)) (linesOf level (entered .rest)) (told (look.Left j) o) a h));
-        })
+    entered : Entered g vs levels level e (read .later) rest
+    entered = enters g vs levels level (read .pages) e (read .later) rest (read .split) below
 
-    module _ (i : s .count ≤ s .at) where
-      pub ahead-done : s .next .page ≡ 0 → Looks k₀ (linesOf level t₀) (look.Left k)
-      ahead-done z =
-          let n = ends g v levels level rest (sym (no-more g image fit total s (tokens rest) ahead i z)) in
-          finish (look.Left k) (subst (λ (xs : List Line). Looks k xs (look.Left k)) (sym n) (omega arith))
+    -- what it names stands
+    pub ahead-part : HasPart g vs levels e
+    ahead-part = record { part = entered .part; stands = entered .stands }
 
-      module _ (z : s .next .page ≡ 0 → ⊥) where
-        -- there is a next page
-        pub ahead-next : Counted (s .next) × (s .next .page < g .pages) × IsGood (v (s .next .page)) × (s .next .count < total)
-        ahead-next = page-after g image fit total s (tokens rest) ahead i z
+    module _ (r : LineSearch) (f : LooksPart g vs levels level e k r) where
+      told : (a : LineSearch) → r ≡ a → Looks k (partLines level e (entered .part)) a
+      told a o = subst (Looks k (partLines level e (entered .part))) o (f (entered .part) (entered .stands))
 
-        pub ahead-page : (s′ : Slot) → s′ ≡ openOf g v 0 (s .next) → Now s′ k
-        ahead-page s′ y = opened total k s′ rest below finish (next-tokens g image fit total s (tokens rest) ahead i z s′ y)
+      on-lines : (a : LineSearch) → Looks k (partLines level e (entered .part) ++ linesOf level (entered .rest)) a → Looks k₀ (linesOf level t₀) a
+      on-lines a h = finish a (subst (λ (xs : List Line). Looks k xs a) (sym (entered .lines)) h)
 
-  -- the first page
-  pub ahead-first : (start : ℕ) (s : Slot) → Stands g v levels start t₀ → s ≡ openOf g v (controlSize g) (firstStep start start) → Now s k₀
-  ahead-first start s S e =
-      let ls = S .chained .links in
-      opened (length ls) k₀ s t₀ (S .below) (λ r u. u) (subst (PageAt g v (length ls) s) (S .chained .shape) (first-page g image fit start s ls e (S .chained .chain)))
+      pub ahead-found : (x : Line) → r ≡ look.Found x → Looks k₀ (linesOf level t₀) (look.Found x)
+      ahead-found x o = on-lines (look.Found x) (looks-first k (partLines level e (entered .part)) (linesOf level (entered .rest)) x (told (look.Found x) o))
+
+      pub ahead-past : (j : ℕ) → r ≡ look.Left j → (s′ : Slot) → s′ ≡ advanced at → Ahead g vs levels level k₀ t₀ s′ j
+      ahead-past j o s′ y = subst (λ (x : Slot). Ahead g vs levels level k₀ t₀ x j) (sym y) (record {
+        rest = entered .rest;
+        ahead = subst (TokensAt g (vs .pages) (advanced at)) (sym (entered .left)) (read .ahead);
+        below = entered .below;
+        finish = λ a h. on-lines a (looks-on k j (partLines level e (entered .part)) (linesOf level (entered .rest)) (told (look.Left j) o) a h);
+      })

@@ -6,11 +6,11 @@ use Prim.Native.Nat.{ℕ, zero, suc, _+_, _-_, _<_}
 use native.Mathlib.Omega.{arith}
 use lib.ListN.{length, length-append}
 use Rattle.geometry.specs.declared.Geometry.{Geometry}
-use Rattle.packet.specs.Packet.{View}
 use Rattle.rules.specs.declared.Entry.{Entry}
 use Rattle.rules.specs.declared.Line.{Line}
 use Rattle.rules.specs.Result.{ok, err}
 use Rattle.rules.specs.ResultLaws.{clash}
+use Rattle.rules.specs.Chain.{Views}
 use Rattle.rules.specs.Names.{extensionNumber, attribute, directoryNumber}
 use Rattle.rules.specs.Tree.{Items}
 use Rattle.rules.specs.WellFormed.{Under}
@@ -18,11 +18,11 @@ use Rattle.rules.specs.Listing.{linesOf, lineAt}
 use Rattle.rules.specs.Check.{Part, chain, directory}
 use Rattle.directory.specs.declared.extensions.Extension.{Extension}
 use Rattle.directory.specs.Extensions.{Means}
-use Rattle.listing.specs.declared.Look.{Look}
-use Rattle.listing.specs.declared.Look.the-variants as look
-use Rattle.listing.specs.Standing.{Stands, PartStands, HasDirectory, HasPart, lineOf, headLine, partLines, Looks, Tells, Heads, LooksPart, LooksDirectory}
+use Rattle.listing.specs.declared.LineSearch.{LineSearch}
+use Rattle.listing.specs.declared.LineSearch.the-variants as look
+use Rattle.listing.specs.KnownTree.{DirectoryAt, PartAt, HasDirectory, HasPart, lineOf, headLine, partLines, Looks, Tells, Heads, LooksPart, LooksDirectory}
 use Rattle.chain.specs.KnownChain.{KnownChain}
-use Rattle.content.specs.Contents.{Counts}
+use Rattle.chain.specs.Contents.{Counts}
 
 -- ---- positions
 line-first : (k : ℕ) (xs ys : List Line) (x : Line) → lineAt k xs ≡ ok x → lineAt k (xs ++ ys) ≡ ok x
@@ -46,12 +46,12 @@ pub looks-first : (k : ℕ) (xs ys : List Line) (x : Line) → Looks k xs (look.
 looks-first k xs ys x q = line-first k xs ys x q
 
 -- past the first lines, looked for among the others
-pub looks-on : (k j : ℕ) (xs ys : List Line) → Looks k xs (look.Left j) → (r : Look) → Looks j ys r → Looks k (xs ++ ys) r
+pub looks-on : (k j : ℕ) (xs ys : List Line) → Looks k xs (look.Left j) → (r : LineSearch) → Looks j ys r → Looks k (xs ++ ys) r
 looks-on k j xs ys q (look.Found x) h = ap (λ (a : ℕ). lineAt a (xs ++ ys)) q ∙ line-past xs ys j ∙ h
 looks-on k j xs ys q (look.Left i) h = omega (arith, length-append xs ys)
 
 -- and so by the rule
-pub looks-tells : (k : ℕ) (xs : List Line) (r : Look) → Looks k xs r → Tells k xs r
+pub looks-tells : (k : ℕ) (xs : List Line) (r : LineSearch) → Looks k xs r → Tells k xs r
 looks-tells k xs (look.Found x) h = h
 looks-tells k xs (look.Left j) h = ap (λ (a : ℕ). lineAt a xs) h ∙ line-none xs j
 
@@ -64,14 +64,14 @@ apart : (b : Bool) → b ≡ true → b ≡ false → ⊥
 apart true p q = let z : _≡_ {A = ℕ} 0 1 = cc in omega arith
 apart false p q = let z : _≡_ {A = ℕ} 0 1 = cc in omega arith
 
-module _ (g : Geometry) (v : View) (levels level : ℕ) (e : Entry) where
+module _ (g : Geometry) (vs : Views) (levels level : ℕ) (e : Entry) where
   -- below a subdirectory is a level less
-  less-level : (n : ℕ) (d : Items) → Under n (λ less. Stands g v less (e .start) d) → Stands g v (n - 1) (e .start) d
+  less-level : (n : ℕ) (d : Items) → Under n (λ less. DirectoryAt g vs less (e .start) d) → DirectoryAt g vs (n - 1) (e .start) d
   less-level zero d u = absurd u
-  less-level (suc n) d u = let q : n ≡ suc n - 1 = omega arith in subst (λ (m : ℕ). Stands g v m (e .start) d) q u
+  less-level (suc n) d u = let q : n ≡ suc n - 1 = omega arith in subst (λ (m : ℕ). DirectoryAt g vs m (e .start) d) q u
 
   module _ (h : directoryNumber (e .extension) ≡ true) where
-    pub directory-head : (r : Line) → r ≡ lineOf level e 0 → Heads g v levels level e r
+    pub directory-head : (r : Line) → r ≡ lineOf level e 0 → Heads g vs levels level e r
     directory-head r q (chain ls) s = absurd (apart (directoryNumber (e .extension)) h (s .2))
     directory-head r q (directory d) s = q ∙ λ i. record {
       level = level;
@@ -84,26 +84,26 @@ module _ (g : Geometry) (v : View) (levels level : ℕ) (e : Entry) where
     }
 
     -- a subdirectory has a level left
-    pub some-level : HasPart g v levels e → 0 < levels
+    pub some-level : HasPart g vs levels e → 0 < levels
     some-level p = go (p .part) (p .stands)
       where
-        under : (n : ℕ) (d : Items) → Under n (λ less. Stands g v less (e .start) d) → 0 < n
+        under : (n : ℕ) (d : Items) → Under n (λ less. DirectoryAt g vs less (e .start) d) → 0 < n
         under zero d u = absurd u
         under (suc n) d u = omega arith
 
-        go : (x : Part) → PartStands g v levels e x → 0 < levels
+        go : (x : Part) → PartAt g vs levels e x → 0 < levels
         go (chain ls) s = absurd (apart (directoryNumber (e .extension)) h (s .2))
         go (directory d) s = under levels d (s .3)
 
-    pub has-directory : HasPart g v levels e → HasDirectory g v (levels - 1) (e .start)
+    pub has-directory : HasPart g vs levels e → HasDirectory g vs (levels - 1) (e .start)
     has-directory p = go (p .part) (p .stands)
       where
-        go : (x : Part) → PartStands g v levels e x → HasDirectory g v (levels - 1) (e .start)
+        go : (x : Part) → PartAt g vs levels e x → HasDirectory g vs (levels - 1) (e .start)
         go (chain ls) s = absurd (apart (directoryNumber (e .extension)) h (s .2))
         go (directory d) s = record { tree = d; stands = less-level levels d (s .3) }
 
     -- past its own line, what is looked for below it
-    pub looks-below : (k : ℕ) (r : Look) → (k ≡ 0 → ⊥) → LooksDirectory g v (levels - 1) (level + 1) (e .start) (k - 1) r → LooksPart g v levels level e k r
+    pub looks-below : (k : ℕ) (r : LineSearch) → (k ≡ 0 → ⊥) → LooksDirectory g vs (levels - 1) (level + 1) (e .start) (k - 1) r → LooksPart g vs levels level e k r
     looks-below k r z f (chain ls) s = absurd (apart (directoryNumber (e .extension)) h (s .2))
     looks-below k r z f (directory d) s =
         let u : level + 1 ≡ suc level = omega arith in
@@ -111,7 +111,7 @@ module _ (g : Geometry) (v : View) (levels level : ℕ) (e : Entry) where
         looks-on k (k - 1) (headLine level e (directory d) ∷ []) (linesOf (suc level) d) (omega arith) r a
 
   module _ (h : directoryNumber (e .extension) ≡ false) where
-    pub file-head : (n : ℕ) (r : Line) → Counts g v (e .start) n → r ≡ lineOf level e n → Heads g v levels level e r
+    pub file-head : (n : ℕ) (r : Line) → Counts g (vs .file (e .extension)) (e .start) n → r ≡ lineOf level e n → Heads g vs levels level e r
     file-head n r f q (directory d) s = absurd (apart (directoryNumber (e .extension)) (s .2) h)
     file-head n r f q (chain ls) s = q ∙ λ i. record {
       level = level;
@@ -123,19 +123,19 @@ module _ (g : Geometry) (v : View) (levels level : ℕ) (e : Entry) where
       length = f ls (s .0) i;
     }
 
-    pub file-known : HasPart g v levels e → KnownChain g v (e .start)
+    pub file-known : HasPart g vs levels e → KnownChain g (vs .file (e .extension)) (e .start)
     file-known p = go (p .part) (p .stands)
       where
-        go : (x : Part) → PartStands g v levels e x → KnownChain g v (e .start)
+        go : (x : Part) → PartAt g vs levels e x → KnownChain g (vs .file (e .extension)) (e .start)
         go (directory d) s = absurd (apart (directoryNumber (e .extension)) (s .2) h)
         go (chain ls) s = record { links = ls; chain = s .0 }
 
-    pub looks-file : (k : ℕ) → (k ≡ 0 → ⊥) → LooksPart g v levels level e k (look.Left (k - 1))
+    pub looks-file : (k : ℕ) → (k ≡ 0 → ⊥) → LooksPart g vs levels level e k (look.Left (k - 1))
     looks-file k z (directory d) s = absurd (apart (directoryNumber (e .extension)) (s .2) h)
     looks-file k z (chain ls) s = omega arith
 
   -- its own line
-  pub looks-head : (k : ℕ) (r : Line) → k ≡ 0 → Heads g v levels level e r → LooksPart g v levels level e k (look.Found r)
+  pub looks-head : (k : ℕ) (r : Line) → k ≡ 0 → Heads g vs levels level e r → LooksPart g vs levels level e k (look.Found r)
   unfolding lineAt
   looks-head k r z f (chain ls) s = ap (λ (a : ℕ). lineAt a (partLines level e (chain ls))) z ∙ ap ok (sym (f (chain ls) s))
   looks-head k r z f (directory d) s = ap (λ (a : ℕ). lineAt a (partLines level e (directory d))) z ∙ ap ok (sym (f (directory d) s))

@@ -1,6 +1,7 @@
 // The entry at a walk position of an image that is known to be accepted, found in the image alone.
 use directory::extensions::extension_of;
 use directory::extensions::is_directory;
+use entries::Next;
 use entries::Slot;
 use geometry::Geometry;
 use geometry::MOST_LEVELS;
@@ -9,11 +10,11 @@ use rules::Line;
 ghost use mathlib.Core.Path.{_≡_};
 ghost use Prim.Native.Nat.{_+_, _≤_};
 ghost use Rattle.geometry.specs.Geometry.{Fit};
-ghost use Rattle.packet.specs.Packet.{viewOf};
-ghost use Rattle.listing.specs.Standing.{HasDirectory, HasPart, Accepted, lineOf, Heads, LooksPart, LooksDirectory, LooksImage};
+ghost use Rattle.rules.specs.Chain.{viewsOf};
+ghost use Rattle.listing.specs.KnownTree.{HasDirectory, HasPart, HasImage, lineOf, Heads, LooksPart, LooksDirectory, LooksImage};
 
 // The line at a position, or how far past the last line it lies.
-pub enum Look {
+pub enum LineSearch {
     Found(Line),
     Left(usize),
 }
@@ -37,28 +38,35 @@ fn line_of(level: usize, e: Entry, length: usize) -> Line
 // The line of an entry: a file's bytes are counted along its chain.
 fn entry_line(image: &[u8], g: Geometry, levels: usize, level: usize, e: Entry) -> Line
     requires { ⌜ Fit g (now image) ⌝ }
-    requires { ⌜ HasPart g (viewOf g (now image)) levels e ⌝ }
-    ensures { λ r. ⌜ Heads g (viewOf g (now (image .entry))) levels level e r ⌝ }
+    requires { ⌜ HasPart g (viewsOf g (now image)) levels e ⌝ }
+    ensures { λ r. ⌜ Heads g (viewsOf g (now (image .entry))) levels level e r ⌝ }
 {
     if is_directory(e.extension) {
         return line_of(level, e, 0);
     }
-    line_of(level, e, content::chain_bytes(image, g, e.start))
+    line_of(level, e, chain::chain_bytes(image, g, e.start))
 }
 
 // The line at a position among those of one entry: its own, and all below a subdirectory.
-fn look_entry(image: &[u8], g: Geometry, levels: usize, level: usize, e: Entry, k: usize) -> Look
+fn look_entry(
+    image: &[u8],
+    g: Geometry,
+    levels: usize,
+    level: usize,
+    e: Entry,
+    k: usize,
+) -> LineSearch
     requires { ⌜ Fit g (now image) ⌝ }
-    requires { ⌜ (levels + level ≤ 8) × HasPart g (viewOf g (now image)) levels e ⌝ }
-    ensures { λ r. ⌜ LooksPart g (viewOf g (now (image .entry))) levels level e k r ⌝ }
+    requires { ⌜ (levels + level ≤ 8) × HasPart g (viewsOf g (now image)) levels e ⌝ }
+    ensures { λ r. ⌜ LooksPart g (viewsOf g (now (image .entry))) levels level e k r ⌝ }
 {
     if k == 0 {
-        return Look::Found(entry_line(image, g, levels, level, e));
+        return LineSearch::Found(entry_line(image, g, levels, level, e));
     }
     if is_directory(e.extension) {
         return look_directory(image, g, levels - 1, level + 1, e.start, k - 1);
     }
-    Look::Left(k - 1)
+    LineSearch::Left(k - 1)
 }
 
 // The line at a position among those of a directory and all below it.
@@ -69,36 +77,31 @@ fn look_directory(
     level: usize,
     start: usize,
     k: usize,
-) -> Look
+) -> LineSearch
     requires { ⌜ Fit g (now image) ⌝ }
-    requires { ⌜ (levels + level ≤ 8) × HasDirectory g (viewOf g (now image)) levels start ⌝ }
-    ensures { λ r. ⌜ LooksDirectory g (viewOf g (now (image .entry))) levels level start k r ⌝ }
+    requires { ⌜ (levels + level ≤ 8) × HasDirectory g (viewsOf g (now image)) levels start ⌝ }
+    ensures { λ r. ⌜ LooksDirectory g (viewsOf g (now (image .entry))) levels level start k r ⌝ }
 {
     let mut slot = Slot::first(image, g, start);
     let mut left = k;
     loop {
-        if slot.at < slot.count {
-            let e = slot.entry(image, g);
-            match look_entry(image, g, levels, level, e, left) {
-                Look::Found(x) => return Look::Found(x),
-                Look::Left(j) => left = j,
-            }
-            slot = slot.past();
-        } else {
-            let next = slot.next;
-            if next.page == 0 {
-                return Look::Left(left);
-            }
-            slot = Slot::begin(next, 0, image, g);
+        let Next::At(at) = slot.next_entry(image, g) else {
+            return LineSearch::Left(left);
+        };
+        let e = at.entry(image, g);
+        match look_entry(image, g, levels, level, e, left) {
+            LineSearch::Found(x) => return LineSearch::Found(x),
+            LineSearch::Left(j) => left = j,
         }
+        slot = at.past();
     }
 }
 
 // The entry at a walk position of an accepted image.
-pub fn line_at(image: &[u8], g: Geometry, k: usize) -> Look
+pub fn line_at(image: &[u8], g: Geometry, k: usize) -> LineSearch
     requires { ⌜ Fit g (now image) ⌝ }
-    requires { ⌜ Accepted g (viewOf g (now image)) ⌝ }
-    ensures { λ r. ⌜ LooksImage g (viewOf g (now (image .entry))) k r ⌝ }
+    requires { ⌜ HasImage g (viewsOf g (now image)) ⌝ }
+    ensures { λ r. ⌜ LooksImage g (viewsOf g (now (image .entry))) k r ⌝ }
 {
     look_directory(image, g, MOST_LEVELS, 0, 0, k)
 }

@@ -5,18 +5,16 @@ use Prim.Native.Nat.{ℕ, _≤_}
 use native.Mathlib.Omega.{arith}
 use lib.ListN.{drop}
 use Rattle.geometry.specs.declared.Geometry.{Geometry}
-use Rattle.packet.specs.Packet.{View}
 use Rattle.rules.specs.declared.Entry.{Entry}
 use Rattle.rules.specs.Result.{ok, err}
-use Rattle.rules.specs.Chain.{Link}
+use Rattle.rules.specs.Chain.{Views, Link}
 use Rattle.rules.specs.Names.{key}
 use Rattle.rules.specs.Tree.{Label, Items, fileEntry, Image}
-use Rattle.rules.specs.Control.{theRoot}
 use Rattle.rules.specs.Check.{check}
-use Rattle.rules.specs.Paths.{namesIn, fileKey, Found, nothing, aFile, aDirectory, find, atRoot, Place, directoryAt, targetOf}
+use Rattle.rules.specs.Paths.{namesIn, fileKey, Found, nothing, aFile, aDirectory, find, Place, rootPlace, directoryAt, targetOf}
 use Rattle.rules.specs.TargetLaws.{target-nowhere, target-is}
-use Rattle.chain.specs.KnownChain.{ChainStands}
-use Rattle.path.proofs.Parts.{Parts}
+use Rattle.chain.specs.KnownChain.{ChainAt}
+use Rattle.lookup.proofs.Parts.{Parts}
 use Rattle.listing.proofs.Accepting.{accepted-stands}
 use Rattle.entries.specs.declared.Slot.{Slot}
 use Rattle.lookup.specs.declared.Spot.{Spot}
@@ -26,73 +24,74 @@ use Rattle.lookup.specs.declared.Resolved.{Resolved}
 use Rattle.lookup.specs.declared.Resolved.the-variants as resolved
 use Rattle.lookup.specs.Searches.{entryOf, TreeAt, HasTree, Leads, PlaceOf, IsPlace}
 use Rattle.lookup.specs.Targets.{FileAbsent, FileAt}
-use Rattle.lookup.proofs.Resolving.{FoundStands, find-stands, no-directory}
+use Rattle.lookup.proofs.Resolving.{FoundAt, find-stands, no-directory}
 
-pub root-tree : (g : Geometry) (v : View) (i : Image) → check g v ≡ ok i → TreeAt g v 0 (i .tree)
-root-tree g v i accepted = record { levels = 8; stands = accepted-stands g v i accepted }
+pub root-tree : (g : Geometry) (vs : Views) (i : Image) → check g vs ≡ ok i → TreeAt g vs 0 (i .tree)
+root-tree g vs i accepted = record { levels = 8; stands = accepted-stands g vs i accepted }
 
-module _ (g : Geometry) (v : View) (path : List ℕ) (i : Image) (names name extension : ℕ) (P : Parts path names name extension) where
+module _ (g : Geometry) (vs : Views) (path : List ℕ) (i : Image) (names name extension : ℕ) (P : Parts path names name extension) where
   -- the rule's directory, and that it stands from a start page on
   pub record PlaceAt (start : ℕ) : Type 0 where
     pub place : Place
-    pub is : directoryAt (P .path .directories) atRoot theRoot (i .tree) ≡ ok place
-    pub tree : TreeAt g v start (place .items)
+    pub is : directoryAt (P .path .directories) (rootPlace (i .tree)) ≡ ok place
+    pub tree : TreeAt g vs start (place .items)
 
-  module _ (r : Resolved) (h : Leads g v (directoryAt (namesIn names (drop 0 path)) atRoot theRoot (i .tree)) r) where
-    names-are : directoryAt (namesIn names (drop 0 path)) atRoot theRoot (i .tree) ≡ directoryAt (P .path .directories) atRoot theRoot (i .tree)
-    names-are = ap (λ (l : List ℕ). directoryAt l atRoot theRoot (i .tree)) (sym (P .directories))
+  module _ (r : Resolved) (h : Leads g vs (directoryAt (namesIn names (drop 0 path)) (rootPlace (i .tree))) r) where
+    names-are : directoryAt (namesIn names (drop 0 path)) (rootPlace (i .tree)) ≡ directoryAt (P .path .directories) (rootPlace (i .tree))
+    names-are = ap (λ (l : List ℕ). directoryAt l (rootPlace (i .tree))) (sym (P .directories))
 
-    pub no-directory-at : r ≡ resolved.Absent → directoryAt (P .path .directories) atRoot theRoot (i .tree) ≡ err 15 0
-    no-directory-at e = sym names-are ∙ subst (Leads g v (directoryAt (namesIn names (drop 0 path)) atRoot theRoot (i .tree))) e h
+    pub no-directory-at : r ≡ resolved.Absent → directoryAt (P .path .directories) (rootPlace (i .tree)) ≡ err 15 0
+    no-directory-at e = sym names-are ∙ subst (Leads g vs (directoryAt (namesIn names (drop 0 path)) (rootPlace (i .tree)))) e h
 
     pub place-at : (start : ℕ) → r ≡ resolved.Directory start → PlaceAt start
     place-at start e =
-        let k = subst (Leads g v (directoryAt (namesIn names (drop 0 path)) atRoot theRoot (i .tree))) e h in
+        let k = subst (Leads g vs (directoryAt (namesIn names (drop 0 path)) (rootPlace (i .tree)))) e h in
         record { place = k .0; is = sym names-are ∙ k .1; tree = k .2 }
 
-    pub has-tree : (start : ℕ) → r ≡ resolved.Directory start → HasTree g v start
+    pub has-tree : (start : ℕ) → r ≡ resolved.Directory start → HasTree g vs start
     has-tree start e = let k = place-at start e in record { tree = k .place .items; at = k .tree }
 
 -- what is found under a file's key is a file, and its chain stands
-pub record FoundFile (g : Geometry) (v : View) (k : ℕ) (t : Items) (e : Entry) : Type 0 where
+pub record FoundFile (g : Geometry) (vs : Views) (k : ℕ) (t : Items) (e : Entry) : Type 0 where
   pub label : Label
   pub links : List Link
   pub is : find k t ≡ aFile label links
   pub entry-is : e ≡ fileEntry label links
-  pub chain : ChainStands g v (e .start) links
+  pub chain : ChainAt g (vs .file (e .extension)) (e .start) links
 
-pub found-file : (g : Geometry) (v : View) (start : ℕ) (t : Items) → TreeAt g v start t → (k name extension : ℕ) → k ≡ key name extension → extension ≤ 99 → (e : Entry) → search.Found e ≡ entryOf (find k t)
-    → FoundFile g v k t e
-found-file g v start t T k name extension k-is low e q = go (find k t) refl (find-stands g v (T .levels) k t (T .stands .below)) q
+pub found-file : (g : Geometry) (vs : Views) (start : ℕ) (t : Items) → TreeAt g vs start t → (k name extension : ℕ) → k ≡ key name extension → extension ≤ 99 → (e : Entry) → search.Found e ≡ entryOf (find k t)
+    → FoundFile g vs k t e
+found-file g vs start t T k name extension k-is low e q = go (find k t) refl (find-stands g vs (T .levels) k t (T .stands .below)) q
   where
-    go : (x : Found) → find k t ≡ x → FoundStands g v (T .levels) k x → search.Found e ≡ entryOf x → FoundFile g v k t e
+    go : (x : Found) → find k t ≡ x → FoundAt g vs (T .levels) k x → search.Found e ≡ entryOf x → FoundFile g vs k t e
     go nothing j b z = absurd (let z : _≡_ {A = ℕ} 0 1 = cc in omega arith)
     go (aDirectory l d) j b z = absurd (no-directory k name extension l k-is low (b .0) (b .2))
     go (aFile l ls) j b z =
         let y : e ≡ fileEntry l ls = cc in
-        record { label = l; links = ls; is = j; entry-is = y; chain = subst (λ (n : ℕ). ChainStands g v n ls) (sym (ap (λ (x : Entry). x .start) y)) (b .1) }
+        record { label = l; links = ls; is = j; entry-is = y; chain = subst (λ (x : Entry). ChainAt g (vs .file (x .extension)) (x .start) ls) (sym y) (b .1) }
 
 -- ---- what stands at the path
-module _ (g : Geometry) (v : View) (path : List ℕ) (i : Image) (names name extension : ℕ) (P : Parts path names name extension) (r : Resolved)
-    (h : Leads g v (directoryAt (namesIn names (drop 0 path)) atRoot theRoot (i .tree)) r) where
+module _ (g : Geometry) (vs : Views) (path : List ℕ) (i : Image) (names name extension : ℕ) (P : Parts path names name extension) (r : Resolved)
+    (h : Leads g vs (directoryAt (namesIn names (drop 0 path)) (rootPlace (i .tree))) r) where
   pub nowhere : r ≡ resolved.Absent → targetOf path (i .tree) ≡ err 15 0
-  nowhere e = target-nowhere path (i .tree) (P .path) (P .is) 15 0 (no-directory-at g v path i names name extension P r h e)
+  nowhere e = target-nowhere path (i .tree) (P .path) (P .is) 15 0 (no-directory-at g vs path i names name extension P r h e)
 
-  module _ (start : ℕ) (r-is : r ≡ resolved.Directory start) (k : ℕ) (k-is : k ≡ key name extension) (s : Spot) (f : (t : Items) → TreeAt g v start t → IsPlace g v k t s) where
-    abbrev there : PlaceAt g v path i names name extension P start
-    there = place-at g v path i names name extension P r h start r-is
+  module _ (start : ℕ) (r-is : r ≡ resolved.Directory start) (k : ℕ) (k-is : k ≡ key name extension) (s : Spot) (f : (t : Items) → TreeAt g vs start t → IsPlace g (vs .pages) k t s) where
+    abbrev there : PlaceAt g vs path i names name extension P start
+    there = place-at g vs path i names name extension P r h start r-is
 
     same-key : k ≡ fileKey (P .path)
     same-key = k-is ∙ sym (P .key-is)
 
-    pub file-absent : s ≡ spot.Absent → FileAbsent g v path i start name extension
+    pub file-absent : s ≡ spot.Absent → FileAbsent g vs path i start name extension
     file-absent q = record {
       target = record { to = P .path; place = there .place };
       reached = target-is path (i .tree) (P .path) (P .is) (there .place) (there .is);
       name-is = P .name-is;
       extension-is = P .extension-is;
       tree = there .tree;
-      absent = go (find (fileKey (P .path)) (there .place .items)) refl (subst (λ (n : ℕ). search.Absent ≡ entryOf (find n (there .place .items))) same-key (subst (IsPlace g v k (there .place .items)) q (f (there .place .items) (there .tree))));
+      absent = go (find (fileKey (P .path)) (there .place .items)) refl (subst (λ (n : ℕ). search.Absent ≡ entryOf (find n (there .place .items))) same-key
+          (subst (IsPlace g (vs .pages) k (there .place .items)) q (f (there .place .items) (there .tree))));
     }
       where
         go : (x : Found) → find (fileKey (P .path)) (there .place .items) ≡ x → search.Absent ≡ entryOf x → find (fileKey (P .path)) (there .place .items) ≡ nothing
@@ -100,10 +99,10 @@ module _ (g : Geometry) (v : View) (path : List ℕ) (i : Image) (names name ext
         go (aFile l ls) e z = absurd (let z : _≡_ {A = ℕ} 0 1 = cc in omega arith)
         go (aDirectory l d) e z = absurd (let z : _≡_ {A = ℕ} 0 1 = cc in omega arith)
 
-    pub file-at : (p : Slot) (e : Entry) → s ≡ spot.At p e → FileAt g v path i p e
+    pub file-at : (p : Slot) (e : Entry) → s ≡ spot.At p e → FileAt g vs path i p e
     file-at p e q =
-        let at : PlaceOf g v k (there .place .items) p e = subst (IsPlace g v k (there .place .items)) q (f (there .place .items) (there .tree)) in
-        let x = found-file g v start (there .place .items) (there .tree) k name extension k-is (P .low) e (at .found) in
+        let at : PlaceOf g (vs .pages) k (there .place .items) p e = subst (IsPlace g (vs .pages) k (there .place .items)) q (f (there .place .items) (there .tree)) in
+        let x = found-file g vs start (there .place .items) (there .tree) k name extension k-is (P .low) e (at .found) in
         record {
           target = record { to = P .path; place = there .place };
           reached = target-is path (i .tree) (P .path) (P .is) (there .place) (there .is);
@@ -112,5 +111,5 @@ module _ (g : Geometry) (v : View) (path : List ℕ) (i : Image) (names name ext
           found = ap (λ (n : ℕ). find n (there .place .items)) (sym same-key) ∙ x .is;
           entry-is = x .entry-is;
           chain = x .chain;
-          at = subst (λ (n : ℕ). PlaceOf g v n (there .place .items) p e) same-key at;
+          at = subst (λ (n : ℕ). PlaceOf g (vs .pages) n (there .place .items) p e) same-key at;
         }

@@ -1,3 +1,5 @@
 pub mod Searches
 pub mod Targets
 pub mod TargetLaws
+pub mod ParsedPath
+pub mod Spaces

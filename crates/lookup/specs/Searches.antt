@@ -8,16 +8,16 @@ use Rattle.geometry.specs.Geometry.{controlSize}
 use Rattle.packet.specs.Packet.{good, View}
 use Rattle.rules.specs.declared.Entry.{Entry}
 use Rattle.rules.specs.Result.{Res, ok, err}
-use Rattle.rules.specs.Chain.{Link}
+use Rattle.rules.specs.Chain.{Views, Link}
 use Rattle.rules.specs.Tree.{Label, Items, fileEntry, directoryEntry, Token, newPage, entry, tokens}
-use Rattle.rules.specs.Control.{Above}
-use Rattle.rules.specs.Paths.{namesIn, Found, nothing, aFile, aDirectory, find, Site, Place, directoryAt}
+use Rattle.rules.specs.TreeLaws.{entryTokens}
+use Rattle.rules.specs.Paths.{namesIn, Found, nothing, aFile, aDirectory, find, Place, directoryAt}
 use Rattle.rules.specs.Put.{replace}
 use Rattle.rules.specs.Delete.{remove}
-use Rattle.editing.specs.PageChange.{entryTokens, controlOn}
+use Rattle.editing_theorems.specs.PageChange.{controlOn}
 use Rattle.entries.specs.declared.Slot.{Slot}
 use Rattle.entries.specs.EntrySlots.{Fits}
-use Rattle.listing.specs.Standing.{Stands}
+use Rattle.listing.specs.KnownTree.{DirectoryAt}
 use Rattle.lookup.specs.declared.Spot.{Spot}
 use Rattle.lookup.specs.declared.Spot.the-variants as spot
 use Rattle.lookup.specs.declared.Search.{Search}
@@ -31,24 +31,25 @@ entryOf nothing = search.Absent
 entryOf (aFile l ls) = search.Found (fileEntry l ls)
 entryOf (aDirectory l d) = search.Found (directoryEntry l d)
 
-module _ (g : Geometry) (v : View) where
+module _ (g : Geometry) (vs : Views) where
   -- a directory's tree from a start page on, with some levels left; that there is one
   pub record TreeAt (start : ℕ) (t : Items) : Type 0 where
     pub levels : ℕ
-    pub stands : Stands g v levels start t
+    pub stands : DirectoryAt g vs levels start t
 
   pub record HasTree (start : ℕ) : Type 0 where
     pub tree : Items
     pub at : TreeAt start tree
 
-  -- the place s of the entry e under a key in the directory t: the tokens before its page, the entries before it, what comes after; and the directory with the file removed or replaced
+module _ (g : Geometry) (v : View) where
+  -- the place s of the entry e under a key in the directory t: the tokens before its page, the entries before it, what comes after; and the directory with the entry removed, or with the file replaced
   pub record PlaceOf (k : ℕ) (t : Items) (s : Slot) (e : Entry) : Type 0 where
     pub found : search.Found e ≡ entryOf (find k t)
     pub before : List Token
     pub entries : List Entry
     pub later : List Token
     pub shape : tokens t ≡ before ++ (newPage (s .page) ∷ (entryTokens entries ++ (entry e ∷ later)))
-    pub removed : (l : Label) (ls : List Link) → find k t ≡ aFile l ls → tokens (remove k t) ≡ before ++ (newPage (s .page) ∷ (entryTokens entries ++ later))
+    pub removed : tokens (remove k t) ≡ before ++ (newPage (s .page) ∷ (entryTokens entries ++ later))
     pub replaced : (l : Label) (ls new : List Link) → find k t ≡ aFile l ls
         → tokens (replace k new t) ≡ before ++ (newPage (s .page) ∷ (entryTokens entries ++ (entry (fileEntry l new) ∷ later)))
     pub at-is : length entries ≡ s .at
@@ -61,17 +62,18 @@ module _ (g : Geometry) (v : View) where
   IsPlace k t (spot.At s e) = PlaceOf k t s e
   IsPlace k t spot.Absent = search.Absent ≡ entryOf (find k t)
 
+module _ (g : Geometry) (vs : Views) where
   abbrev pub Places : ℕ → ℕ → Spot → Type 0
-  Places start k r = (t : Items) → TreeAt start t → IsPlace k t r
+  Places start k r = (t : Items) → TreeAt g vs start t → IsPlace g (vs .pages) k t r
 
   -- the entry under a key, for whatever directory stands there
   abbrev pub Finds : ℕ → ℕ → Search → Type 0
-  Finds start k r = (t : Items) → TreeAt start t → r ≡ entryOf (find k t)
+  Finds start k r = (t : Items) → TreeAt g vs start t → r ≡ entryOf (find k t)
 
   -- the directory told is the rule's; absent is 15
   abbrev pub Leads : Res Place → Resolved → Type 0
-  Leads rule (resolved.Directory s) = (place : Place) × (rule ≡ ok place) × TreeAt s (place .items)
+  Leads rule (resolved.Directory s) = (place : Place) × (rule ≡ ok place) × TreeAt g vs s (place .items)
   Leads rule resolved.Absent = rule ≡ err 15 0
 
   abbrev pub Resolves : ℕ → List ℕ → ℕ → ℕ → Resolved → Type 0
-  Resolves start path at names r = (t : Items) → TreeAt start t → (site : Site) (here : Above) → Leads (directoryAt (namesIn names (drop at path)) site here t) r
+  Resolves start path at names r = (p : Place) → TreeAt g vs start (p .items) → Leads (directoryAt (namesIn names (drop at path)) p) r

@@ -5,10 +5,10 @@ use Prim.Native.Nat.{ℕ, _≤_, _<_}
 use native.Mathlib.Omega.{arith}
 use borrow.Author.Tests.{eq-eqb, ne-eqb}
 use Rattle.geometry.specs.declared.Geometry.{Geometry}
-use Rattle.packet.specs.Packet.{View}
 use Rattle.rules.specs.declared.Entry.{Entry}
 use Rattle.rules.specs.Result.{ok, err}
 use Rattle.rules.specs.ResultLaws.{refuse-true, refuse-false}
+use Rattle.rules.specs.Chain.{Views}
 use Rattle.rules.specs.Names.{attribute}
 use Rattle.rules.specs.Tree.{Image}
 use Rattle.rules.specs.Check.{check}
@@ -16,12 +16,12 @@ use Rattle.rules.specs.Paths.{aFile}
 use Rattle.rules.specs.Put.{writable}
 use Rattle.entries.specs.declared.Slot.{Slot}
 use Rattle.lookup.specs.declared.PathLookup.{PathLookup}
-use Rattle.lookup.specs.Targets.{FileAt, Stands, Looks}
+use Rattle.lookup.specs.Targets.{FileAt, AtPath, Looks}
 
-pub looks-as : (g : Geometry) (v : View) (path : List ℕ) (i : Image) (r : PathLookup) → Looks g v path r → check g v ≡ ok i → (x : PathLookup) → r ≡ x → Stands g v path i x
-looks-as g v path i r h accepted x e = subst (Stands g v path i) e (h i accepted)
+pub looks-as : (g : Geometry) (vs : Views) (path : List ℕ) (i : Image) (r : PathLookup) → Looks g vs path r → check g vs ≡ ok i → (x : PathLookup) → r ≡ x → AtPath g vs path i x
+looks-as g vs path i r h accepted x e = subst (AtPath g vs path i) e (h i accepted)
 
-module _ {g : Geometry} {v : View} {path : List ℕ} {i : Image} {s : Slot} {e : Entry} (there : FileAt g v path i s e) where
+module _ {g : Geometry} {vs : Views} {path : List ℕ} {i : Image} {s : Slot} {e : Entry} (there : FileAt g vs path i s e) where
   pub same-extension : e .extension ≡ there .label .extension
   same-extension = ap (λ (x : Entry). x .extension) (there .entry-is)
 

@@ -3,27 +3,26 @@ use mathlib.Core.Path.{_≡_}
 use mathlib.Core.List.{List}
 use Prim.Native.Nat.{ℕ}
 use Rattle.geometry.specs.declared.Geometry.{Geometry}
-use Rattle.packet.specs.Packet.{View}
 use Rattle.rules.specs.declared.Entry.{Entry}
 use Rattle.rules.specs.Result.{ok, err}
-use Rattle.rules.specs.Chain.{Link}
+use Rattle.rules.specs.Chain.{Views, Link}
 use Rattle.rules.specs.Tree.{Label, fileEntry, Image}
 use Rattle.rules.specs.Check.{check}
 use Rattle.rules.specs.Paths.{fileKey, nothing, aFile, find, Target, targetOf}
-use Rattle.chain.specs.KnownChain.{ChainStands}
+use Rattle.chain.specs.KnownChain.{ChainAt}
 use Rattle.entries.specs.declared.Slot.{Slot}
 use Rattle.lookup.specs.declared.PathLookup.{PathLookup}
 use Rattle.lookup.specs.declared.PathLookup.the-variants as lookup
 use Rattle.lookup.specs.Searches.{TreeAt, PlaceOf}
 
-module _ (g : Geometry) (v : View) (path : List ℕ) (i : Image) where
+module _ (g : Geometry) (vs : Views) (path : List ℕ) (i : Image) where
   -- its directory, from page `start` on, does not have the file
   pub record FileAbsent (start name extension : ℕ) : Type 0 where
     pub target : Target
     pub reached : targetOf path (i .tree) ≡ ok target
     pub name-is : target .to .name ≡ name
     pub extension-is : target .to .extension ≡ extension
-    pub tree : TreeAt g v start (target .place .items)
+    pub tree : TreeAt g vs start (target .place .items)
     pub absent : find (fileKey (target .to)) (target .place .items) ≡ nothing
 
   -- the file's entry e at the place s, and its chain
@@ -34,16 +33,16 @@ module _ (g : Geometry) (v : View) (path : List ℕ) (i : Image) where
     pub links : List Link
     pub found : find (fileKey (target .to)) (target .place .items) ≡ aFile label links
     pub entry-is : e ≡ fileEntry label links
-    pub chain : ChainStands g v (e .start) links
-    pub at : PlaceOf g v (fileKey (target .to)) (target .place .items) s e
+    pub chain : ChainAt g (vs .file (e .extension)) (e .start) links
+    pub at : PlaceOf g (vs .pages) (fileKey (target .to)) (target .place .items) s e
 
   -- document 01's numbers: a malformed path is 14, a directory that is absent 15
-  abbrev pub Stands : PathLookup → Type 0
-  Stands lookup.Malformed = targetOf path (i .tree) ≡ err 14 0
-  Stands lookup.Nowhere = targetOf path (i .tree) ≡ err 15 0
-  Stands (lookup.Absent start name extension) = FileAbsent start name extension
-  Stands (lookup.At s e) = FileAt s e
+  abbrev pub AtPath : PathLookup → Type 0
+  AtPath lookup.Malformed = targetOf path (i .tree) ≡ err 14 0
+  AtPath lookup.Nowhere = targetOf path (i .tree) ≡ err 15 0
+  AtPath (lookup.Absent start name extension) = FileAbsent start name extension
+  AtPath (lookup.At s e) = FileAt s e
 
 -- for whatever reading is accepted
-abbrev pub Looks : Geometry → View → List ℕ → PathLookup → Type 0
-Looks g v path r = (i : Image) → check g v ≡ ok i → Stands g v path i r
+abbrev pub Looks : Geometry → Views → List ℕ → PathLookup → Type 0
+Looks g vs path r = (i : Image) → check g vs ≡ ok i → AtPath g vs path i r

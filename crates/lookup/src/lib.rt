@@ -1,15 +1,19 @@
 // Entries found by name in an image that is known to be accepted: in a directory, and along the directories of a path.
+pub mod path;
+pub mod space;
+
+use crate::path::Parsed;
+use entries::Next;
 use entries::Slot;
 use geometry::DIRECTORY;
 use geometry::Geometry;
 use geometry::NAME_BYTES;
-use path::Parsed;
 use rules::Entry;
 ghost use Prim.Native.Nat.{_+_, _*_, _≤_};
 ghost use lib.ListN.{length};
 ghost use Rattle.geometry.specs.Geometry.{Fit};
-ghost use Rattle.packet.specs.Packet.{viewOf};
-ghost use Rattle.listing.specs.Standing.{Accepted};
+ghost use Rattle.rules.specs.Chain.{viewsOf};
+ghost use Rattle.listing.specs.KnownTree.{HasImage};
 ghost use Rattle.lookup.specs.Searches.{HasTree, Places, Finds, Resolves};
 ghost use Rattle.lookup.specs.Targets.{Looks};
 
@@ -46,32 +50,27 @@ pub enum PathLookup {
 // The place of a directory's entry with this key.
 pub fn find_place(image: &[u8], g: Geometry, start: usize, key: u64) -> Spot
     requires { ⌜ Fit g (now image) ⌝ }
-    requires { ⌜ HasTree g (viewOf g (now image)) start ⌝ }
-    ensures { λ r. ⌜ Places g (viewOf g (now (image .entry))) start key r ⌝ }
+    requires { ⌜ HasTree g (viewsOf g (now image)) start ⌝ }
+    ensures { λ r. ⌜ Places g (viewsOf g (now (image .entry))) start key r ⌝ }
 {
     let mut slot = Slot::first(image, g, start);
     loop {
-        if slot.at < slot.count {
-            let e = slot.entry(image, g);
-            if entries::key_of(e.name, e.extension) == key {
-                return Spot::At(slot, e);
-            }
-            slot = slot.past();
-        } else {
-            let next = slot.next;
-            if next.page == 0 {
-                return Spot::Absent;
-            }
-            slot = Slot::begin(next, 0, image, g);
+        let Next::At(at) = slot.next_entry(image, g) else {
+            return Spot::Absent;
+        };
+        let e = at.entry(image, g);
+        if entries::key_of(e.name, e.extension) == key {
+            return Spot::At(at, e);
         }
+        slot = at.past();
     }
 }
 
 // The entry of a directory with this key.
 pub fn find_entry(image: &[u8], g: Geometry, start: usize, key: u64) -> Search
     requires { ⌜ Fit g (now image) ⌝ }
-    requires { ⌜ HasTree g (viewOf g (now image)) start ⌝ }
-    ensures { λ r. ⌜ Finds g (viewOf g (now (image .entry))) start key r ⌝ }
+    requires { ⌜ HasTree g (viewsOf g (now image)) start ⌝ }
+    ensures { λ r. ⌜ Finds g (viewsOf g (now (image .entry))) start key r ⌝ }
 {
     match find_place(image, g, start, key) {
         Spot::At(_, e) => Search::Found(e),
@@ -89,8 +88,8 @@ pub fn resolve(
     names: usize,
 ) -> Resolved
     requires { ⌜ Fit g (now image) ⌝ }
-    requires { ⌜ HasTree g (viewOf g (now image)) start × (at + 4 * names ≤ length (now path)) ⌝ }
-    ensures { λ r. ⌜ Resolves g (viewOf g (now (image .entry))) start (now (path .entry)) at names r ⌝ }
+    requires { ⌜ HasTree g (viewsOf g (now image)) start × (at + 4 * names ≤ length (now path)) ⌝ }
+    ensures { λ r. ⌜ Resolves g (viewsOf g (now (image .entry))) start (now (path .entry)) at names r ⌝ }
 {
     if names == 0 {
         return Resolved::Directory(start);
@@ -105,10 +104,10 @@ pub fn resolve(
 // What stands at a path of an image that is known to be accepted.
 pub fn find_file(image: &[u8], g: Geometry, path: &[u8]) -> PathLookup
     requires { ⌜ Fit g (now image) ⌝ }
-    requires { ⌜ Accepted g (viewOf g (now image)) ⌝ }
-    ensures { λ r. ⌜ Looks g (viewOf g (now (image .entry))) (now (path .entry)) r ⌝ }
+    requires { ⌜ HasImage g (viewsOf g (now image)) ⌝ }
+    ensures { λ r. ⌜ Looks g (viewsOf g (now (image .entry))) (now (path .entry)) r ⌝ }
 {
-    match path::parse(path) {
+    match crate::path::parse(path) {
         Parsed::Malformed => PathLookup::Malformed,
         Parsed::Path(names, name, extension) => match resolve(image, g, 0, path, 0, names) {
             Resolved::Absent => PathLookup::Nowhere,

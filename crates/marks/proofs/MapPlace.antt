@@ -10,18 +10,20 @@ use Rattle.geometry.specs.declared.Geometry.{Geometry}
 use Rattle.geometry.specs.Geometry.{Fit, bitmapSize}
 use Rattle.geometry.specs.Number.{number}
 use Rattle.geometry.specs.Page.{pageOf}
-use Rattle.packet.specs.Packet.{good, View, viewOf, Write, write, play}
+use Rattle.packet.specs.Packet.{good, View, viewOf, Write, write}
+use Rattle.packet.specs.declared.Budget.{Budget}
+use Rattle.packet.specs.Budgets.{Progress, writeAll}
 use Rattle.rules.specs.Chain.{first, linked}
 use Rattle.rules.specs.Tree.{Items, end, page, file, dir, startOf, tokens, tokenBytes, tokenLinks, directoryLinks, Map, inRoot, inFile}
 use Rattle.rules.specs.Control.{rootControl}
 use Rattle.rules.specs.Bitmap.{bitmapFrom, bitmapOf, refill}
-use Rattle.rules.specs.WellFormed.{Stand, IsDirectory}
+use Rattle.rules.specs.WellFormed.{HasPackets, IsDirectory}
 use Rattle.rules.specs.Writes.{mapWrites}
-use Rattle.reading.specs.DirectoryComplete.{pages-fit}
+use Rattle.reading_theorems.specs.DirectoryComplete.{pages-fit}
 use Rattle.chain.proofs.Following.{first-stands}
 use Rattle.marks.specs.Marks.{marksFrom}
 use Rattle.marks.specs.MarkLaws.{marks-are}
-use Rattle.marks.specs.MapPages.{LocalStands, HasLocal, WritesLocal, FileStands, HasFile, WritesFile, RootHeld, HasRoot, WritesMap, TellsLocal, TellsStart}
+use Rattle.marks.specs.MapPages.{LocalMapAt, HasLocal, WritesLocal, MapFileAt, HasMapFile, WritesFile, RootHeld, HasRoot, WritesMap, TellsLocal, TellsStart}
 use Rattle.marks.proofs.RootPage.{after-length, local-told, start-told}
 
 -- the root's first page: page 0, with the control field before its entries
@@ -31,7 +33,7 @@ pub record RootFirst (g : Geometry) (v : View) (control : List ℕ) (t : Items) 
   pub packet : v 0 ≡ good (control ++ rest) next
   pub anew : (new : List ℕ) → take 1 (linked (directoryLinks g new t)) ≡ write 0 (new ++ rest) next ∷ []
 
-root-first : (g : Geometry) (v : View) (control : List ℕ) (t : Items) → IsDirectory t → startOf t ≡ 0 → Stand v (linked (directoryLinks g control t)) → RootFirst g v control t
+root-first : (g : Geometry) (v : View) (control : List ℕ) (t : Items) → IsDirectory t → startOf t ≡ 0 → HasPackets v (linked (directoryLinks g control t)) → RootFirst g v control t
 root-first g v control end i e s = absurd i
 root-first g v control (file l ls t) i e s = absurd i
 root-first g v control (dir l d t) i e s = absurd i
@@ -47,7 +49,7 @@ module _ (g : Geometry) (v : View) (bits : List ℕ) (t : Items) (m : Map) (R : 
   held-first = root-first g v (rootControl (g .width) bits m) t (R .isDirectory) (R .atZero) (R .chain)
 
 -- ---- what page 0 tells
-module _ (g : Geometry) (image : List ℕ) (fit : Fit g image) (raw : List ℕ) (e : raw ≡ pageOf g 0 image) where
+module _ {g : Geometry} {image : List ℕ} (fit : Fit g image) {raw : List ℕ} (e : raw ≡ pageOf g 0 image) where
   field-there : (bits : List ℕ) (t : Items) (m : Map) (R : RootHeld g (viewOf g image) bits t m) → (more : List ℕ) × (drop 1 raw ≡ rootControl (g .width) bits m ++ more)
   field-there bits t m R =
       let F = held-first g (viewOf g image) bits t m R in
@@ -76,7 +78,7 @@ module _ (g : Geometry) (image : List ℕ) (r : Bool) (T : TellsLocal g (viewOf 
     local-map bits t inRoot R = refl
     local-map bits t (inFile ls) R = absurd (mathlib.Core.Bool.false≢true (sym (T bits t (inFile ls) R) ∙ y))
 
-    local-stands : (bits : List ℕ) (t : Items) (R : RootHeld g v bits t inRoot) → LocalStands g v bits (held-first g v bits t inRoot R .rest) (held-first g v bits t inRoot R .next)
+    local-stands : (bits : List ℕ) (t : Items) (R : RootHeld g v bits t inRoot) → LocalMapAt g v bits (held-first g v bits t inRoot R .rest) (held-first g v bits t inRoot R .next)
     local-stands bits t R = record { packet = held-first g v bits t inRoot R .packet; four = R .room }
 
     pub has-local : HasRoot g v → HasLocal g v
@@ -84,29 +86,34 @@ module _ (g : Geometry) (image : List ℕ) (r : Bool) (T : TellsLocal g (viewOf 
         let R = subst (RootHeld g v (H .bits) (H .tree)) (local-map (H .bits) (H .tree) (H .map) (H .held)) (H .held) in
         record { bits = H .bits; rest = _; next = _; stands = local-stands (H .bits) (H .tree) R }
 
-    pub map-local : (table after : List ℕ) → WritesLocal g table image after → WritesMap g table image after
-    unfolding WritesMap WritesLocal play
-    map-local table after W bits t m R used u =
-        let q = local-map bits t m R in
-        let R₂ = subst (RootHeld g v bits t) q R in
-        let F = held-first g v bits t inRoot R₂ in
-        W bits (F .rest) (F .next) (local-stands bits t R₂)
-        ∙ ap (λ (x : List ℕ). play g (write 0 (rootControl (g .width) x inRoot ++ F .rest) (F .next) ∷ []) image) (marks-are table used u 4 0)
-        ∙ ap (λ (ws : List Write). play g ws image) (sym (F .anew (rootControl (g .width) (bitmapFrom used 0 4) inRoot)))
-        ∙ ap (λ (x : Map). play g (mapWrites g (bitmapOf g used x) t x) image) (sym q)
+    module _ (table : List ℕ) (below : ℕ) (budget : Budget) (after : List ℕ) (left : Budget) where
+      abbrev from : Progress
+      from = record { image = image; budget = budget }
+
+      pub map-local : WritesLocal g table below image budget after left → WritesMap g table below image budget after left
+      unfolding WritesMap WritesLocal writeAll
+      map-local W bits t m R used u =
+          let q = local-map bits t m R in
+          let R₂ = subst (RootHeld g v bits t) q R in
+          let F = held-first g v bits t inRoot R₂ in
+          W bits (F .rest) (F .next) (local-stands bits t R₂)
+          ∙ ap (λ (x : List ℕ). writeAll g (write 0 (rootControl (g .width) x inRoot ++ F .rest) (F .next) ∷ []) from) (marks-are table below used u 4 0)
+          ∙ ap (λ (ws : List Write). writeAll g ws from) (sym (F .anew (rootControl (g .width) (bitmapFrom used 0 4) inRoot)))
+          ∙ ap (λ (x : Map). writeAll g (mapWrites g (bitmapOf g used x) t x) from) (sym q)
 
   module _ (y : r ≡ false) (start : ℕ) (S : TellsStart g v start) where
-    has-file′ : (bits : List ℕ) (t : Items) (m : Map) → RootHeld g v bits t m → HasFile g v start
+    has-file′ : (bits : List ℕ) (t : Items) (m : Map) → RootHeld g v bits t m → HasMapFile g v start
     unfolding TellsLocal TellsStart
     has-file′ bits t inRoot R = absurd (mathlib.Core.Bool.false≢true (sym y ∙ T bits t inRoot R))
-    has-file′ bits t (inFile ls) R = record { links = ls; stands = subst (λ (x : ℕ). FileStands g v x ls) (sym (S bits t ls R)) (R .map .0) }
+    has-file′ bits t (inFile ls) R = record { links = ls; stands = subst (λ (x : ℕ). MapFileAt g v x ls) (sym (S bits t ls R)) (R .map .0) }
 
-    pub has-file : HasRoot g v → HasFile g v start
+    pub has-file : HasRoot g v → HasMapFile g v start
     has-file H = has-file′ (H .bits) (H .tree) (H .map) (H .held)
 
-    pub map-file : (table after : List ℕ) → WritesFile g table start image after → WritesMap g table image after
+    pub map-file : (table : List ℕ) (below : ℕ) (budget : Budget) (after : List ℕ) (left : Budget) → WritesFile g table below start image budget after left
+        → WritesMap g table below image budget after left
     unfolding WritesMap WritesFile TellsLocal TellsStart
-    map-file table after W bits t inRoot R used u = absurd (mathlib.Core.Bool.false≢true (sym y ∙ T bits t inRoot R))
-    map-file table after W bits t (inFile ls) R used u =
-        W ls (subst (λ (x : ℕ). FileStands g v x ls) (sym (S bits t ls R)) (R .map .0))
-        ∙ ap (λ (x : List ℕ). play g (linked (refill ls x)) image) (ap (marksFrom table 0) (R .map .1) ∙ marks-are table used u (bitmapSize g) 0)
+    map-file table below budget after left W bits t inRoot R used u = absurd (mathlib.Core.Bool.false≢true (sym y ∙ T bits t inRoot R))
+    map-file table below budget after left W bits t (inFile ls) R used u =
+        W ls (subst (λ (x : ℕ). MapFileAt g v x ls) (sym (S bits t ls R)) (R .map .0))
+        ∙ ap (λ (x : List ℕ). writeAll g (linked (refill ls x)) (record { image = image; budget = budget })) (ap (marksFrom table below 0) (R .map .1) ∙ marks-are table below used u (bitmapSize g) 0)

@@ -14,17 +14,19 @@ use Rattle.geometry.specs.Page.{pageOf, overwritten}
 use Rattle.geometry.specs.PageLaws.{page-length}
 use Rattle.packet.specs.declared.Judged.{Judged}
 use Rattle.packet.specs.declared.Judged.the-variants.{Whole, Bad}
-use Rattle.packet.specs.Packet.{good, packetOf, viewOf, write, writePage}
+use Rattle.packet.specs.Packet.{good, packetOf, viewOf, write}
+use Rattle.packet.specs.declared.Budget.{Budget}
+use Rattle.packet.specs.Budgets.{Progress, writeOne}
 use Rattle.packet.specs.Judged.{frameOf, judged}
 use Rattle.packet.specs.Reading.{Right, right-packet, frame-right}
 use Rattle.rules.specs.Chain.{Link, first}
 use Rattle.rules.specs.Tree.{Map, inRoot, inFile}
 use Rattle.rules.specs.Control.{marker, controlByte, bitmapField, rootControl}
-use Rattle.reading.specs.ByteLaws.{number-front}
-use Rattle.reading.specs.ControlLaws.{isLocal}
+use Rattle.reading_theorems.specs.ByteLaws.{number-front}
+use Rattle.reading_theorems.specs.ControlLaws.{isLocal}
 use Rattle.marks.specs.Marks.{marksFrom}
 use Rattle.marks.specs.MarkLaws.{length-marks}
-use Rattle.marks.specs.MapPages.{LocalStands, CopiesRoot}
+use Rattle.marks.specs.MapPages.{LocalMapAt, CopiesRoot}
 
 -- ---- the packet of page 0 copied
 module _ (g : Geometry) (image : List ℕ) (fit : Fit g image) (b : List ℕ) (next : ℕ) (q : viewOf g image 0 ≡ good b next) where
@@ -109,8 +111,8 @@ module _ (n : ℕ) (bits rest more marks : List ℕ) (four : length bits ≡ 4) 
   field-put = ap (take (length (rootControl n bits inRoot ++ rest))) put-is ∙ take-at (rootControl n marks inRoot ++ rest) more (length (rootControl n bits inRoot ++ rest)) same-size
 
 -- ---- page 0 written
-module _ (g : Geometry) (image : List ℕ) (fit : Fit g image) (table buffer copied : List ℕ) (r : Judged) (C : CopiesRoot g (viewOf g image) r buffer copied) (bits rest : List ℕ) (next : ℕ)
-    (L : LocalStands g (viewOf g image) bits rest next) where
+module _ (g : Geometry) (image : List ℕ) (fit : Fit g image) (table : List ℕ) (below : ℕ) (buffer copied : List ℕ) (r : Judged) (C : CopiesRoot g (viewOf g image) r buffer copied)
+    (bits rest : List ℕ) (next : ℕ) (L : LocalMapAt g (viewOf g image) bits rest next) where
   abbrev n : ℕ
   n = g .width
 
@@ -128,7 +130,7 @@ module _ (g : Geometry) (image : List ℕ) (fit : Fit g image) (table buffer cop
   pub root-never : r ≡ Bad → ⊥
   root-never z = let k : Bad ≡ Whole (length (root bits)) next = sym z ∙ known in let y : _≡_ {A = ℕ} 0 1 = cc in omega arith
 
-  module _ (size k : ℕ) (m : r ≡ Whole size k) (marks : List ℕ) (f : marks ≡ marksFrom table 0 (length (take (n + 2 + 4 - (n + 2)) (drop (n + 2) copied)))) where
+  module _ {size k : ℕ} (m : r ≡ Whole size k) {marks : List ℕ} (f : marks ≡ marksFrom table below 0 (length (take (n + 2 + 4 - (n + 2)) (drop (n + 2) copied)))) where
     size-told : size ≡ length (root bits)
     size-told = let e : Whole size k ≡ Whole (length (root bits)) next = sym m ∙ known in cc
 
@@ -145,21 +147,21 @@ module _ (g : Geometry) (image : List ℕ) (fit : Fit g image) (table buffer cop
         let c : length copied ≡ length (root bits) + length (drop (length (root bits)) buffer) = ap length copied-is ∙ length-append (root bits) (drop (length (root bits)) buffer) in
         rw four (simp (length-take, length-drop) (omega arith))
 
-    marks-are : marks ≡ marksFrom table 0 4
-    marks-are = f ∙ ap (marksFrom table 0) four-are
+    marks-are : marks ≡ marksFrom table below 0 4
+    marks-are = f ∙ ap (marksFrom table below 0) four-are
 
     abbrev put : List ℕ
     put = take (n + 2) copied ++ (marks ++ drop (n + 2 + 4 - (n + 2)) (drop (n + 2) copied))
 
-    pub root-put : take size put ≡ root (marksFrom table 0 4)
+    pub root-put : take size put ≡ root (marksFrom table below 0 4)
     root-put =
         let a : take size put ≡ take size (take (n + 2) copied ++ (marks ++ drop 4 (drop (n + 2) copied))) = ap (λ (j : ℕ). take size (take (n + 2) copied ++ (marks ++ drop j (drop (n + 2) copied)))) four in
         a ∙ ap₂ (λ (j : ℕ) (l : List ℕ). take j (take (n + 2) l ++ (marks ++ drop 4 (drop (n + 2) l)))) size-told copied-is
-        ∙ field-put n bits rest (drop (length (root bits)) buffer) marks (L .four) (ap length marks-are ∙ length-marks table 4 0) ∙ ap root marks-are
+        ∙ field-put n bits rest (drop (length (root bits)) buffer) marks (L .four) (ap length marks-are ∙ length-marks table below 4 0) ∙ ap root marks-are
 
     -- it is as long as before
     pub root-size : length (take size put) ≡ size
-    root-size = ap length root-put ∙ same-size n bits rest [] (marksFrom table 0 4) (L .four) (length-marks table 4 0) ∙ sym size-told
+    root-size = ap length root-put ∙ same-size n bits rest [] (marksFrom table below 0 4) (L .four) (length-marks table below 4 0) ∙ sym size-told
 
     pub root-there : size ≤ length put
     root-there = omega (arith, root-size, length-take size put)
@@ -167,8 +169,9 @@ module _ (g : Geometry) (image : List ℕ) (fit : Fit g image) (table buffer cop
     pub root-fits : length (take size put) + n + 3 ≤ g .size
     root-fits = omega (arith, root-size, size-told, first-room g image fit (root bits) next (L .packet))
 
-    pub root-written : (after : List ℕ) → after ≡ writePage g (write 0 (take size put) k) image → after ≡ writePage g (write 0 (root (marksFrom table 0 4)) next) image
-    root-written after w = w ∙ ap₂ (λ (l : List ℕ) (j : ℕ). writePage g (write 0 l j) image) root-put next-told
+    pub root-written : (budget : Budget) (after : Progress) → after ≡ writeOne g (write 0 (take size put) k) (record { image = image; budget = budget })
+        → after ≡ writeOne g (write 0 (root (marksFrom table below 0 4)) next) (record { image = image; budget = budget })
+    root-written budget after w = w ∙ ap₂ (λ (l : List ℕ) (j : ℕ). writeOne g (write 0 l j) (record { image = image; budget = budget })) root-put next-told
 
 -- ---- what the control field tells
 control-split : (n : ℕ) (bits : List ℕ) (m : Map) (rest : List ℕ) → rootControl n bits m ++ rest ≡ (marker n ∷ numberBytes n 0) ++ (controlByte m ∷ (bitmapField n bits m ++ rest))

@@ -1,5 +1,4 @@
 pub mod Marks
 pub mod MarkLaws
 pub mod MapPages
-pub mod ReleaseLaws
 pub mod RootLaws

@@ -12,9 +12,9 @@ use Rattle.rules.specs.Chain.{pages}
 use Rattle.rules.specs.ChainLaws.{length-pages}
 use Rattle.rules.specs.Tree.{Items, end, page, file, dir, startOf, allPages, Map, inRoot, inFile, mapPages}
 use Rattle.rules.specs.Bitmap.{mapSize}
-use Rattle.rules.specs.WellFormed.{Stand, mapPackets, IsDirectory, MapHolds}
-use Rattle.reading.specs.Directory.{rest-zero}
-use Rattle.marks.specs.MapPages.{MapStands}
+use Rattle.rules.specs.WellFormed.{HasPackets, mapPackets, IsDirectory, MapHolds}
+use Rattle.reading_theorems.specs.Directory.{rest-zero}
+use Rattle.marks.specs.MapPages.{MapAt}
 
 -- page 0 is the root's
 pub zero-taken : (t : Items) → IsDirectory t → startOf t ≡ 0 → 1 ≤ count 0 (allPages t)
@@ -24,14 +24,14 @@ zero-taken (dir l d t) i e = absurd i
 zero-taken (page p t) i e = omega (arith, ap (hit 0) e, hit-same 0)
 
 module _ (g : Geometry) (v : View) (bits : List ℕ) where
-  pub map-holds : (m : Map) → MapHolds g bits m → length bits ≡ mapSize g m → Stand v (mapPackets m) → count 0 (mapPages m) ≡ 0 → Within (g .pages) (mapPages m) → MapStands g v m
+  pub map-holds : (m : Map) → MapHolds g bits m → length bits ≡ mapSize g m → HasPackets v (mapPackets m) → count 0 (mapPages m) ≡ 0 → Within (g .pages) (mapPages m) → MapAt g v m
   map-holds inRoot h r s z f = h
   map-holds (inFile ls) h r s z f = (
     record {
       chain = record {
         some = h .0;
         begins = refl;
-        stand = s;
+        packets = s;
         within = λ x k. range-of x (g .pages) (omega (arith, f x));
         few = omega (arith, within-length (g .pages) (pages ls) f, length-pages ls);
         onward = rest-zero ls z;

@@ -1,4 +1,4 @@
-// The bitmap written from the owner table: bit k is 1 where page k has an owner. And a chain's pages made free in the table.
+// The bitmap written from the owner table: bit k is 1 for every page k below a bound, and for each that has an owner.
 use chain::Cursor;
 use chain::Step;
 use geometry::BITMAP_CONTROL_PAST;
@@ -9,15 +9,16 @@ use geometry::Geometry;
 use geometry::LENGTH_BYTES;
 use geometry::LOCAL_BITMAP;
 use geometry::MOST_PAGE_BYTES;
+use packet::Budget;
 use packet::Judged;
 ghost use mathlib.Core.Path.{_≡_};
 ghost use Prim.Native.Nat.{_+_, _*_, _≤_, _<_};
 ghost use lib.ListN.{length};
 ghost use Rattle.geometry.specs.Geometry.{Fit};
 ghost use Rattle.packet.specs.Packet.{viewOf};
-ghost use Rattle.chain.specs.KnownChain.{KnownChain};
+ghost use Rattle.packet.specs.Budgets.{Open};
 ghost use Rattle.marks.specs.Marks.{byteMarks, marksFrom};
-ghost use Rattle.marks.specs.MapPages.{HasLocal, CopiesRoot, WritesLocal, HasFile, WritesFile, HasRoot, WritesMap, TellsLocal, TellsStart, Releases};
+ghost use Rattle.marks.specs.MapPages.{HasLocal, CopiesRoot, WritesLocal, HasMapFile, WritesFile, HasRoot, WritesMap, TellsLocal, TellsStart};
 
 // Where bitmap control stands in page 0, past the map address, and where the four bitmap bytes end.
 const CONTROL_AT: usize = LENGTH_BYTES + BITMAP_CONTROL_PAST;
@@ -25,33 +26,33 @@ const CONTROL_AT: usize = LENGTH_BYTES + BITMAP_CONTROL_PAST;
 const PLACE_END: usize = LENGTH_BYTES + BITMAP_FIELD_END;
 
 // The bits of the four pages from k on.
-fn four_bits(owners: &[u16], k: usize) -> usize
+fn four_bits(table: &[u16], below: usize, k: usize) -> usize
     requires { ⌜ k ≤ 1073741824 ⌝ }
-    ensures { λ r. ⌜ (r ≡ byteMarks (now (owners .entry)) k 4) × (r < 16) ⌝ }
+    ensures { λ r. ⌜ (r ≡ byteMarks (now (table .entry)) below k 4) × (r < 16) ⌝ }
 {
-    let first = bitmap::in_use(owners, k);
-    let second = bitmap::in_use(owners, k + 1);
-    let third = bitmap::in_use(owners, k + 2);
-    let fourth = bitmap::in_use(owners, k + 3);
+    let first = owners::bit(table, k, below);
+    let second = owners::bit(table, k + 1, below);
+    let third = owners::bit(table, k + 2, below);
+    let fourth = owners::bit(table, k + 3, below);
     first + 2 * second + 4 * third + 8 * fourth
 }
 
 // The byte of the bitmap for the eight pages from k on.
-fn byte_of(owners: &[u16], k: usize) -> u8
+fn byte_of(table: &[u16], below: usize, k: usize) -> u8
     requires { ⌜ k + 4 ≤ 1073741824 ⌝ }
-    ensures { λ r. ⌜ r ≡ byteMarks (now (owners .entry)) k 8 ⌝ }
+    ensures { λ r. ⌜ r ≡ byteMarks (now (table .entry)) below k 8 ⌝ }
 {
-    (four_bits(owners, k) + 16 * four_bits(owners, k + 4)) as u8
+    (four_bits(table, below, k) + 16 * four_bits(table, below, k + 4)) as u8
 }
 
 // Fills a slice with the bytes of the bitmap from page k on.
-pub fn fill(bytes: &mut [u8], k: usize, owners: &[u16])
+pub fn fill(bytes: &mut [u8], k: usize, table: &[u16], below: usize)
     requires { ⌜ k + 8 * length (now bytes) ≤ 1073741824 ⌝ }
-    ensures { λ _. ⌜ now (bytes .exit) ≡ marksFrom (now (owners .entry)) k (length (now (bytes .entry))) ⌝ }
+    ensures { λ _. ⌜ now (bytes .exit) ≡ marksFrom (now (table .entry)) below k (length (now (bytes .entry))) ⌝ }
 {
     let mut i = 0;
     while i < bytes.len() {
-        bytes[i] = byte_of(owners, k + 8 * i);
+        bytes[i] = byte_of(table, below, k + 8 * i);
         i += 1;
     }
 }
@@ -74,52 +75,71 @@ fn copy_root(image: &[u8], g: Geometry, buffer: &mut [u8]) -> Judged
 }
 
 // Writes page 0 with the bitmap's four bytes from the table, in a buffer.
-fn write_root(image: &mut [u8], g: Geometry, owners: &[u16], buffer: &mut [u8])
+fn write_root(
+    image: &mut [u8],
+    g: Geometry,
+    table: &[u16],
+    below: usize,
+    buffer: &mut [u8],
+    budget: Budget,
+) -> Budget
     requires { ⌜ Fit g (now image) ⌝ }
     requires { ⌜ (length (now buffer) ≡ 256) × HasLocal g (viewOf g (now image)) ⌝ }
-    ensures { λ _. ⌜ WritesLocal g (now (owners .entry)) (now (image .entry)) (now (image .exit)) ⌝ }
+    ensures { λ r. ⌜ WritesLocal g (now (table .entry)) below (now (image .entry)) budget (now (image .exit)) r ⌝ }
 {
     let at = g.width + BITMAP_FIELD_PAST;
     let end = at + BITMAP_FIELD_BYTES;
     match copy_root(image, g, buffer) {
         // page 0 is known to hold a right packet
-        Judged::Bad => {}
+        Judged::Bad => budget,
         Judged::Whole { length, next } => {
-            fill(&mut buffer[at..end], 0, owners);
-            packet::write_page(image, g, 0, &buffer[..length], next);
+            fill(&mut buffer[at..end], 0, table, below);
+            budget.write(image, g, 0, &buffer[..length], next)
         }
     }
 }
 
 // Writes the bitmap in the root's control field from the table; all else of page 0's packet stays.
-pub fn write_local(image: &mut [u8], g: Geometry, owners: &[u16])
+fn write_local(image: &mut [u8], g: Geometry, table: &[u16], below: usize, budget: Budget) -> Budget
     requires { ⌜ Fit g (now image) ⌝ }
     requires { ⌜ HasLocal g (viewOf g (now image)) ⌝ }
-    ensures { λ _. ⌜ WritesLocal g (now (owners .entry)) (now (image .entry)) (now (image .exit)) ⌝ }
+    ensures { λ r. ⌜ WritesLocal g (now (table .entry)) below (now (image .entry)) budget (now (image .exit)) r ⌝ }
 {
     let mut buffer = [0u8; MOST_PAGE_BYTES];
-    write_root(image, g, owners, &mut buffer);
+    write_root(image, g, table, below, &mut buffer, budget)
 }
 
 // Writes the pages of the bitmap file in chain order, in a buffer.
-fn write_pages(image: &mut [u8], g: Geometry, start: usize, owners: &[u16], buffer: &mut [u8])
+fn write_pages(
+    image: &mut [u8],
+    g: Geometry,
+    start: usize,
+    table: &[u16],
+    below: usize,
+    buffer: &mut [u8],
+    budget: Budget,
+) -> Budget
     requires { ⌜ Fit g (now image) ⌝ }
-    requires { ⌜ (length (now buffer) ≡ 256) × HasFile g (viewOf g (now image)) start ⌝ }
-    ensures { λ _. ⌜ WritesFile g (now (owners .entry)) start (now (image .entry)) (now (image .exit)) ⌝ }
+    requires { ⌜ (length (now buffer) ≡ 256) × HasMapFile g (viewOf g (now image)) start × Open budget ⌝ }
+    ensures { λ r. ⌜ WritesFile g (now (table .entry)) below start (now (image .entry)) budget (now (image .exit)) r ⌝ }
 {
+    let mut left = budget;
     let mut c = Cursor::new(start, start);
     loop {
         let page = c.page;
         match c.step(image, g, true) {
             // the chain is known to stand
             Step::Refused(_, _) => {
-                return;
+                return left;
             }
             Step::Page(size, next) => {
-                fill(&mut buffer[..size], 8 * c.bytes, owners);
-                packet::write_page(image, g, page, &buffer[..size], next.page);
+                fill(&mut buffer[..size], 8 * c.bytes, table, below);
+                left = left.write(image, g, page, &buffer[..size], next.page);
+                if left.stopped {
+                    return left;
+                }
                 if next.page == 0 {
-                    return;
+                    return left;
                 }
                 c = next;
             }
@@ -128,38 +148,20 @@ fn write_pages(image: &mut [u8], g: Geometry, start: usize, owners: &[u16], buff
 }
 
 // Writes the bitmap file from the table: each page keeps its packet's length and its pointer.
-pub fn write_file(image: &mut [u8], g: Geometry, start: usize, owners: &[u16])
+fn write_file(
+    image: &mut [u8],
+    g: Geometry,
+    start: usize,
+    table: &[u16],
+    below: usize,
+    budget: Budget,
+) -> Budget
     requires { ⌜ Fit g (now image) ⌝ }
-    requires { ⌜ HasFile g (viewOf g (now image)) start ⌝ }
-    ensures { λ _. ⌜ WritesFile g (now (owners .entry)) start (now (image .entry)) (now (image .exit)) ⌝ }
+    requires { ⌜ HasMapFile g (viewOf g (now image)) start × Open budget ⌝ }
+    ensures { λ r. ⌜ WritesFile g (now (table .entry)) below start (now (image .entry)) budget (now (image .exit)) r ⌝ }
 {
     let mut buffer = [0u8; MOST_PAGE_BYTES];
-    write_pages(image, g, start, owners, &mut buffer);
-}
-
-// Makes the pages of a chain free.
-pub fn release(image: &[u8], g: Geometry, start: usize, owners: &mut [u16])
-    requires { ⌜ Fit g (now image) ⌝ }
-    requires { ⌜ KnownChain g (viewOf g (now image)) start × (length (now owners) ≡ g .pages) ⌝ }
-    ensures { λ _. ⌜ Releases g (viewOf g (now (image .entry))) start (now (owners .entry)) (now (owners .exit)) ⌝ }
-{
-    let mut c = Cursor::new(start, start);
-    loop {
-        let page = c.page;
-        match c.step(image, g, true) {
-            // the chain is known to stand
-            Step::Refused(_, _) => {
-                return;
-            }
-            Step::Page(_, next) => {
-                owners[page] = 0;
-                if next.page == 0 {
-                    return;
-                }
-                c = next;
-            }
-        }
-    }
+    write_pages(image, g, start, table, below, &mut buffer, budget)
 }
 
 // Whether the bitmap is in the root's control field: bit 7 of its control byte.
@@ -181,15 +183,20 @@ fn map_start(image: &[u8], g: Geometry) -> usize
 }
 
 // Writes the bitmap where the root places it.
-pub fn write_map(image: &mut [u8], g: Geometry, owners: &[u16])
+pub fn write_map(
+    image: &mut [u8],
+    g: Geometry,
+    table: &[u16],
+    below: usize,
+    budget: Budget,
+) -> Budget
     requires { ⌜ Fit g (now image) ⌝ }
-    requires { ⌜ HasRoot g (viewOf g (now image)) ⌝ }
-    ensures { λ _. ⌜ WritesMap g (now (owners .entry)) (now (image .entry)) (now (image .exit)) ⌝ }
+    requires { ⌜ HasRoot g (viewOf g (now image)) × Open budget ⌝ }
+    ensures { λ r. ⌜ WritesMap g (now (table .entry)) below (now (image .entry)) budget (now (image .exit)) r ⌝ }
 {
     if is_local(image, g) {
-        write_local(image, g, owners);
-        return;
+        return write_local(image, g, table, below, budget);
     }
     let start = map_start(image, g);
-    write_file(image, g, start, owners);
+    write_file(image, g, start, table, below, budget)
 }

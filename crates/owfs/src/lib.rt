@@ -10,8 +10,8 @@ ghost use Rattle.crc16.specs.Crc16.{crc16};
 ghost use Rattle.rules.specs.Listing.{lineAt, linesOf};
 ghost use Rattle.rules.specs.Calls.{readBytes, lengthOf, filled};
 ghost use Rattle.rules.specs.Promises.{Accepts, TellsTree, Formats, Puts, Deletes};
-ghost use Rattle.table.specs.Table.{numbersOf};
-ghost use Rattle.answers.specs.Answers.{entryFor, lengthFor, answerFor, asksLocal, checkAnswer, listAnswer, readAnswer, formatAnswer, putAnswer, deleteAnswer};
+ghost use Rattle.owners.specs.TableBytes.{numbersOf};
+ghost use Rattle.answers.specs.ExportedAnswers.{entryFor, lengthFor, answerFor, asksLocal, checkAnswer, listAnswer, readAnswer, formatAnswer, putAnswer, deleteAnswer};
 
 // The CRC-16 register after the bytes of a slice, not inverted.
 #[no_mangle]
@@ -68,7 +68,8 @@ pub extern "C" fn owfs_read(
     owners: &mut [u8],
 ) -> OwfsLength
     ensures { λ r. ⌜ (r, now (out .exit), now (owners .exit)) ≡ readAnswer size pages (now (image .entry)) (now (owners .entry)) (now (path .entry)) (now (out .entry)) ⌝ }
-    ensures { λ r. ⌜ TellsTree size pages (now (image .entry)) (numbersOf (now (owners .entry))) (readBytes (now (path .entry)) (now (out .entry))) (λ x. (r ≡ lengthFor (lengthOf x)) × (now (out .exit) ≡ filled (now (out .entry)) x)) (r .number ≡ 0) ⌝ }
+    ensures { λ r. ⌜ TellsTree size pages (now (image .entry)) (numbersOf (now (owners .entry))) (readBytes (now (path .entry)) (now (out .entry)))
+        (λ x. (r ≡ lengthFor (lengthOf x)) × (now (out .exit) ≡ filled (now (out .entry)) x)) (r .number ≡ 0) ⌝ }
 {
     let n = count(owners.len());
     let mut table = [0u16; MOST_OWNERS];

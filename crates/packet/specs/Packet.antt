@@ -1,5 +1,5 @@
 -- Document 01, "Packet and chain": the packet of a page, an image as its packets, and a packet written.
-use mathlib.Core.Bool.{Bool, _&&_}
+use mathlib.Core.Bool.{Bool, true, false, _&&_}
 use mathlib.Core.List.{List, [], _∷_, _++_}
 use Prim.Native.Nat.{ℕ, _+_, _-_}
 use lib.Dec.{leb, eqb}
@@ -63,6 +63,27 @@ unfoldable pub writePage : Geometry → Write → List ℕ → List ℕ
 writePage g (write p bytes next) image = withPage g p (written (g .width) p bytes next (pageOf g p image)) image
 
 -- the image after a list of page writes, the first one first
-unfoldable pub play : Geometry → List Write → List ℕ → List ℕ
-play g [] image = image
-play g (w ∷ ws) image = play g ws (writePage g w image)
+unfoldable pub afterWrites : Geometry → List Write → List ℕ → List ℕ
+afterWrites g [] image = image
+afterWrites g (w ∷ ws) image = afterWrites g ws (writePage g w image)
+
+-- two lists are equal
+abbrev pub sameList : List ℕ → List ℕ → Bool
+sameList [] [] = true
+sameList [] (y ∷ ys) = false
+sameList (x ∷ xs) [] = false
+sameList (x ∷ xs) (y ∷ ys) = eqb x y && sameList xs ys
+
+-- a packet has these bytes and this pointer
+abbrev pub isPacketOf : Packet → List ℕ → ℕ → Bool
+isPacketOf bad b n = false
+isPacketOf (good c m) b n = sameList c b && eqb m n
+
+-- the packet of the page would not change
+unfoldable pub unchanged : Geometry → Write → List ℕ → Bool
+unchanged g (write p b n) image = isPacketOf (viewOf g image p) b n
+
+-- the writes that change a packet, in order, each judged on what stands before it
+unfoldable pub made : Geometry → List Write → List ℕ → List Write
+made g [] image = []
+made g (w ∷ ws) image = choose (unchanged g w image) (made g ws image) (w ∷ made g ws (writePage g w image))

@@ -1,4 +1,4 @@
-// Packets: a page judged, its data read, a packet written.
+// Packets: a page judged, its data read, a packet written; page writes within a budget.
 use geometry::CHECK_BYTES;
 use geometry::FRAME_BYTES;
 use geometry::Geometry;
@@ -7,8 +7,9 @@ ghost use mathlib.Core.Path.{_≡_};
 ghost use Prim.Native.Nat.{_+_, _*_, _≤_, _<_};
 ghost use lib.ListN.{length, take, drop};
 ghost use Rattle.geometry.specs.Geometry.{Fit};
-ghost use Rattle.packet.specs.Packet.{packetOf, written, writePage, write};
+ghost use Rattle.packet.specs.Packet.{packetOf, written, writePage, write, sameList, isPacketOf};
 ghost use Rattle.packet.specs.Judged.{frameOf, judged};
+ghost use Rattle.packet.specs.Budgets.{Progress, unlimited, withLimit, writeOne};
 
 // A register inverted is what is left of this number without it.
 const INVERTED: usize = 0xFFFF;
@@ -90,4 +91,101 @@ pub fn write_page(image: &mut [u8], g: Geometry, p: usize, bytes: &[u8], next: u
     let at = p * g.size;
     let end = at + g.size;
     write_packet(&mut image[at..end], p, g.width, bytes, next);
+}
+
+// Whether two slices have the same bytes.
+fn same_bytes(a: &[u8], b: &[u8]) -> bool
+    ensures { λ r. ⌜ r ≡ sameList (now (a .entry)) (now (b .entry)) ⌝ }
+{
+    if a.len() != b.len() {
+        return false;
+    }
+    let mut i = 0;
+    while i < a.len() {
+        if a[i] != b[i] {
+            return false;
+        }
+        i += 1;
+    }
+    true
+}
+
+// Whether the page with number p holds a right packet with these bytes and this pointer.
+fn holds(page: &[u8], p: usize, n: usize, bytes: &[u8], next: usize) -> bool
+    requires { ⌜ (1 ≤ n) × (n ≤ 2) × (p < 65536) × (0 < length (now page)) ⌝ }
+    ensures { λ r. ⌜ r ≡ isPacketOf (packetOf n p (now (page .entry))) (now (bytes .entry)) next ⌝ }
+{
+    match judge(page, p, n) {
+        Judged::Bad => false,
+        Judged::Whole {
+            length,
+            next: pointer,
+        } => {
+            if pointer != next {
+                return false;
+            }
+            same_bytes(data_of(page, length), bytes)
+        }
+    }
+}
+
+// How many page writes are allowed yet.
+pub struct Budget {
+    // without a limit every write is made
+    pub limited: bool,
+    pub left: usize,
+    // a write was held back, since none was left
+    pub stopped: bool,
+}
+
+impl Budget {
+    // A budget without a limit.
+    pub fn unlimited() -> Budget
+        ensures { λ r. ⌜ r ≡ unlimited ⌝ }
+    {
+        Budget {
+            limited: false,
+            left: 0,
+            stopped: false,
+        }
+    }
+
+    // A budget of so many writes.
+    pub fn limited(writes: usize) -> Budget
+        ensures { λ r. ⌜ r ≡ withLimit writes ⌝ }
+    {
+        Budget {
+            limited: true,
+            left: writes,
+            stopped: false,
+        }
+    }
+
+    // Writes a packet into a page of an image. Within a limit a packet that stands there already is not written, and the write is held back if none is left.
+    pub fn write(self, image: &mut [u8], g: Geometry, p: usize, bytes: &[u8], next: usize) -> Budget
+        requires { ⌜ Fit g (now image) ⌝ }
+        requires { ⌜ (p < g .pages) × (length (now bytes) + g .width + 3 ≤ g .size) ⌝ }
+        ensures { λ r. ⌜ _≡_ {A = Progress} (record { image = now (image .exit); budget = r }) (writeOne g (write p (now (bytes .entry)) next) (record { image = now (image .entry); budget = self })) ⌝ }
+    {
+        if self.limited {
+            if holds(geometry::page_of(image, g, p), p, g.width, bytes, next) {
+                return self;
+            }
+            if self.left == 0 {
+                return Budget {
+                    limited: true,
+                    left: 0,
+                    stopped: true,
+                };
+            }
+            write_page(image, g, p, bytes, next);
+            return Budget {
+                limited: true,
+                left: self.left - 1,
+                stopped: self.stopped,
+            };
+        }
+        write_page(image, g, p, bytes, next);
+        self
+    }
 }

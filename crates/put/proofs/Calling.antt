@@ -7,32 +7,32 @@ use Rattle.geometry.specs.declared.Geometry.{Geometry}
 use Rattle.geometry.specs.declared.Shape.the-variants.{Fits}
 use Rattle.geometry.specs.Geometry.{geometryOf}
 use Rattle.geometry.specs.NumberLaws.{bytes-from}
-use Rattle.packet.specs.Packet.{viewOf}
 use Rattle.rules.specs.Result.{Res, ok, err}
 use Rattle.rules.specs.ResultLaws.{then-err}
+use Rattle.rules.specs.Chain.{viewsOf}
 use Rattle.rules.specs.Check.{check}
 use Rattle.rules.specs.Put.{put}
 use Rattle.rules.specs.Calls.{putCall}
 use Rattle.rules.specs.Promises.{Puts}
-use Rattle.editing.specs.Promised.{put-stated}
-use Rattle.volume.specs.declared.Edited.{Edited}
-use Rattle.volume.specs.Told.{editTold}
+use Rattle.editing_theorems.specs.Promised.{put-stated}
+use Rattle.rules.specs.declared.Edited.{Edited}
+use Rattle.rules.specs.Answers.{editResult}
 use Rattle.volume.specs.Edits.{EditLeaves}
 use Rattle.volume.proofs.EditLaws.{changed-leaves}
 
-pub put-fault : (g : Geometry) (path bytes image : List ℕ) (n p : ℕ) → check g (viewOf g image) ≡ err n p → put g path bytes image ≡ err n p
+pub put-fault : (g : Geometry) (path bytes image : List ℕ) (n p : ℕ) → check g (viewsOf g image) ≡ err n p → put g path bytes image ≡ err n p
 unfolding put
 put-fault g path bytes image n p e = simp (e, then-err)
 
 module _ (P N : ℕ) (image table path bytes : List ℕ) where
   pub putted : (g : Geometry) → geometryOf P N (length image) (length table) ≡ Fits g → (r : Edited) (after u : List ℕ) → EditLeaves g image (put g path bytes image) r after u
-      → (editTold r, after, u ++ drop (g .pages) table) ≡ putCall P N image table path bytes
+      → (editResult r, after, u ++ drop (g .pages) table) ≡ putCall P N image table path bytes
   unfolding putCall
   putted g e r after u k = changed-leaves P N image table g e (λ g. put g path bytes image) r after u k
 
   pub put-is : (h : (i : ℕ) → getD image i 0 < 256) (hp : (i : ℕ) → getD path i 0 < 256) (hb : (i : ℕ) → getD bytes i 0 < 256) (r : Edited) (after t : List ℕ)
-      → (editTold r, after, t) ≡ putCall P N image table path bytes → Puts P N image table path bytes (editTold r ≡ ok tt) (λ x. editTold r ≡ x) after
+      → (editResult r, after, t) ≡ putCall P N image table path bytes → Puts P N image table path bytes (editResult r ≡ ok tt) (λ x. editResult r ≡ x) after
   put-is h hp hb r after t e =
-      let q : editTold r ≡ putCall P N image table path bytes .0 = ap (λ (x : Res (Unit {0}) × List ℕ × List ℕ). x .0) e in
+      let q : editResult r ≡ putCall P N image table path bytes .0 = ap (λ (x : Res (Unit {0}) × List ℕ × List ℕ). x .0) e in
       let a : after ≡ putCall P N image table path bytes .1 = ap (λ (x : Res (Unit {0}) × List ℕ × List ℕ). x .1) e in
       rw (q, a) (put-stated P N image table (bytes-from image h) path bytes (bytes-from path hp) (bytes-from bytes hb))

@@ -1,3 +1,4 @@
+-- Laws of the put from the inside out: the entry's place, the path, the call.
 pub mod Placing
-pub mod PathPut
+pub mod PathPuts
 pub mod Calling

@@ -1,160 +1,170 @@
 -- Where a file's entry goes: to the first page with space or a page that joins, or to the place of the file it replaces.
-use mathlib.Core.Path.{_≡_, ap, sym, _∙_, subst}
+use mathlib.Core.Path.{_≡_, refl, ap, ap₂, sym, _∙_, subst}
 use mathlib.Core.List.{List, [], _∷_, _++_}
-use Prim.Native.Nat.{ℕ, _+_, _≤_}
+use Prim.Native.Nat.{ℕ, _+_, _≤_, _<_}
 use native.Mathlib.Omega.{arith}
+use lib.ListN.{length}
 use Rattle.geometry.specs.declared.Geometry.{Geometry}
 use Rattle.packet.specs.Packet.{viewOf}
 use Rattle.rules.specs.declared.Entry.{Entry}
+use Rattle.rules.specs.Result.{ok, err}
 use Rattle.rules.specs.PageSets.{bit, count}
-use Rattle.rules.specs.Chain.{pages}
-use Rattle.rules.specs.Tree.{Label, keyOf, Items, newPage, entry, tokens, fileEntry, keys, used}
-use Rattle.rules.specs.Owners.{owners}
-use Rattle.rules.specs.OwnerLaws.{Represents, represents-same, represents-owners}
-use Rattle.rules.specs.Paths.{fileKey, Found}
-use Rattle.rules.specs.Put.{keptPages, put}
+use Rattle.rules.specs.Chain.{Views, viewsOf, Link, first}
+use Rattle.rules.specs.Tree.{Label, keyOf, Items, file, newPage, entry, tokens, fileEntry, keys, Image}
+use Rattle.rules.specs.Check.{check}
+use Rattle.rules.specs.Paths.{Path, fileKey, fileLabel, Found, nothing, find, targetOf}
+use Rattle.rules.specs.Put.{writable, putTarget}
 use Rattle.rules.specs.EditLaws.{none-found, found-file}
-use Rattle.rules.specs.Candidate.{chainPages}
-use Rattle.editing.specs.PageChange.{entryTokens}
-use Rattle.editing.specs.FormedPaths.{formed}
-use Rattle.editing.specs.PutDirectory.{extra-old, extra-new, after-old, after-new, same-label}
-use Rattle.editing.specs.PutLaws.{Asked, label, kept-old}
-use Rattle.chain.specs.KnownChain.{KnownChain}
+use Rattle.rules.specs.TargetLaws.{reached, put-target-none, put-target-is, put-target-kept}
+use Rattle.rules.specs.TreeLaws.{entryTokens}
+use Rattle.editing_theorems.specs.FormedPaths.{formed}
+use Rattle.editing_theorems.specs.PutDirectory.{extra-old, extra-new, after-old, after-new, SameName, same-name}
 use Rattle.entries.specs.declared.Slot.{Slot}
-use Rattle.lookup.specs.Searches.{HasTree}
-use Rattle.space.specs.declared.Space.{Space}
-use Rattle.space.specs.declared.Space.the-variants as space
-use Rattle.space.specs.Spaces.{SpaceAt, NoSpace, IsSpace, Spaces}
-use Rattle.marks.specs.MapPages.{Releases}
-use Rattle.marks.specs.ReleaseLaws.{represents-release}
-use Rattle.volume.specs.declared.Edited.{Edited}
-use Rattle.volume.specs.Edits.{Answered}
-use Rattle.laying.specs.Layings.{Putting, Laying, Lays, Growing, Grows}
-use Rattle.put.specs.Puts.{Inserting, Replacing}
-
--- the owner table of an accepted image tells of the pages in use
-table-used : (g : Geometry) (image path bytes table : List ℕ) (a : Asked g image path bytes) → table ≡ owners (g .pages) (a .tree) → Represents table (used (a .tree))
-table-used g image path bytes table a e = rw e (represents-owners (g .pages) (a .tree) (a .well .holds .apart))
+use Rattle.lookup.specs.declared.PathLookup.{PathLookup}
+use Rattle.lookup.specs.declared.PathLookup.the-variants as lookup
+use Rattle.lookup.specs.Searches.{TreeAt, HasTree}
+use Rattle.lookup.specs.Targets.{FileAbsent, FileAt, Looks}
+use Rattle.lookup.specs.TargetLaws.{looks-as, bit-clear, is-writable, not-writable}
+use Rattle.lookup.specs.declared.space.Space.{Space}
+use Rattle.lookup.specs.declared.space.Space.the-variants as space
+use Rattle.lookup.specs.Spaces.{SpaceAt, NoSpace, IsSpace, Spaces}
+use Rattle.edit.specs.declared.NewFile.{NewFile}
+use Rattle.edit.specs.Plans.{EntryPlace}
+use Rattle.put.specs.declared.Placed.{Placed}
+use Rattle.put.specs.declared.Placed.the-variants as placed
+use Rattle.put.specs.Places.{NewEntryIs, NewPlace, OldPlace, IsPlaced}
 
 -- ---- a new file
-module _ (g : Geometry) (image table bytes : List ℕ) (name extension start : ℕ) (I : Inserting g image table bytes name extension start) where
-  open Inserting I using (path, asked, name-is, extension-is, table-is, tree, absent)
-
-  abbrev d : Items
-  d = asked .place .items
-
-  abbrev new : Label
-  new = label g image path bytes asked
-
-  pub has-tree : HasTree g (viewOf g image) start
-  has-tree = record { tree = d; at = tree }
-
-  none : count (keyOf new) (keys d) ≡ 0
-  none = none-found (fileKey (asked .to)) d absent
-
-  putting : Putting g image table bytes name extension
-  putting = record {
-    path = path;
-    asked = asked;
-    name-is = name-is;
-    extension-is = extension-is;
-    kept = represents-same table (used (asked .tree)) (keptPages (asked .to) (asked .tree))
-        (λ x. omega (arith, kept-old g image path bytes asked x, ap (λ (f : Found). count x (chainPages f)) absent)) (table-used g image path bytes table asked table-is);
-  }
-
-  module _ (r : Space) (h : Spaces g (viewOf g image) start r) (s : Slot) where
-    pub to-lay : r ≡ space.At s → Laying g image table bytes name extension s (s .count) (s .count)
-    unfolding putting
-    to-lay e =
-        let k : SpaceAt g (viewOf g image) d s = subst (IsSpace g (viewOf g image) d) e (h d tree) in
-        record {
-          putting = putting;
-          stays = extra-new g new d none ∙ ap bit (k .space);
+module _ {g : Geometry} {image : List ℕ} {start name extension : ℕ} {r : Space} (h : Spaces g (viewsOf g image) start r) {s : Slot} where
+  pub to-space : r ≡ space.At s → NewEntryIs g image start name extension (record { name = name; extension = extension; slot = s; first = s .count; last = s .count; extra = 0 })
+  to-space e q d n x t absent =
+      let k : SpaceAt g (viewOf g image) d s = subst (IsSpace g (viewOf g image) d) e (h d t) in
+      let none : count (keyOf (fileLabel q)) (keys d) ≡ 0 = none-found (fileKey q) d absent in
+      record {
+        name-is = n;
+        extension-is = x;
+        extra-is = extra-new g (fileLabel q) d none ∙ ap bit (k .space);
+        in-page = λ _. record {
           before = k .before;
           entries = k .entries;
           exchanged = [];
           later = k .later;
           shape = k .page .shape;
-          then = λ q chain. ap tokens (after-new g new q chain d none) ∙ k .inserted new chain q;
+          then = λ p chain. ap tokens (after-new g (fileLabel q) p chain d none) ∙ k .inserted (file (fileLabel q) chain) (fileEntry (fileLabel q) chain) (λ t. refl) p;
           first-is = k .page .count-is;
           last-is = omega (arith, k .page .count-is);
-          inside = k .page .fits .inside;
           skip-is = k .page .skip-is;
           next-is = k .page .next-is;
-        }
+        };
+        in-new-page = λ z. absurd (omega (arith, z));
+      }
 
-    pub to-grow : r ≡ space.Full s → Growing g image table bytes name extension s
-    unfolding putting
-    to-grow e =
-        let k : NoSpace g (viewOf g image) d s = subst (IsSpace g (viewOf g image) d) e (h d tree) in
-        record {
-          putting = putting;
-          absent = absent;
-          grows = extra-new g new d none ∙ ap bit (k .full);
+  pub to-join : r ≡ space.Full s → NewEntryIs g image start name extension (record { name = name; extension = extension; slot = s; first = s .count; last = s .count; extra = 1 })
+  to-join e q d n x t absent =
+      let k : NoSpace g (viewOf g image) d s = subst (IsSpace g (viewOf g image) d) e (h d t) in
+      let none : count (keyOf (fileLabel q)) (keys d) ≡ 0 = none-found (fileKey q) d absent in
+      record {
+        name-is = n;
+        extension-is = x;
+        extra-is = extra-new g (fileLabel q) d none ∙ ap bit (k .full);
+        in-page = λ z. absurd (omega (arith, z));
+        in-new-page = λ _. record {
           before = k .before;
           entries = k .entries;
           shape = k .page .shape;
-          then = λ q chain. ap tokens (after-new g new q chain d none) ∙ k .inserted new chain q;
-        }
-
-    -- and what is answered
-    pub lay-answer : (e : r ≡ space.At s) (t : Edited) (after : List ℕ) → Lays g image table bytes name extension s (s .count) (s .count) t after → Answered image (put g path bytes image) t after
-    unfolding to-lay putting
-    lay-answer e t after h = h (to-lay e)
-
-    pub grow-answer : (e : r ≡ space.Full s) (t : Edited) (after : List ℕ) → Grows g image table bytes name extension s t after → Answered image (put g path bytes image) t after
-    unfolding to-grow putting
-    grow-answer e t after h = h (to-grow e)
+          then = λ p chain. ap tokens (after-new g (fileLabel q) p chain d none) ∙ k .inserted (file (fileLabel q) chain) (fileEntry (fileLabel q) chain) (λ t. refl) p;
+        };
+      }
 
 -- ---- a file that is there
-module _ (g : Geometry) (image table bytes : List ℕ) (s : Slot) (e : Entry) (R : Replacing g image table bytes s e) where
-  open Replacing R using (path, asked, table-is, old, links, found, entry-is, chain, at)
+module _ (g : Geometry) (image path : List ℕ) (i : Image) (s : Slot) (e : Entry) (there : FileAt g (viewsOf g image) path i s e) (h : e .extension ≤ 127) where
+  open FileAt there using (target, label, links, found, entry-is, chain, at)
 
   abbrev items : Items
-  items = asked .place .items
+  items = target .place .items
 
   abbrev fresh : Label
-  fresh = label g image path bytes asked
+  fresh = fileLabel (target .to)
 
-  pub known-chain : KnownChain g (viewOf g image) (e .start)
-  known-chain = record { links = links; chain = chain }
+  -- its name and extension byte are those of the path
+  same : SameName fresh label
+  same = same-name fresh label (sym (found-file (fileKey (target .to)) label links items found .key-is)) (bit-clear there h)
+      (omega (arith, formed path (target .to) (reached path (i .tree) target (there .reached) .formed) .extension))
 
-  -- its label is that of the path
-  same : old ≡ fresh
-  same = same-label fresh old (sym (found-file (fileKey (asked .to)) old links items found .key-is)) (asked .writable old links found) (omega (arith, formed path (asked .to) (asked .formed) .extension))
+  same-entry : (new : List Link) → fileEntry label new ≡ fileEntry fresh new
+  same-entry new = ap₂ (λ (n x : ℕ). record { name = n; extension = x; start = first new; pages = length new }) (same .name-is) (same .extension-is)
 
-  there : 1 ≤ count (keyOf fresh) (keys items)
-  there = found-file (fileKey (asked .to)) old links items found .named
+  named : 1 ≤ count (keyOf fresh) (keys items)
+  named = found-file (fileKey (target .to)) label links items found .named
 
-  pub to-replace : (u : List ℕ) → Releases g (viewOf g image) (e .start) table u → Laying g image u bytes (e .name) (e .extension) s (s .at) (s .at + 1)
-  unfolding Releases
-  to-replace u rel =
-      let k = keptPages (asked .to) (asked .tree) in
-      record {
-        putting = record {
-          path = path;
-          asked = asked;
-          name-is = ap (λ (l : Label). l .name) (sym same) ∙ sym (ap (λ (x : Entry). x .name) entry-is);
-          extension-is = ap (λ (l : Label). l .extension) (sym same) ∙ sym (ap (λ (x : Entry). x .extension) entry-is);
-          kept = subst (λ (t : List ℕ). Represents t k) (sym (rel links chain)) (represents-release table (used (asked .tree)) k (pages links) (table-used g image path bytes table asked table-is)
-              (λ x. omega (arith, kept-old g image path bytes asked x, ap (λ (f : Found). count x (chainPages f)) found)));
-        };
-        stays = extra-old g fresh items there;
+  pub over : OldPlace g image path i (record { name = e .name; extension = e .extension; slot = s; first = s .at; last = s .at + 1; extra = 0 }) (e .start)
+  over = record {
+    target = target;
+    reached = put-target-is path (i .tree) target (there .reached) (ap writable found ∙ is-writable there h);
+    at = record {
+      name-is = sym (same .name-is) ∙ sym (ap (λ (x : Entry). x .name) entry-is);
+      extension-is = sym (same .extension-is) ∙ sym (ap (λ (x : Entry). x .extension) entry-is);
+      extra-is = extra-old g fresh items named;
+      in-page = λ _. record {
         before = at .before;
         entries = at .entries;
         exchanged = e ∷ [];
         later = at .later;
         shape = at .shape;
-        then = λ q new. ap tokens (after-old g fresh q new items there) ∙ at .replaced old links new found
-            ∙ ap (λ (l : Label). at .before ++ (newPage (s .page) ∷ (entryTokens (at .entries) ++ (entry (fileEntry l new) ∷ at .later)))) same;
+        then = λ q new. ap tokens (after-old g fresh q new items named) ∙ at .replaced label links new found
+            ∙ ap (λ (x : Entry). at .before ++ (newPage (s .page) ∷ (entryTokens (at .entries) ++ (entry x ∷ at .later)))) (same-entry new);
         first-is = at .at-is;
         last-is = ap (λ (n : ℕ). n + 1) (at .at-is);
-        inside = at .fits .inside;
         skip-is = at .skip-is;
         next-is = at .next-is;
-      }
+      };
+      in-new-page = λ z. absurd (omega (arith, z));
+    };
+    label = label;
+    links = links;
+    found = found;
+    chain = chain;
+  }
 
-  pub replace-answer : (u : List ℕ) (rel : Releases g (viewOf g image) (e .start) table u) (t : Edited) (after : List ℕ) → Lays g image u bytes (e .name) (e .extension) s (s .at) (s .at + 1) t after
-      → Answered image (put g path bytes image) t after
-  unfolding to-replace
-  replace-answer u rel t after h = h (to-replace u rel)
+-- ---- by path: each refusal in its place
+module _ (g : Geometry) (image path : List ℕ) (r : PathLookup) (look : Looks g (viewsOf g image) path r) (i : Image) (accepted : check g (viewsOf g image) ≡ ok i) where
+  abbrev vs : Views
+  vs = viewsOf g image
+
+  pub malformed : r ≡ lookup.Malformed → IsPlaced g image path i (placed.Refused 14 0)
+  malformed e = put-target-none path (i .tree) 14 0 (looks-as g vs path i r look accepted lookup.Malformed e)
+
+  pub nowhere : r ≡ lookup.Nowhere → IsPlaced g image path i (placed.Refused 15 0)
+  nowhere e = put-target-none path (i .tree) 15 0 (looks-as g vs path i r look accepted lookup.Nowhere e)
+
+  module _ {start name extension : ℕ} (e : r ≡ lookup.Absent start name extension) where
+    gap : FileAbsent g (viewsOf g image) path i start name extension
+    gap = looks-as g vs path i r look accepted (lookup.Absent start name extension) e
+
+    pub has-tree : HasTree g (viewsOf g image) start
+    has-tree = record { tree = gap .target .place .items; at = gap .tree }
+
+    may-write : writable nothing ≡ ok tt
+    unfolding writable
+    may-write = refl
+
+    pub new-place : (f : NewFile) → NewEntryIs g image start name extension f → IsPlaced g image path i (placed.New f)
+    new-place f n = record {
+      target = gap .target;
+      reached = put-target-is path (i .tree) (gap .target) (gap .reached) (ap writable (gap .absent) ∙ may-write);
+      at = n (gap .target .to) (gap .target .place .items) (gap .name-is) (gap .extension-is) (gap .tree) (gap .absent);
+      absent = gap .absent;
+    }
+
+  module _ (s : Slot) (e : Entry) (q : r ≡ lookup.At s e) where
+    there : FileAt g (viewsOf g image) path i s e
+    there = looks-as g vs path i r look accepted (lookup.At s e) q
+
+    pub read-only : 127 < e .extension → IsPlaced g image path i (placed.Refused 16 0)
+    read-only h = put-target-kept path (i .tree) (there .target) (there .reached) 16 0 (ap writable (there .found) ∙ not-writable there h)
+
+    pub old-place : e .extension ≤ 127 → IsPlaced g image path i (placed.Over (record { name = e .name; extension = e .extension; slot = s; first = s .at; last = s .at + 1; extra = 0 }) (e .start))
+    old-place h = over g image path i s e there h
+
+    pub under : s .at < s .count
+    under = there .at .under

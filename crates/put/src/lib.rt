@@ -1,114 +1,132 @@
 // Put: a file made or replaced, in the lowest free pages.
 use directory::extensions::extension_of;
-use entries::Slot;
+use edit::NewFile;
+use edit::Outcome;
 use geometry::Geometry;
 use geometry::Shape;
 use lookup::PathLookup;
-use rules::Entry;
-use space::Space;
-use volume::Edited;
-use walk::Walk;
+use lookup::space::Space;
+use packet::Budget;
+use rules::Checked;
+use rules::Edited;
 ghost use mathlib.Core.Path.{_≡_};
 ghost use lib.ListN.{length};
 ghost use Rattle.geometry.specs.Geometry.{Fit};
+ghost use Rattle.packet.specs.Budgets.{Open};
 ghost use Rattle.rules.specs.Put.{put as putRule};
 ghost use Rattle.rules.specs.Result.{ok};
+ghost use Rattle.rules.specs.Chain.{viewsOf};
 ghost use Rattle.rules.specs.Calls.{putCall};
 ghost use Rattle.rules.specs.Promises.{Puts};
-ghost use Rattle.volume.specs.Told.{editTold};
-ghost use Rattle.volume.specs.Edits.{Answered, TableOf, EditLeaves};
-ghost use Rattle.put.specs.Puts.{Inserting, Inserts, Replacing, Replaces};
+ghost use Rattle.listing.specs.KnownTree.{HasImage};
+ghost use Rattle.lookup.specs.Searches.{HasTree};
+ghost use Rattle.rules.specs.Answers.{editResult};
+ghost use Rattle.volume.specs.Edits.{TableOf, EditLeaves};
+ghost use Rattle.put.specs.Places.{NewEntryIs, Places, PathPut};
 
-// Puts a file that its directory does not have.
-fn insert_file(
-    image: &mut [u8],
-    g: Geometry,
-    start: usize,
-    name: u32,
-    extension: u8,
-    bytes: &[u8],
-    owners: &mut [u16],
-) -> Edited
+// Where the file of a path goes.
+pub enum Placed {
+    // a file that its directory does not have
+    New(NewFile),
+    // in the place of a file, whose chain starts at this page
+    Over(NewFile, usize),
+    // 14, 15, 16
+    Refused(u8, usize),
+}
+
+// Where the entry of a file goes that its directory does not have: to the first page with space, else to a page that joins.
+fn new_entry(image: &[u8], g: Geometry, start: usize, name: u32, extension: u8) -> NewFile
     requires { ⌜ Fit g (now image) ⌝ }
-    requires { ⌜ (length (now owners) ≡ g .pages) × Inserting g (now image) (now owners) (now bytes) name extension start ⌝ }
-    ensures { λ r. ⌜ Inserts g (now (image .entry)) (now (owners .entry)) (now (bytes .entry)) name extension start r (now (image .exit)) ⌝ }
+    requires { ⌜ HasTree g (viewsOf g (now image)) start ⌝ }
+    ensures { λ r. ⌜ NewEntryIs g (now (image .entry)) start name extension r ⌝ }
 {
-    match space::find_space(image, g, start) {
-        Space::At(slot) => laying::lay_file(
-            image,
-            g,
-            slot,
-            slot.count,
-            slot.count,
+    match lookup::space::find_space(image, g, start) {
+        Space::At(slot) => NewFile {
             name,
             extension,
-            bytes,
-            owners,
-        ),
-        Space::Full(slot) => laying::grow(image, g, slot, name, extension, bytes, owners),
+            slot,
+            first: slot.count,
+            last: slot.count,
+            extra: 0,
+        },
+        Space::Full(slot) => NewFile {
+            name,
+            extension,
+            slot,
+            first: slot.count,
+            last: slot.count,
+            extra: 1,
+        },
     }
 }
 
-// Replaces a file that its directory has: the old chain counts as free.
-fn replace_file(
-    image: &mut [u8],
-    g: Geometry,
-    slot: Slot,
-    e: Entry,
-    bytes: &[u8],
-    owners: &mut [u16],
-) -> Edited
+// Finds where the file of a path goes. The image is accepted.
+fn place_file(image: &[u8], g: Geometry, path: &[u8]) -> Placed
     requires { ⌜ Fit g (now image) ⌝ }
-    requires { ⌜ (length (now owners) ≡ g .pages) × Replacing g (now image) (now owners) (now bytes) slot e ⌝ }
-    ensures { λ r. ⌜ Replaces g (now (image .entry)) (now (owners .entry)) (now (bytes .entry)) slot e r (now (image .exit)) ⌝ }
-{
-    marks::release(image, g, e.start, owners);
-    laying::lay_file(
-        image,
-        g,
-        slot,
-        slot.at,
-        slot.at + 1,
-        e.name,
-        e.extension,
-        bytes,
-        owners,
-    )
-}
-
-// Puts bytes at a path. The image is accepted, and the table has the owners of its pages. Refusals: 14, 15, 16, 17.
-fn put_path(image: &mut [u8], g: Geometry, path: &[u8], bytes: &[u8], owners: &mut [u16]) -> Edited
-    requires { ⌜ Fit g (now image) ⌝ }
-    requires { ⌜ (length (now owners) ≡ g .pages) × TableOf g (now image) (now owners) ⌝ }
-    ensures { λ r. ⌜ Answered (now (image .entry)) (putRule g (now (path .entry)) (now (bytes .entry)) (now (image .entry))) r (now (image .exit)) ⌝ }
+    requires { ⌜ HasImage g (viewsOf g (now image)) ⌝ }
+    ensures { λ r. ⌜ Places g (now (image .entry)) (now (path .entry)) r ⌝ }
 {
     match lookup::find_file(image, g, path) {
-        PathLookup::Malformed => Edited::Refused(14, 0),
-        PathLookup::Nowhere => Edited::Refused(15, 0),
-        PathLookup::Absent(start, name, extension) => {
-            insert_file(image, g, start, name, extension, bytes, owners)
+        PathLookup::Malformed => Placed::Refused(14, 0),
+        PathLookup::Nowhere => Placed::Refused(15, 0),
+        PathLookup::Absent(directory, name, extension) => {
+            Placed::New(new_entry(image, g, directory, name, extension))
         }
         PathLookup::At(slot, e) => {
             if extension_of(e.extension).attribute != 0 {
-                return Edited::Refused(16, 0);
+                return Placed::Refused(16, 0);
             }
-            replace_file(image, g, slot, e, bytes, owners)
+            let file = NewFile {
+                name: e.name,
+                extension: e.extension,
+                slot,
+                first: slot.at,
+                last: slot.at + 1,
+                extra: 0,
+            };
+            Placed::Over(file, e.start)
         }
     }
 }
 
-// Puts into an image whose geometry is known: the check, the path, then the table of the image as it then stands.
-fn put_in(image: &mut [u8], g: Geometry, path: &[u8], bytes: &[u8], owners: &mut [u16]) -> Edited
+// Puts bytes at a path within a budget. The table has the owners of the image's pages; a chain that is replaced counts as free. 14, 15, 16, 17.
+fn put_path(
+    image: &mut [u8],
+    g: Geometry,
+    path: &[u8],
+    bytes: &[u8],
+    table: &mut [u16],
+    budget: Budget,
+) -> Outcome
     requires { ⌜ Fit g (now image) ⌝ }
-    requires { ⌜ length (now owners) ≡ g .pages ⌝ }
-    ensures { λ r. ⌜ EditLeaves g (now (image .entry)) (putRule g (now (path .entry)) (now (bytes .entry)) (now (image .entry))) r (now (image .exit)) (now (owners .exit)) ⌝ }
+    requires { ⌜ (length (now table) ≡ g .pages) × TableOf g (now image) (now table) × Open budget ⌝ }
+    ensures { λ r. ⌜ PathPut g (now (image .entry)) (now (path .entry)) (now (bytes .entry)) budget (now (image .exit)) r ⌝ }
 {
-    match volume::check_table(image, g, owners) {
-        Walk::Refused(number, page) => Edited::Refused(number, page),
-        Walk::Done(_) => {
-            let answer = put_path(image, g, path, bytes, owners);
-            volume::check_table(image, g, owners);
-            answer
+    match place_file(image, g, path) {
+        Placed::Refused(number, page) => Outcome::Refused(number, page),
+        Placed::New(file) => edit::put_file(image, g, file, bytes, table, budget),
+        Placed::Over(file, start) => {
+            chain::release_chain(image, g, start, table);
+            edit::put_file(image, g, file, bytes, table, budget)
+        }
+    }
+}
+
+// Puts into an image whose geometry is known: the check, the put, then the table of the image as it then stands.
+fn put_in(image: &mut [u8], g: Geometry, path: &[u8], bytes: &[u8], table: &mut [u16]) -> Edited
+    requires { ⌜ Fit g (now image) ⌝ }
+    requires { ⌜ length (now table) ≡ g .pages ⌝ }
+    ensures { λ r. ⌜ EditLeaves g (now (image .entry)) (putRule g (now (path .entry)) (now (bytes .entry)) (now (image .entry))) r (now (image .exit)) (now (table .exit)) ⌝ }
+{
+    match volume::check_table(image, g, table) {
+        Checked::Refused(number, page) => Edited::Refused(number, page),
+        Checked::Done(_) => {
+            let outcome = put_path(image, g, path, bytes, table, Budget::unlimited());
+            volume::check_table(image, g, table);
+            match outcome {
+                Outcome::Done(_) => Edited::Done,
+                Outcome::Refused(number, page) => Edited::Refused(number, page),
+            }
         }
     }
 }
@@ -120,16 +138,16 @@ pub fn put(
     pages: u32,
     path: &[u8],
     bytes: &[u8],
-    owners: &mut [u16],
+    table: &mut [u16],
 ) -> Edited
-    ensures { λ r. ⌜ (editTold r, now (image .exit), now (owners .exit)) ≡ putCall size pages (now (image .entry)) (now (owners .entry)) (now (path .entry)) (now (bytes .entry)) ⌝ }
-    ensures { λ r. ⌜ Puts size pages (now (image .entry)) (now (owners .entry)) (now (path .entry)) (now (bytes .entry)) (editTold r ≡ ok tt) (λ x. editTold r ≡ x) (now (image .exit)) ⌝ }
+    ensures { λ r. ⌜ (editResult r, now (image .exit), now (table .exit)) ≡ putCall size pages (now (image .entry)) (now (table .entry)) (now (path .entry)) (now (bytes .entry)) ⌝ }
+    ensures { λ r. ⌜ Puts size pages (now (image .entry)) (now (table .entry)) (now (path .entry)) (now (bytes .entry)) (editResult r ≡ ok tt) (λ x. editResult r ≡ x) (now (image .exit)) ⌝ }
 {
-    match Geometry::new(size, pages, image.len(), owners.len()) {
-        Shape::Wrong => Edited::Refused(1, 0),
+    match Geometry::new(size, pages, image.len(), table.len()) {
+        Shape::Invalid => Edited::Refused(1, 0),
         Shape::Fits(g) => {
             let n = g.pages;
-            put_in(image, g, path, bytes, &mut owners[..n])
+            put_in(image, g, path, bytes, &mut table[..n])
         }
     }
 }

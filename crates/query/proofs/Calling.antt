@@ -7,25 +7,25 @@ use Rattle.geometry.specs.declared.Geometry.{Geometry}
 use Rattle.geometry.specs.declared.Shape.the-variants.{Fits}
 use Rattle.geometry.specs.Geometry.{geometryOf}
 use Rattle.geometry.specs.NumberLaws.{bytes-from}
-use Rattle.packet.specs.Packet.{viewOf}
 use Rattle.rules.specs.declared.Totals.{Totals}
 use Rattle.rules.specs.declared.Line.{Line}
 use Rattle.rules.specs.Result.{Res, ok, err, IsOk}
 use Rattle.rules.specs.ResultLaws.{clash}
+use Rattle.rules.specs.Chain.{viewsOf}
 use Rattle.rules.specs.Listing.{linesOf, lineAt}
 use Rattle.rules.specs.Calls.{readBytes, lengthOf, filled, asked, listCall, readCall}
 use Rattle.rules.specs.Promises.{TellsTree}
-use Rattle.reading.specs.CheckCall.{asked-tells, tells-said}
-use Rattle.listing.specs.Standing.{Accepted}
-use Rattle.walk.specs.declared.Walk.{Walk}
-use Rattle.walk.specs.declared.Walk.the-variants as w
+use Rattle.reading_theorems.specs.CheckCall.{asked-tells, tells-said}
+use Rattle.listing.specs.KnownTree.{HasImage}
+use Rattle.rules.specs.declared.Checked.{Checked}
+use Rattle.rules.specs.declared.Checked.the-variants as w
 use Rattle.volume.specs.Scans.{TableChecked}
 use Rattle.volume.proofs.CheckLaws.{asked-done, asked-refused}
-use Rattle.query.specs.declared.Listed.{Listed}
-use Rattle.query.specs.declared.Listed.the-variants as listed
-use Rattle.query.specs.declared.Length.{Length}
-use Rattle.query.specs.declared.Length.the-variants as length′
-use Rattle.query.specs.Told.{lineTold, lengthTold}
+use Rattle.rules.specs.declared.Listed.{Listed}
+use Rattle.rules.specs.declared.Listed.the-variants as listed
+use Rattle.rules.specs.declared.Length.{Length}
+use Rattle.rules.specs.declared.Length.the-variants as length′
+use Rattle.rules.specs.Answers.{lineResult, lengthResult}
 use Rattle.query.specs.Questions.{LineOf, PathRead}
 
 -- what the length told and the output come from
@@ -34,49 +34,49 @@ length-ok (ok bytes) n e = (bytes, refl)
 length-ok (err m p) n e = clash e
 
 -- ---- an image in its geometry, checked
-module _ (P N : ℕ) (image table : List ℕ) (g : Geometry) (e : geometryOf P N (length image) (length table) ≡ Fits g) (c : Walk) (u : List ℕ) (K : TableChecked g (viewOf g image) c u) where
+module _ (P N : ℕ) (image table : List ℕ) (g : Geometry) (e : geometryOf P N (length image) (length table) ≡ Fits g) (c : Checked) (u : List ℕ) (K : TableChecked g (viewsOf g image) c u) where
   module _ (n p : ℕ) (q : c ≡ w.Refused n p) where
-    fault : TableChecked g (viewOf g image) (w.Refused n p) u
-    fault = subst (λ (x : Walk). TableChecked g (viewOf g image) x u) q K
+    fault : TableChecked g (viewsOf g image) (w.Refused n p) u
+    fault = subst (λ (x : Checked). TableChecked g (viewsOf g image) x u) q K
 
-    pub list-fault : (k : ℕ) → (lineTold (listed.Refused n p), u ++ drop (g .pages) table) ≡ listCall P N image table k
+    pub list-fault : (k : ℕ) → (lineResult (listed.Refused n p), u ++ drop (g .pages) table) ≡ listCall P N image table k
     unfolding listCall
     list-fault k = sym (asked-refused P N image table g e (λ i. lineAt k (linesOf 0 (i .tree))) n p u fault)
 
-    pub read-fault : (path out : List ℕ) → (lengthTold (length′.Refused n p), out, u ++ drop (g .pages) table) ≡ readCall P N image table path out
+    pub read-fault : (path out : List ℕ) → (lengthResult (length′.Refused n p), out, u ++ drop (g .pages) table) ≡ readCall P N image table path out
     unfolding readCall
     read-fault path out = sym (ap (λ (x : Res (List ℕ) × List ℕ). (lengthOf (x .0), filled out (x .0), x .1)) (asked-refused P N image table g e (readBytes path out) n p u fault))
 
   module _ (d : Totals) (q : c ≡ w.Done d) where
-    done : TableChecked g (viewOf g image) (w.Done d) u
-    done = subst (λ (x : Walk). TableChecked g (viewOf g image) x u) q K
+    done : TableChecked g (viewsOf g image) (w.Done d) u
+    done = subst (λ (x : Checked). TableChecked g (viewsOf g image) x u) q K
 
-    pub is-accepted : Accepted g (viewOf g image)
+    pub is-accepted : HasImage g (viewsOf g image)
     is-accepted = record { image = done .0; accepted = done .1 }
 
-    pub list-done : (k : ℕ) (r : Listed) → LineOf g (viewOf g image) k r → (lineTold r, u ++ drop (g .pages) table) ≡ listCall P N image table k
+    pub list-done : (k : ℕ) (r : Listed) → LineOf g (viewsOf g image) k r → (lineResult r, u ++ drop (g .pages) table) ≡ listCall P N image table k
     unfolding listCall
     list-done k r h = ap (λ (x : Res Line). (x, u ++ drop (g .pages) table)) (h (done .0) (done .1)) ∙ sym (asked-done P N image table g e (λ i. lineAt k (linesOf 0 (i .tree))) d u done)
 
-    pub read-done : (path out : List ℕ) (r : Length) (after : List ℕ) → PathRead g (viewOf g image) path out r after → (lengthTold r, after, u ++ drop (g .pages) table) ≡ readCall P N image table path out
+    pub read-done : (path out : List ℕ) (r : Length) (after : List ℕ) → PathRead g (viewsOf g image) path out r after → (lengthResult r, after, u ++ drop (g .pages) table) ≡ readCall P N image table path out
     unfolding readCall
     read-done path out r after h = ap (λ (x : Res ℕ × List ℕ). (x .0, x .1, u ++ drop (g .pages) table)) (h (done .0) (done .1))
         ∙ sym (ap (λ (x : Res (List ℕ) × List ℕ). (lengthOf (x .0), filled out (x .0), x .1)) (asked-done P N image table g e (readBytes path out) d u done))
 
 -- ---- the tree of the well-formed image
 module _ (P N : ℕ) (image table : List ℕ) (h : (i : ℕ) → getD image i 0 < 256) where
-  pub lists-tree : (k : ℕ) (r : Listed) (u : List ℕ) → (lineTold r, u) ≡ listCall P N image table k
-      → TellsTree P N image table (λ i. lineAt k (linesOf 0 (i .tree))) (λ x. lineTold r ≡ x) (IsOk (lineTold r))
+  pub lists-tree : (k : ℕ) (r : Listed) (u : List ℕ) → (lineResult r, u) ≡ listCall P N image table k
+      → TellsTree P N image table (λ i. lineAt k (linesOf 0 (i .tree))) (λ x. lineResult r ≡ x) (IsOk (lineResult r))
   unfolding listCall
   lists-tree k r u e =
       let q = ap (λ (x : Res Line × List ℕ). x .0) e in
       tells-said (λ x t. q ∙ t) (λ d. (d .0, sym q ∙ d .1)) (asked-tells P N image table (bytes-from image h) (λ i. lineAt k (linesOf 0 (i .tree))))
 
-  pub reads-tree : (path out : List ℕ) (r : Length) (after u : List ℕ) → (lengthTold r, after, u) ≡ readCall P N image table path out
-      → TellsTree P N image table (readBytes path out) (λ x. (lengthTold r ≡ lengthOf x) × (after ≡ filled out x)) (IsOk (lengthTold r))
+  pub reads-tree : (path out : List ℕ) (r : Length) (after u : List ℕ) → (lengthResult r, after, u) ≡ readCall P N image table path out
+      → TellsTree P N image table (readBytes path out) (λ x. (lengthResult r ≡ lengthOf x) × (after ≡ filled out x)) (IsOk (lengthResult r))
   unfolding readCall
   reads-tree path out r after u e =
-      let q : lengthTold r ≡ lengthOf (asked P N image table (readBytes path out) .0) = ap (λ (x : Res ℕ × List ℕ × List ℕ). x .0) e in
+      let q : lengthResult r ≡ lengthOf (asked P N image table (readBytes path out) .0) = ap (λ (x : Res ℕ × List ℕ × List ℕ). x .0) e in
       let o : after ≡ filled out (asked P N image table (readBytes path out) .0) = ap (λ (x : Res ℕ × List ℕ × List ℕ). x .1) e in
       tells-said (λ x t. (q ∙ ap lengthOf t, o ∙ ap (filled out) t)) (λ d. length-ok (asked P N image table (readBytes path out) .0) (d .0) (sym q ∙ d .1))
       (asked-tells P N image table (bytes-from image h) (readBytes path out))

@@ -5,11 +5,10 @@ use Prim.Native.Nat.{ℕ, _≤_, _<_}
 use lib.ListN.{length, drop}
 use borrow.Author.Tests.{le-leb, lt-leb}
 use Rattle.geometry.specs.declared.Geometry.{Geometry}
-use Rattle.packet.specs.Packet.{View}
 use Rattle.rules.specs.declared.Entry.{Entry}
 use Rattle.rules.specs.Result.{Res, ok, err}
 use Rattle.rules.specs.ResultLaws.{then-ok, then-err, refuse-true, refuse-false}
-use Rattle.rules.specs.Chain.{content}
+use Rattle.rules.specs.Chain.{Views, content}
 use Rattle.rules.specs.Tree.{Image}
 use Rattle.rules.specs.Check.{check}
 use Rattle.rules.specs.Paths.{fileKey, Found, nothing, aFile, find, Target, targetOf}
@@ -19,8 +18,8 @@ use Rattle.lookup.specs.declared.PathLookup.{PathLookup}
 use Rattle.lookup.specs.declared.PathLookup.the-variants as lookup
 use Rattle.lookup.specs.Targets.{FileAbsent, FileAt, Looks}
 use Rattle.lookup.specs.TargetLaws.{looks-as}
-use Rattle.query.specs.declared.Length.{Length}
-use Rattle.query.specs.declared.Length.the-variants as length′
+use Rattle.rules.specs.declared.Length.{Length}
+use Rattle.rules.specs.declared.Length.the-variants as length′
 use Rattle.query.specs.Questions.{Gives, fitting, ChainRead}
 
 -- ---- a chain for an output
@@ -35,7 +34,7 @@ long-enough out bytes after n h e q =
     ap₂ (λ (m : ℕ) (l : List ℕ). (ok m, l)) e q ∙ ap (λ (r : Res (List ℕ)). (lengthOf r, filled out r)) (sym f)
 
 -- ---- the file at a path
-module _ (g : Geometry) (v : View) (path out : List ℕ) (r : PathLookup) (h : Looks g v path r) (i : Image) (accepted : check g v ≡ ok i) where
+module _ (g : Geometry) (vs : Views) (path out : List ℕ) (r : PathLookup) (h : Looks g vs path r) (i : Image) (accepted : check g vs ≡ ok i) where
   refused : (n p : ℕ) → fileAt path i ≡ err n p → Gives out (readBytes path out i) (length′.Refused n p) out
   unfolding readBytes
   refused n p e = let f : readBytes path out i ≡ err n p = simp (e, then-err) in ap (λ (r : Res (List ℕ)). (lengthOf r, filled out r)) (sym f)
@@ -45,10 +44,10 @@ module _ (g : Geometry) (v : View) (path out : List ℕ) (r : PathLookup) (h : L
   no-target n p e = simp (e, then-err)
 
   pub malformed : r ≡ lookup.Malformed → Gives out (readBytes path out i) (length′.Refused 14 0) out
-  malformed e = refused 14 0 (no-target 14 0 (looks-as g v path i r h accepted lookup.Malformed e))
+  malformed e = refused 14 0 (no-target 14 0 (looks-as g vs path i r h accepted lookup.Malformed e))
 
   pub nowhere : r ≡ lookup.Nowhere → Gives out (readBytes path out i) (length′.Refused 15 0) out
-  nowhere e = refused 15 0 (no-target 15 0 (looks-as g v path i r h accepted lookup.Nowhere e))
+  nowhere e = refused 15 0 (no-target 15 0 (looks-as g vs path i r h accepted lookup.Nowhere e))
 
   found : (x : Target) → targetOf path (i .tree) ≡ ok x → (f : Found) → find (fileKey (x .to)) (x .place .items) ≡ f → fileAt path i ≡ bytesOf f
   unfolding fileAt
@@ -56,15 +55,15 @@ module _ (g : Geometry) (v : View) (path out : List ℕ) (r : PathLookup) (h : L
 
   pub absent : (start name extension : ℕ) → r ≡ lookup.Absent start name extension → Gives out (readBytes path out i) (length′.Refused 15 0) out
   absent start name extension e =
-      let m : FileAbsent g v path i start name extension = looks-as g v path i r h accepted (lookup.Absent start name extension) e in
+      let m : FileAbsent g vs path i start name extension = looks-as g vs path i r h accepted (lookup.Absent start name extension) e in
       refused 15 0 (found (m .target) (m .reached) nothing (m .absent) ∙ gone)
     where
       gone : bytesOf nothing ≡ err 15 0
       gone = unfold bytesOf in refl
 
   module _ (s : Slot) (e : Entry) (q : r ≡ lookup.At s e) where
-    pub there : FileAt g v path i s e
-    there = looks-as g v path i r h accepted (lookup.At s e) q
+    pub there : FileAt g vs path i s e
+    there = looks-as g vs path i r h accepted (lookup.At s e) q
 
     fits-file : readBytes path out i ≡ fitting out (content (there .links))
     unfolding readBytes fitting bytesOf
@@ -72,5 +71,5 @@ module _ (g : Geometry) (v : View) (path out : List ℕ) (r : PathLookup) (h : L
         let y : fileAt path i ≡ ok (content (there .links)) = found (there .target) (there .reached) (aFile (there .label) (there .links)) (there .found) in
         simp (y, then-ok)
 
-    pub read-file : (a : Length) (after : List ℕ) → ChainRead g v (e .start) out a after → Gives out (readBytes path out i) a after
+    pub read-file : (a : Length) (after : List ℕ) → ChainRead g (vs .file (e .extension)) (e .start) out a after → Gives out (readBytes path out i) a after
     read-file a after c = subst (λ (x : Res (List ℕ)). Gives out x a after) (sym fits-file) (c (there .links) (there .chain))

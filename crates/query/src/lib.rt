@@ -1,58 +1,49 @@
 // Questions about an image: the entry at a walk position, and the bytes of a file.
 use geometry::Geometry;
 use geometry::Shape;
-use listing::Look;
+use listing::LineSearch;
 use lookup::PathLookup;
+use rules::Checked;
+use rules::Length;
 use rules::Line;
-use walk::Walk;
+use rules::Listed;
 ghost use mathlib.Core.Path.{_≡_};
 ghost use Rattle.geometry.specs.Geometry.{Fit};
 ghost use Rattle.packet.specs.Packet.{viewOf};
 ghost use Rattle.chain.specs.KnownChain.{KnownChain};
-ghost use Rattle.listing.specs.Standing.{Accepted};
+ghost use Rattle.listing.specs.KnownTree.{HasImage};
 ghost use Rattle.rules.specs.Result.{IsOk};
+ghost use Rattle.rules.specs.Chain.{viewsOf};
 ghost use Rattle.rules.specs.Listing.{lineAt, linesOf};
 ghost use Rattle.rules.specs.Calls.{readBytes, lengthOf, filled, listCall, readCall};
 ghost use Rattle.rules.specs.Promises.{TellsTree};
-ghost use Rattle.query.specs.Told.{lineTold, lengthTold};
+ghost use Rattle.rules.specs.Answers.{lineResult, lengthResult};
 ghost use Rattle.query.specs.Questions.{LineOf, ChainRead, PathRead};
-
-// What listing answers: a line, or the number of a refusal of document 01 and its page.
-pub enum Listed {
-    Entry(Line),
-    Refused(u8, usize),
-}
-
-// What reading answers: the bytes read, or the number of a refusal of document 01 and its page.
-pub enum Length {
-    Done(usize),
-    Refused(u8, usize),
-}
 
 // The entry at a walk position of an accepted image, or 15.
 fn entry_of(image: &[u8], g: Geometry, position: usize) -> Listed
     requires { ⌜ Fit g (now image) ⌝ }
-    requires { ⌜ Accepted g (viewOf g (now image)) ⌝ }
-    ensures { λ r. ⌜ LineOf g (viewOf g (now (image .entry))) position r ⌝ }
+    requires { ⌜ HasImage g (viewsOf g (now image)) ⌝ }
+    ensures { λ r. ⌜ LineOf g (viewsOf g (now (image .entry))) position r ⌝ }
 {
     match listing::line_at(image, g, position) {
-        Look::Found(line) => Listed::Entry(line),
-        Look::Left(_) => Listed::Refused(15, 0),
+        LineSearch::Found(line) => Listed::Entry(line),
+        LineSearch::Left(_) => Listed::Refused(15, 0),
     }
 }
 
 // Lists the entry at a walk position from 0: 15 at or past the end. Fills the owner table as a check does.
-pub fn list(image: &[u8], size: u32, pages: u32, owners: &mut [u16], position: usize) -> Listed
-    ensures { λ r. ⌜ (lineTold r, now (owners .exit)) ≡ listCall size pages (now (image .entry)) (now (owners .entry)) position ⌝ }
-    ensures { λ r. ⌜ TellsTree size pages (now (image .entry)) (now (owners .entry)) (λ i. lineAt position (linesOf 0 (i .tree))) (λ x. lineTold r ≡ x) (IsOk (lineTold r)) ⌝ }
+pub fn list(image: &[u8], size: u32, pages: u32, table: &mut [u16], position: usize) -> Listed
+    ensures { λ r. ⌜ (lineResult r, now (table .exit)) ≡ listCall size pages (now (image .entry)) (now (table .entry)) position ⌝ }
+    ensures { λ r. ⌜ TellsTree size pages (now (image .entry)) (now (table .entry)) (λ i. lineAt position (linesOf 0 (i .tree))) (λ x. lineResult r ≡ x) (IsOk (lineResult r)) ⌝ }
 {
-    match Geometry::new(size, pages, image.len(), owners.len()) {
-        Shape::Wrong => Listed::Refused(1, 0),
+    match Geometry::new(size, pages, image.len(), table.len()) {
+        Shape::Invalid => Listed::Refused(1, 0),
         Shape::Fits(g) => {
             let n = g.pages;
-            match volume::check_table(image, g, &mut owners[..n]) {
-                Walk::Refused(number, page) => Listed::Refused(number, page),
-                Walk::Done(_) => entry_of(image, g, position),
+            match volume::check_table(image, g, &mut table[..n]) {
+                Checked::Refused(number, page) => Listed::Refused(number, page),
+                Checked::Done(_) => entry_of(image, g, position),
             }
         }
     }
@@ -64,19 +55,19 @@ fn read_chain(image: &[u8], g: Geometry, start: usize, out: &mut [u8]) -> Length
     requires { ⌜ KnownChain g (viewOf g (now image)) start ⌝ }
     ensures { λ r. ⌜ ChainRead g (viewOf g (now (image .entry))) start (now (out .entry)) r (now (out .exit)) ⌝ }
 {
-    let length = content::chain_bytes(image, g, start);
+    let length = chain::chain_bytes(image, g, start);
     if out.len() < length {
         return Length::Refused(18, 0);
     }
-    content::copy_chain(image, g, start, out);
+    chain::copy_chain(image, g, start, out);
     Length::Done(length)
 }
 
 // Reads the file at a path of an accepted image: 14, 15, 18.
 fn read_path(image: &[u8], g: Geometry, path: &[u8], out: &mut [u8]) -> Length
     requires { ⌜ Fit g (now image) ⌝ }
-    requires { ⌜ Accepted g (viewOf g (now image)) ⌝ }
-    ensures { λ r. ⌜ PathRead g (viewOf g (now (image .entry))) (now (path .entry)) (now (out .entry)) r (now (out .exit)) ⌝ }
+    requires { ⌜ HasImage g (viewsOf g (now image)) ⌝ }
+    ensures { λ r. ⌜ PathRead g (viewsOf g (now (image .entry))) (now (path .entry)) (now (out .entry)) r (now (out .exit)) ⌝ }
 {
     match lookup::find_file(image, g, path) {
         PathLookup::Malformed => Length::Refused(14, 0),
@@ -93,18 +84,19 @@ pub fn read(
     pages: u32,
     path: &[u8],
     out: &mut [u8],
-    owners: &mut [u16],
+    table: &mut [u16],
 ) -> Length
-    ensures { λ r. ⌜ (lengthTold r, now (out .exit), now (owners .exit)) ≡ readCall size pages (now (image .entry)) (now (owners .entry)) (now (path .entry)) (now (out .entry)) ⌝ }
-    ensures { λ r. ⌜ TellsTree size pages (now (image .entry)) (now (owners .entry)) (readBytes (now (path .entry)) (now (out .entry))) (λ x. (lengthTold r ≡ lengthOf x) × (now (out .exit) ≡ filled (now (out .entry)) x)) (IsOk (lengthTold r)) ⌝ }
+    ensures { λ r. ⌜ (lengthResult r, now (out .exit), now (table .exit)) ≡ readCall size pages (now (image .entry)) (now (table .entry)) (now (path .entry)) (now (out .entry)) ⌝ }
+    ensures { λ r. ⌜ TellsTree size pages (now (image .entry)) (now (table .entry)) (readBytes (now (path .entry)) (now (out .entry)))
+        (λ x. (lengthResult r ≡ lengthOf x) × (now (out .exit) ≡ filled (now (out .entry)) x)) (IsOk (lengthResult r)) ⌝ }
 {
-    match Geometry::new(size, pages, image.len(), owners.len()) {
-        Shape::Wrong => Length::Refused(1, 0),
+    match Geometry::new(size, pages, image.len(), table.len()) {
+        Shape::Invalid => Length::Refused(1, 0),
         Shape::Fits(g) => {
             let n = g.pages;
-            match volume::check_table(image, g, &mut owners[..n]) {
-                Walk::Refused(number, page) => Length::Refused(number, page),
-                Walk::Done(_) => read_path(image, g, path, out),
+            match volume::check_table(image, g, &mut table[..n]) {
+                Checked::Refused(number, page) => Length::Refused(number, page),
+                Checked::Done(_) => read_path(image, g, path, out),
             }
         }
     }

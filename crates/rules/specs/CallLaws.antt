@@ -6,18 +6,18 @@ use Prim.Native.Nat.{ℕ, _+_, _<_}
 use native.Mathlib.Omega.{arith}
 use Rattle.geometry.specs.declared.Geometry.{Geometry}
 use Rattle.geometry.specs.declared.Shape.{Shape}
-use Rattle.geometry.specs.declared.Shape.the-variants.{Fits, Wrong}
-use Rattle.packet.specs.Packet.{viewOf}
+use Rattle.geometry.specs.declared.Shape.the-variants.{Fits, Invalid}
 use Rattle.rules.specs.Result.{Res, ok, err, andThen}
 use Rattle.rules.specs.ResultLaws.{clash}
+use Rattle.rules.specs.Chain.{viewsOf}
 use Rattle.rules.specs.RefusalLaws.{Refuses, refuses-ok, refuses-then, refuses-test, refuses-within, target-faults, writable-faults, present-faults, bytes-faults}
 use Rattle.rules.specs.FuelLaws.{check-faults}
-use Rattle.rules.specs.Tree.{Image}
+use Rattle.rules.specs.Tree.{Items, Image}
 use Rattle.rules.specs.Check.{check}
 use Rattle.rules.specs.Owners.{tableAfter}
 use Rattle.rules.specs.Format.{format}
-use Rattle.rules.specs.Put.{putEdit, put}
-use Rattle.rules.specs.Delete.{delete}
+use Rattle.rules.specs.Put.{putTarget, putEdit, put}
+use Rattle.rules.specs.Delete.{deleteTarget, delete}
 use Rattle.rules.specs.Calls.{inGeometry, fileAt, readBytes, lengthOf, filled, shape, asked, done, checkCall, listCall, readCall, formatCall, putCall, deleteCall}
 
 filled-refused : (out : List ℕ) (r : Res (List ℕ)) (n p : ℕ) → lengthOf r ≡ err n p → filled out r ≡ out
@@ -33,7 +33,7 @@ module _ (P N : ℕ) (image table : List ℕ) where
   changed-refused : (s : Shape) (edit : Geometry → Res (List ℕ)) (n p : ℕ)
       → inGeometry s (err 1 0, image, table) (λ g. done P N image table g (edit g)) .0 ≡ err n p
       → inGeometry s (err 1 0, image, table) (λ g. done P N image table g (edit g)) .1 ≡ image
-  changed-refused Wrong edit n p e = refl
+  changed-refused Invalid edit n p e = refl
   changed-refused (Fits g) edit n p e = done-refused g (edit g) n p e
 
   pub format-refused : (local : Bool) (n p : ℕ) → formatCall P N image table local .0 ≡ err n p → formatCall P N image table local .1 ≡ image
@@ -54,37 +54,37 @@ module _ (P N : ℕ) (image table : List ℕ) where
 
   -- ---- a question about an image in its geometry
   pub asked-fits : {A : Type 0} (g : Geometry) → shape P N image table ≡ Fits g → (question : Image → Res A)
-      → asked P N image table question ≡ (andThen (check g (viewOf g image)) question, tableAfter (g .pages) (check g (viewOf g image)) table)
+      → asked P N image table question ≡ (andThen (check g (viewsOf g image)) question, tableAfter (g .pages) (check g (viewsOf g image)) table)
   asked-fits g e question = rw e refl
 
-  pub asked-wrong : {A : Type 0} → shape P N image table ≡ Wrong → (question : Image → Res A) → asked P N image table question ≡ (err 1 0, table)
-  asked-wrong e question = rw e refl
+  pub asked-invalid : {A : Type 0} → shape P N image table ≡ Invalid → (question : Image → Res A) → asked P N image table question ≡ (err 1 0, table)
+  asked-invalid e question = rw e refl
 
   -- ---- refusal 1: the sizes are not those of an image, or the table is too short
-  module _ (wrong : shape P N image table ≡ Wrong) where
-    pub check-wrong : checkCall P N image table ≡ (err 1 0, table)
+  module _ (wrong : shape P N image table ≡ Invalid) where
+    pub check-invalid : checkCall P N image table ≡ (err 1 0, table)
     unfolding checkCall
-    check-wrong = rw wrong refl
+    check-invalid = rw wrong refl
 
-    pub list-wrong : (k : ℕ) → listCall P N image table k ≡ (err 1 0, table)
+    pub list-invalid : (k : ℕ) → listCall P N image table k ≡ (err 1 0, table)
     unfolding listCall
-    list-wrong k = rw wrong refl
+    list-invalid k = rw wrong refl
 
-    pub read-wrong : (path out : List ℕ) → readCall P N image table path out ≡ (err 1 0, out, table)
+    pub read-invalid : (path out : List ℕ) → readCall P N image table path out ≡ (err 1 0, out, table)
     unfolding readCall
-    read-wrong path out = rw wrong refl
+    read-invalid path out = rw wrong refl
 
-    pub format-wrong : (local : Bool) → formatCall P N image table local ≡ (err 1 0, image, table)
+    pub format-invalid : (local : Bool) → formatCall P N image table local ≡ (err 1 0, image, table)
     unfolding formatCall
-    format-wrong local = rw wrong refl
+    format-invalid local = rw wrong refl
 
-    pub put-wrong : (path bytes : List ℕ) → putCall P N image table path bytes ≡ (err 1 0, image, table)
+    pub put-invalid : (path bytes : List ℕ) → putCall P N image table path bytes ≡ (err 1 0, image, table)
     unfolding putCall
-    put-wrong path bytes = rw wrong refl
+    put-invalid path bytes = rw wrong refl
 
-    pub delete-wrong : (path : List ℕ) → deleteCall P N image table path ≡ (err 1 0, image, table)
+    pub delete-invalid : (path : List ℕ) → deleteCall P N image table path ≡ (err 1 0, image, table)
     unfolding deleteCall
-    delete-wrong path = rw wrong refl
+    delete-invalid path = rw wrong refl
 
 -- ---- the numbers and pages of the calls' refusals
 pub read-faults : (path out : List ℕ) (i : Image) → Refuses 14 18 1 (readBytes path out i)
@@ -93,21 +93,31 @@ read-faults path out i =
     refuses-then _ _ (refuses-then _ _ (refuses-within 14 18 1 (omega arith) (omega arith) (omega arith) (target-faults path (i .tree))) λ x _.
     refuses-within 14 18 1 (omega arith) (omega arith) (omega arith) (bytes-faults _)) λ bytes _. refuses-test _ 18 _ _ tt (omega arith) refuses-ok
 
+pub put-target-faults : (path : List ℕ) (t : Items) → Refuses 14 16 1 (putTarget path t)
+unfolding putTarget
+put-target-faults path t =
+    refuses-then _ _ (refuses-within 14 16 1 (omega arith) (omega arith) (omega arith) (target-faults path t)) λ x _.
+    refuses-then _ _ (refuses-within 14 16 1 (omega arith) (omega arith) (omega arith) (writable-faults _)) λ _ _. refuses-ok
+
+delete-target-faults : (path : List ℕ) (t : Items) → Refuses 14 16 1 (deleteTarget path t)
+unfolding deleteTarget
+delete-target-faults path t =
+    refuses-then _ _ (refuses-within 14 16 1 (omega arith) (omega arith) (omega arith) (target-faults path t)) λ x _.
+    refuses-then _ _ (refuses-within 14 16 1 (omega arith) (omega arith) (omega arith) (present-faults _)) λ _ _.
+    refuses-then _ _ (refuses-within 14 16 1 (omega arith) (omega arith) (omega arith) (writable-faults _)) λ _ _. refuses-ok
+
 module _ (g : Geometry) (some : 0 < g .pages) (path image : List ℕ) where
   pub put-faults : (bytes : List ℕ) → Refuses 2 17 (g .pages + 33) (put g path bytes image)
   unfolding put putEdit
   put-faults bytes =
       let m = g .pages + 33 in
-      refuses-then _ _ (refuses-within 2 17 m (omega arith) (omega arith) (omega arith) (check-faults g (viewOf g image) some)) λ i _.
-      refuses-then _ _ (refuses-within 2 17 m (omega arith) (omega arith) (omega arith) (target-faults path (i .tree))) λ x _.
-      refuses-then _ _ (refuses-within 2 17 m (omega arith) (omega arith) (omega arith) (writable-faults _)) λ _ _.
+      refuses-then _ _ (refuses-within 2 17 m (omega arith) (omega arith) (omega arith) (check-faults g (viewsOf g image) some)) λ i _.
+      refuses-then _ _ (refuses-within 2 17 m (omega arith) (omega arith) (omega arith) (put-target-faults path (i .tree))) λ x _.
       refuses-then _ _ (refuses-test _ 17 _ _ tt (omega arith) refuses-ok) λ e _. refuses-ok
 
   pub delete-faults : Refuses 2 16 (g .pages + 33) (delete g path image)
   unfolding delete
   delete-faults =
       let m = g .pages + 33 in
-      refuses-then _ _ (refuses-within 2 16 m (omega arith) (omega arith) (omega arith) (check-faults g (viewOf g image) some)) λ i _.
-      refuses-then _ _ (refuses-within 2 16 m (omega arith) (omega arith) (omega arith) (target-faults path (i .tree))) λ x _.
-      refuses-then _ _ (refuses-within 2 16 m (omega arith) (omega arith) (omega arith) (present-faults _)) λ _ _.
-      refuses-then _ _ (refuses-within 2 16 m (omega arith) (omega arith) (omega arith) (writable-faults _)) λ _ _. refuses-ok
+      refuses-then _ _ (refuses-within 2 16 m (omega arith) (omega arith) (omega arith) (check-faults g (viewsOf g image) some)) λ i _.
+      refuses-then _ _ (refuses-within 2 16 m (omega arith) (omega arith) (omega arith) (delete-target-faults path (i .tree))) λ x _. refuses-ok

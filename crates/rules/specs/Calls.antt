@@ -6,13 +6,12 @@ use lib.Dec.{leb}
 use lib.ListN.{length, drop}
 use Rattle.geometry.specs.declared.Geometry.{Geometry}
 use Rattle.geometry.specs.declared.Shape.{Shape}
-use Rattle.geometry.specs.declared.Shape.the-variants.{Fits, Wrong}
+use Rattle.geometry.specs.declared.Shape.the-variants.{Fits, Invalid}
 use Rattle.geometry.specs.Geometry.{geometryOf}
-use Rattle.packet.specs.Packet.{viewOf}
 use Rattle.rules.specs.declared.Totals.{Totals}
 use Rattle.rules.specs.declared.Line.{Line}
 use Rattle.rules.specs.Result.{Res, ok, err, andThen, andThen as _>>=_, andAfter as _>>_, refuse-unless}
-use Rattle.rules.specs.Chain.{content}
+use Rattle.rules.specs.Chain.{viewsOf, content}
 use Rattle.rules.specs.Tree.{Image}
 use Rattle.rules.specs.Check.{check}
 use Rattle.rules.specs.Owners.{totals, tableAfter}
@@ -24,7 +23,7 @@ use Rattle.rules.specs.Delete.{delete}
 
 -- a call over an image in its geometry, else refusal 1 with what it then leaves
 abbrev pub inGeometry : {A : Type 0} → Shape → A → (Geometry → A) → A
-inGeometry Wrong other call = other
+inGeometry Invalid other call = other
 inGeometry (Fits g) other call = call g
 
 -- what a path's file reads; 15 for a file that is absent
@@ -59,11 +58,11 @@ module _ (P N : ℕ) (image table : List ℕ) where
 
   -- the table after a call that leaves an image
   abbrev pub tableFor : Geometry → List ℕ → List ℕ
-  tableFor g after = tableAfter (g .pages) (check g (viewOf g after)) table
+  tableFor g after = tableAfter (g .pages) (check g (viewsOf g after)) table
 
   -- a question about the image, once it is accepted
   abbrev pub asked : {A : Type 0} → (Image → Res A) → Res A × List ℕ
-  asked question = inGeometry shape (err 1 0, table) (λ g. (andThen (check g (viewOf g image)) question, tableFor g image))
+  asked question = inGeometry shape (err 1 0, table) (λ g. (andThen (check g (viewsOf g image)) question, tableFor g image))
 
   -- check: pages in use, files and directories; the owner table
   unfoldable pub checkCall : Res Totals × List ℕ

@@ -8,31 +8,34 @@ use Rattle.geometry.specs.declared.Geometry.{Geometry}
 use Rattle.geometry.specs.declared.Shape.the-variants.{Fits}
 use Rattle.geometry.specs.Geometry.{geometryOf}
 use Rattle.geometry.specs.Number.{Bytes}
-use Rattle.packet.specs.Packet.{viewOf}
-use Rattle.rules.specs.Result.{ok}
+use Rattle.rules.specs.Result.{Res, ok}
 use Rattle.rules.specs.PageSets.{count}
-use Rattle.rules.specs.Chain.{Link, pages, content}
+use Rattle.rules.specs.Chain.{viewsOf, Link, pages, content}
 use Rattle.rules.specs.Names.{attribute, entryBytes}
 use Rattle.rules.specs.Tree.{Label, fileEntry, directoryEntry, ownPages, Map, inRoot, inFile, Image, used}
-use Rattle.rules.specs.Control.{theRoot}
 use Rattle.rules.specs.Check.{check}
-use Rattle.rules.specs.Paths.{Path, pathOf, fileKey, directoryKey, Found, nothing, aFile, aDirectory, find, atRoot, Place, directoryAt}
+use Rattle.rules.specs.Paths.{Path, fileKey, directoryKey, Found, nothing, aFile, aDirectory, find, Place, rootPlace, directoryAt}
 
 -- accepted: the order of the check meets no fault
 abbrev pub Accepted : Geometry → List ℕ → Image → Type 0
-Accepted g image i = check g (viewOf g image) ≡ ok i
+Accepted g image i = check g (viewsOf g image) ≡ ok i
 
--- nothing but room could refuse a put: owner table long enough, path well formed, its directories there, the file absent or not read-only
-pub record OnlyRoom (P N : ℕ) (image table path : List ℕ) : Type 0 where
+-- nothing but room could refuse a call that puts something at the path asked for: owner table long enough, path well formed, its directories there,
+-- and what stands at the path allowed
+pub record OnlyRoom (P N : ℕ) (image table : List ℕ) (asked : Res Path) (Allowed : Found → Type 0) : Type 0 where
   pub geometry : Geometry
   pub right : geometryOf P N (length image) (length table) ≡ Fits geometry
   pub tree : Image
   pub accepted : Accepted geometry image tree
   pub to : Path
-  pub formed : pathOf path ≡ ok to
+  pub formed : asked ≡ ok to
   pub place : Place
-  pub there : directoryAt (to .directories) atRoot theRoot (tree .tree) ≡ ok place
-  pub writable : (l : Label) (ls : List Link) → find (fileKey to) (place .items) ≡ aFile l ls → attribute (l .extension) ≡ 0
+  pub there : directoryAt (to .directories) (rootPlace (tree .tree)) ≡ ok place
+  pub allowed : Allowed (find (fileKey to) (place .items))
+
+-- for a put: the file absent or not read-only
+abbrev pub NotReadOnly : Found → Type 0
+NotReadOnly f = (l : Label) (ls : List Link) → f ≡ aFile l ls → attribute (l .extension) ≡ 0
 
 -- files and directories of two images are matched by path: the keys that lead to them; no key leads to the root
 abbrev pub lookUp : List ℕ → Found → Found
@@ -92,7 +95,7 @@ abbrev pub directoryKeys : List ℕ → List ℕ
 directoryKeys [] = []
 directoryKeys (x ∷ xs) = directoryKey x ∷ directoryKeys xs
 
--- the target: the directory that the put's directory names lead to, the root if there are none; and the put's file
+-- the target: the directory that the path's directory names lead to, the root if there are none; and what is put there
 abbrev pub targetPath : Path → List ℕ
 targetPath q = directoryKeys (q .directories)
 
@@ -103,40 +106,52 @@ filePath q = targetPath q ++ (fileKey q ∷ [])
 abbrev pub Kept : Geometry → List ℕ → Image → Image → Type 0
 Kept g ks old new = foundEntry g (atPath ks new) ≡ foundEntry g (atPath ks old)
 
--- a candidate for a put of bytes at the path q into an old image: a new one of the same P and N
-pub record Candidate (g : Geometry) (old : List ℕ) (q : Path) (bytes : List ℕ) (new : List ℕ) : Type 0 where
+-- the put file reads the bytes
+abbrev pub PutFile : List ℕ → Found → Type 0
+PutFile bytes nothing = ⊥
+PutFile bytes (aFile l ls) = content ls ≡ bytes
+PutFile bytes (aDirectory l d) = ⊥
+
+-- a candidate for an old image, where `Asked` is what must stand at `path` and `target` leads to the target: a new image of the same P and N
+pub record Candidate (g : Geometry) (old target path : List ℕ) (Asked : Found → Type 0) (new : List ℕ) : Type 0 where
   pub areBytes : Bytes new
   pub sized : length new ≡ length old
   pub before : Image
   pub was : Accepted g old before
   pub after : Image
   pub accepted : Accepted g new after
-  -- the path's file reads the bytes
-  pub label : Label
-  pub links : List Link
-  pub file : atPath (filePath q) after ≡ aFile label links
-  pub asked : content links ≡ bytes
+  -- what is asked for stands at the path
+  pub stands : Asked (atPath path after)
   -- every other entry is kept: the entries are those with a path of at least one key
-  pub kept : (k : ℕ) (ks : List ℕ) → (k ∷ ks ≡ filePath q → ⊥) → Exists (atPath (k ∷ ks) before) → Kept g (k ∷ ks) before after
-  -- every file and directory of the old image but the put's file and the target has the pages it had
-  pub pages : (ks : List ℕ) → (ks ≡ filePath q → ⊥) → (ks ≡ targetPath q → ⊥) → Exists (atPath ks before) → SamePages (chainPages (atPath ks before)) (chainPages (atPath ks after))
-  pub target : AtLeast (chainPages (atPath (targetPath q) before)) (chainPages (atPath (targetPath q) after))
+  pub kept : (k : ℕ) (ks : List ℕ) → (k ∷ ks ≡ path → ⊥) → Exists (atPath (k ∷ ks) before) → Kept g (k ∷ ks) before after
+  -- every file and directory of the old image but the one at the path and the target has the pages it had, the target at least these
+  pub pages : (ks : List ℕ) → (ks ≡ path → ⊥) → (ks ≡ target → ⊥) → Exists (atPath ks before) → SamePages (chainPages (atPath ks before)) (chainPages (atPath ks after))
+  pub atLeast : AtLeast (chainPages (atPath target before)) (chainPages (atPath target after))
   -- every other file reads the same bytes
-  pub same : (ks : List ℕ) → (ks ≡ filePath q → ⊥) → Exists (atPath ks before) → reads (atPath ks after) ≡ reads (atPath ks before)
+  pub same : (ks : List ℕ) → (ks ≡ path → ⊥) → Exists (atPath ks before) → reads (atPath ks after) ≡ reads (atPath ks before)
   pub map : SameMap (before .map) (after .map)
 
 -- the pages in use that an image has
 abbrev pub pagesInUse : Image → ℕ
 pagesInUse i = length (used i)
 
--- demand 3, of what a put answers and the image it leaves: nothing but room could refuse it exactly when it is done or refused for room; then it is done exactly when there is a candidate and refused for room exactly when there is none;
+-- demand 3, of what a call answers that puts something at a path, and of the image it leaves: nothing but room could refuse it exactly when it is done or refused for room;
+-- then it is done exactly when there is a candidate and refused for room exactly when there is none;
 -- when done the image is a candidate, no candidate has fewer pages in use, and what stands at another path stood there
-pub record Demand3 (P N : ℕ) (image table path bytes : List ℕ) (isDone isFull : Type 0) (after : List ℕ) : Type 0 where
-  pub only-room : OnlyRoom P N image table path ↔ (isDone ⊎ isFull)
-  pub exactly : (o : OnlyRoom P N image table path) → isDone ↔ ((new : List ℕ) × Candidate (o .geometry) image (o .to) bytes new)
-  pub refused : (o : OnlyRoom P N image table path) → isFull ↔ ((new : List ℕ) → Candidate (o .geometry) image (o .to) bytes new → ⊥)
-  pub candidate : (o : OnlyRoom P N image table path) → isDone → Candidate (o .geometry) image (o .to) bytes after
-  pub least : (o : OnlyRoom P N image table path) → isDone → (i : Image) → Accepted (o .geometry) after i
-      → (new : List ℕ) (c : Candidate (o .geometry) image (o .to) bytes new) → pagesInUse i ≤ pagesInUse (c .after)
-  pub keeps : (o : OnlyRoom P N image table path) → isDone → (i : Image) → Accepted (o .geometry) after i
-      → (ks : List ℕ) → (ks ≡ filePath (o .to) → ⊥) → Exists (atPath ks i) → Exists (atPath ks (o .tree))
+module _ (P N : ℕ) (image table : List ℕ) (asked : Res Path) (Allowed Asked : Found → Type 0) where
+  -- nothing but room could refuse it
+  abbrev pub Room : Type 0
+  Room = OnlyRoom P N image table asked Allowed
+
+  -- the candidates for it
+  abbrev pub CandidateFor : Room → List ℕ → Type 0
+  CandidateFor o new = Candidate (o .geometry) image (targetPath (o .to)) (filePath (o .to)) Asked new
+
+  pub record Demand3 (isDone isFull : Type 0) (after : List ℕ) : Type 0 where
+    pub only-room : Room ↔ (isDone ⊎ isFull)
+    pub exactly : (o : Room) → isDone ↔ ((new : List ℕ) × CandidateFor o new)
+    pub refused : (o : Room) → isFull ↔ ((new : List ℕ) → CandidateFor o new → ⊥)
+    pub candidate : (o : Room) → isDone → CandidateFor o after
+    pub least : (o : Room) → isDone → (i : Image) → Accepted (o .geometry) after i → (new : List ℕ) (c : CandidateFor o new) → pagesInUse i ≤ pagesInUse (c .after)
+    pub keeps : (o : Room) → isDone → (i : Image) → Accepted (o .geometry) after i
+        → (ks : List ℕ) → (ks ≡ filePath (o .to) → ⊥) → Exists (atPath ks i) → Exists (atPath ks (o .tree))

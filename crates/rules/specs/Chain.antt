@@ -4,10 +4,26 @@ use mathlib.Core.List.{List, [], _∷_, _++_}
 use Prim.Native.Nat.{ℕ, zero, suc, _-_, _/_}
 use lib.Dec.{ltb, eqb}
 use lib.ListN.{take, drop}
+use Rattle.geometry.specs.declared.Geometry.{Geometry}
 use Rattle.geometry.specs.Choose.{choose}
-use Rattle.packet.specs.Packet.{Packet, bad, good, View, Write, write}
+use Rattle.packet.specs.Packet.{Packet, bad, good, View, viewOf, Write, write}
 use Rattle.rules.specs.Result.{Res, ok, err, andThen as _>>=_, andAfter as _>>_, refuse-unless}
 use Rattle.rules.specs.PageSets.{mem}
+
+-- the views in which an image's chains are read, by the kind of chain
+pub record Views : Type 0 where
+  -- page 0, directories and the bitmap file
+  pub pages : View
+  -- a file, by its entry's extension byte
+  pub file : ℕ → View
+
+-- every chain in one view
+abbrev pub oneView : View → Views
+oneView v = record { pages = v; file = λ _. v }
+
+-- the views of an image: each of its chains is read as its packets
+abbrev pub viewsOf : Geometry → List ℕ → Views
+viewsOf g image = oneView (viewOf g image)
 
 -- one page of a chain: its number and its data bytes
 pub data Link : Type 0 where
@@ -65,10 +81,10 @@ module _ (N : ℕ) (v : View) (test : Test) where
     ls ← choose (eqb (x .next) 0) (ok []) (walk fuel (suc i) (p ∷ claimed) p (x .next))
     ok (link p (x .bytes) ∷ ls)
 
--- bytes spread over pages, all packets full but the last
-abbrev pub spread : ℕ → List ℕ → List ℕ → List Link
-spread capacity [] bs = []
-spread capacity (p ∷ ps) bs = link p (take capacity bs) ∷ spread capacity ps (drop capacity bs)
+-- bytes as a chain over pages, all packets full but the last
+abbrev pub chainOf : ℕ → List ℕ → List ℕ → List Link
+chainOf capacity [] bs = []
+chainOf capacity (p ∷ ps) bs = link p (take capacity bs) ∷ chainOf capacity ps (drop capacity bs)
 
 -- the pages that so many bytes need: an empty file takes one
 abbrev pub pagesFor : ℕ → ℕ → ℕ

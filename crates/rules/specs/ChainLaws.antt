@@ -1,4 +1,4 @@
--- Chains: what an accepted walk has met, that each chain is accepted; bytes spread over pages.
+-- Chains: what an accepted walk has met, that each chain is accepted; bytes as a chain over pages.
 use mathlib.Core.Path.{_≡_, refl, ap, sym, _∙_, subst}
 use mathlib.Core.List.{List, [], _∷_, _++_}
 use Prim.Native.Nat.{ℕ, zero, suc, _+_, _-_, _*_, _≤_, _<_}
@@ -12,8 +12,8 @@ use Rattle.rules.specs.Result.{ok}
 use Rattle.rules.specs.ResultLaws.{ok-inj, clash, on-then, on-refuse, then-ok, refuse-true}
 use Rattle.rules.specs.PageSets.{count, range, Within}
 use Rattle.rules.specs.PageSetLaws.{hit-same, same, other, hits, range-le, range-of, within-length, within-cons, free-test, free-true}
-use Rattle.rules.specs.Chain.{Link, link, pages, first, content, linked, Body, packetAt, Test, anyPage, walk, spread, pagesFor}
-use Rattle.rules.specs.WellFormed.{Stand}
+use Rattle.rules.specs.Chain.{Link, link, pages, first, content, linked, Body, packetAt, Test, anyPage, walk, chainOf, pagesFor}
+use Rattle.rules.specs.WellFormed.{HasPackets}
 
 -- ---- a page's packet
 pub packet-good : (v : View) (p : ℕ) (b : List ℕ) (n : ℕ) → v p ≡ good b n → packetAt v p ≡ ok (record { bytes = b; next = n })
@@ -42,7 +42,7 @@ Passes test i (link p b ∷ ls) = (test i p b ≡ ok tt) × Passes test (suc i) 
 pub record IsChain (N : ℕ) (v : View) (test : Test) (i : ℕ) (claimed : List ℕ) (p : ℕ) (ls : List Link) : Type 0 where
   pub some : 0 < length ls
   pub start : first ls ≡ p
-  pub stand : Stand v (linked ls)
+  pub packets : HasPackets v (linked ls)
   pub passes : Passes test i ls
   pub clear : (x : ℕ) → count x (pages ls) + count x claimed ≤ count x (range N)
   pub onward : count 0 (pages (rest ls)) ≡ 0
@@ -82,20 +82,20 @@ module _ (N : ℕ) (v : View) (test : Test) where
     where
       last : (x : Body) → Within N (p ∷ claimed) → test i p (x .bytes) ≡ ok tt → v p ≡ good (x .bytes) (x .next) → x .next ≡ 0
           → IsChain N v test i claimed p (link p (x .bytes) ∷ [])
-      last x fit k b n = record { some = omega arith; start = refl; stand = (rw (← n) b, tt); passes = (k, tt); clear = λ z. omega (arith, fit z); onward = refl }
+      last x fit k b n = record { some = omega arith; start = refl; packets = (rw (← n) b, tt); passes = (k, tt); clear = λ z. omega (arith, fit z); onward = refl }
 
       step : (x : Body) (ms : List Link) → test i p (x .bytes) ≡ ok tt → v p ≡ good (x .bytes) (x .next) → IsChain N v test (suc i) (p ∷ claimed) (x .next) ms
           → (x .next ≡ 0 → ⊥) → IsChain N v test i claimed p (link p (x .bytes) ∷ ms)
       step x ms k b c n = record {
         some = omega arith;
         start = refl;
-        stand = (rw (c .start) b, c .stand);
+        packets = (rw (c .start) b, c .packets);
         passes = (k, c .passes);
         clear = λ z. omega (arith, c .clear z);
         onward = onward-cons ms (rw (c .start) n) (c .onward);
       }
 
-  walk-complete : (fuel i : ℕ) (claimed : List ℕ) (from p : ℕ) (b : List ℕ) (ls : List Link) → length ls < fuel → Stand v (linked (link p b ∷ ls))
+  walk-complete : (fuel i : ℕ) (claimed : List ℕ) (from p : ℕ) (b : List ℕ) (ls : List Link) → length ls < fuel → HasPackets v (linked (link p b ∷ ls))
       → Passes test i (link p b ∷ ls)
       → ((x : ℕ) → count x (p ∷ pages ls) + count x claimed ≤ count x (range N)) → count 0 (pages ls) ≡ 0 → walk N v test fuel i claimed from p ≡ ok (link p b ∷ ls)
   unfolding walk
@@ -116,26 +116,26 @@ module _ (N : ℕ) (v : View) (test : Test) where
   walk-accepts i claimed from p [] c = absurd (omega (arith, c .some))
   walk-accepts i claimed from p (link q b ∷ ls) c =
       let h = within-length N (q ∷ pages ls) (λ x. omega (arith, c .clear x)) in
-      rw (← c .start) (walk-complete (suc N) i claimed from q b ls (omega (arith, length-pages ls)) (c .stand) (c .passes) (c .clear) (c .onward))
+      rw (← c .start) (walk-complete (suc N) i claimed from q b ls (omega (arith, length-pages ls)) (c .packets) (c .passes) (c .clear) (c .onward))
 
--- ---- bytes spread over pages
-pub pages-spread : (capacity : ℕ) (ps bs : List ℕ) → pages (spread capacity ps bs) ≡ ps
-pages-spread capacity [] bs = refl
-pages-spread capacity (p ∷ ps) bs = ap (λ (l : List ℕ). p ∷ l) (pages-spread capacity ps (drop capacity bs))
+-- ---- bytes as a chain over pages
+pub pages-chain-of : (capacity : ℕ) (ps bs : List ℕ) → pages (chainOf capacity ps bs) ≡ ps
+pages-chain-of capacity [] bs = refl
+pages-chain-of capacity (p ∷ ps) bs = ap (λ (l : List ℕ). p ∷ l) (pages-chain-of capacity ps (drop capacity bs))
 
-pub length-spread : (capacity : ℕ) (ps bs : List ℕ) → length (spread capacity ps bs) ≡ length ps
-length-spread capacity [] bs = refl
-length-spread capacity (p ∷ ps) bs = ap suc (length-spread capacity ps (drop capacity bs))
+pub length-chain-of : (capacity : ℕ) (ps bs : List ℕ) → length (chainOf capacity ps bs) ≡ length ps
+length-chain-of capacity [] bs = refl
+length-chain-of capacity (p ∷ ps) bs = ap suc (length-chain-of capacity ps (drop capacity bs))
 
 pub no-bytes : (bs : List ℕ) → length bs ≤ 0 → [] ≡ bs
 no-bytes [] h = refl
 no-bytes (b ∷ bs) h = absurd (omega arith)
 
 -- enough pages hold all the bytes
-pub content-spread : (capacity : ℕ) (ps bs : List ℕ) → length bs ≤ length ps * capacity → content (spread capacity ps bs) ≡ bs
-content-spread capacity [] bs h = no-bytes bs (omega arith)
-content-spread capacity (p ∷ ps) bs h =
-    ap (λ (l : List ℕ). take capacity bs ++ l) (content-spread capacity ps (drop capacity bs) (simp length-drop (omega arith))) ∙ take-append-drop capacity bs
+pub content-chain-of : (capacity : ℕ) (ps bs : List ℕ) → length bs ≤ length ps * capacity → content (chainOf capacity ps bs) ≡ bs
+content-chain-of capacity [] bs h = no-bytes bs (omega arith)
+content-chain-of capacity (p ∷ ps) bs h =
+    ap (λ (l : List ℕ). take capacity bs ++ l) (content-chain-of capacity ps (drop capacity bs) (simp length-drop (omega arith))) ∙ take-append-drop capacity bs
 
 -- the pages that so many bytes need hold them, and fewer do not
 pub pages-enough : (capacity n : ℕ) → 0 < capacity → n ≤ pagesFor capacity n * capacity

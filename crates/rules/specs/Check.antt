@@ -7,14 +7,13 @@ use lib.ListN.{length}
 use Rattle.geometry.specs.declared.Geometry.{Geometry}
 use Rattle.geometry.specs.Choose.{choose}
 use Rattle.geometry.specs.Geometry.{controlSize, bitmapSize}
-use Rattle.packet.specs.Packet.{View}
 use Rattle.rules.specs.declared.Entry.{Entry}
 use Rattle.rules.specs.Result.{Res, ok, err, andThen as _>>=_, andAfter as _>>_, refuse-unless}
 use Rattle.rules.specs.PageSets.{mem}
-use Rattle.rules.specs.Chain.{Link, pages, content, packetAt, Test, anyPage, walk}
+use Rattle.rules.specs.Chain.{Views, Link, pages, content, packetAt, Test, anyPage, walk}
 use Rattle.rules.specs.Names.{validName, fileNumber, directoryNumber, key}
 use Rattle.rules.specs.Tree.{labelOf, Items, end, page, file, dir, Token, newPage, entry, linkTokens, allPages, Map, inRoot, inFile, mapPages, Image, used}
-use Rattle.rules.specs.Control.{Above, theRoot, Head, headOf, mapStart, mapCount, rootPage, subPage}
+use Rattle.rules.specs.Control.{Parent, theRoot, Head, headOf, mapStart, mapCount, rootPage, subPage}
 use Rattle.rules.specs.Bitmap.{lowestDifference}
 
 -- what stands under an entry
@@ -32,7 +31,7 @@ add e (directory d) t = dir (labelOf e) d t
 
 -- how a subdirectory is judged: the directory that holds its entry, the claimed pages, the page of the entry, the entry
 abbrev pub Judge : Type 0
-Judge = Above → List ℕ → ℕ → Entry → Res Items
+Judge = Parent → List ℕ → ℕ → Entry → Res Items
 
 -- the bytes of the bitmap as they stand
 abbrev pub rawBits : Head → Map → List ℕ
@@ -55,17 +54,17 @@ pub record Scan : Type 0 where
   pub image : Image
   pub raw : List ℕ
 
-module _ (g : Geometry) (v : View) (fuel : ℕ) where
-  -- start page (6), then its chain and count (8); `fuel` bounds the steps along each chain
+module _ (g : Geometry) (vs : Views) (fuel : ℕ) where
+  -- start page (6), then its chain in the view of its extension, and count (8); `fuel` bounds the steps along each chain
   unfoldable pub judgeFile : List ℕ → ℕ → Entry → Res Part
   judgeFile claimed p e = do
     refuse-unless (ltb 0 (e .start)) 6 p
-    ls ← walk (g .pages) v anyPage fuel 0 claimed p (e .start)
+    ls ← walk (g .pages) (vs .file (e .extension)) anyPage fuel 0 claimed p (e .start)
     refuse-unless (eqb (e .pages) (length ls)) 8 p
     ok (chain ls)
 
   -- an entry: its name and extension, twice (11), then its chain or its directory
-  unfoldable pub judgeEntry : Judge → Above → List ℕ → ℕ → List ℕ → Entry → Res Part
+  unfoldable pub judgeEntry : Judge → Parent → List ℕ → ℕ → List ℕ → Entry → Res Part
   judgeEntry sub here claimed p seen e = do
     judgeLabel p e
     refuse-unless (not (mem (key (e .name) (e .extension)) seen)) 11 p
@@ -74,7 +73,7 @@ module _ (g : Geometry) (v : View) (fuel : ℕ) where
       ok (directory d)) (judgeFile claimed p e)
 
   -- a directory's entries in chain order
-  unfoldable pub judgeEntries : Judge → Above → List ℕ → ℕ → List ℕ → List Token → Res Items
+  unfoldable pub judgeEntries : Judge → Parent → List ℕ → ℕ → List ℕ → List Token → Res Items
   judgeEntries sub here claimed p seen [] = ok end
   judgeEntries sub here claimed p seen (newPage q ∷ ts) = do
     t ← judgeEntries sub here claimed q seen ts
@@ -85,9 +84,9 @@ module _ (g : Geometry) (v : View) (fuel : ℕ) where
     ok (add e x t)
 
   -- a directory: its whole chain first, then its entries
-  unfoldable pub judgeDirectory : Judge → Test → Above → List ℕ → ℕ → Res Items
+  unfoldable pub judgeDirectory : Judge → Test → Parent → List ℕ → ℕ → Res Items
   judgeDirectory sub test here claimed p = do
-    ls ← walk (g .pages) v test fuel 0 claimed p (here .start)
+    ls ← walk (g .pages) (vs .pages) test fuel 0 claimed p (here .start)
     judgeEntries sub here (pages ls ++ claimed) (here .start) [] (linkTokens g (controlSize g) ls)
 
   -- a subdirectory with so many levels left: at level nine (12), its count (8), its start page (6), then its directory to the end
@@ -102,7 +101,7 @@ module _ (g : Geometry) (v : View) (fuel : ℕ) where
   unfoldable pub judgeMapFile : ℕ → ℕ → Res Map
   judgeMapFile start count = do
     refuse-unless (ltb 0 start) 6 0
-    ls ← walk (g .pages) v anyPage fuel 0 [] 0 start
+    ls ← walk (g .pages) (vs .pages) anyPage fuel 0 [] 0 start
     refuse-unless (eqb count (length ls)) 8 0
     refuse-unless (eqb (length (content ls)) (bitmapSize g)) 8 0
     ok (inFile ls)
@@ -113,19 +112,19 @@ module _ (g : Geometry) (v : View) (fuel : ℕ) where
   -- the first half of the check: all faults but 13
   unfoldable pub scanWith : Res Scan
   scanWith = do
-    x ← packetAt v 0
+    x ← packetAt (vs .pages) 0
     h ← headOf g (x .bytes)
     m ← judgeMap h
     t ← judgeDirectory (judgeSub 8) (rootPage g) theRoot (mapPages m) 0
     ok (record { image = record { tree = t; map = m }; raw = rawBits h m })
 
 -- fuel of N + 1 is enough: any more gives the same answer (`scan-fuel`)
-unfoldable pub scan : Geometry → View → Res Scan
-scan g v = scanWith g v (suc (g .pages))
+unfoldable pub scan : Geometry → Views → Res Scan
+scan g vs = scanWith g vs (suc (g .pages))
 
 -- accepted (a term of document 01): the order of the check meets no fault. Last the bitmap
-unfoldable pub check : Geometry → View → Res Image
-check g v = do
-  s ← scan g v
+unfoldable pub check : Geometry → Views → Res Image
+check g vs = do
+  s ← scan g vs
   judgeBits (s .raw) (used (s .image))
   ok (s .image)

@@ -35,15 +35,15 @@ unfoldable pub rootControl : ℕ → List ℕ → Map → List ℕ
 rootControl n bits m = marker n ∷ (numberBytes n 0 ++ (controlByte m ∷ bitmapField n bits m))
 
 -- the directory above: its name, or ROOT, and its start page, 0 for the root
-pub record Above : Type 0 where
+pub record Parent : Type 0 where
   pub name : ℕ
   pub start : ℕ
 
-abbrev pub theRoot : Above
+abbrev pub theRoot : Parent
 theRoot = record { name = ROOT; start = 0 }
 
 -- a subdirectory's: marker, name of the directory above, one zero byte, its start page
-unfoldable pub subControl : ℕ → Above → List ℕ
+unfoldable pub subControl : ℕ → Parent → List ℕ
 subControl n up = marker n ∷ (numberBytes 4 (up .name) ++ (0 ∷ numberBytes n (up .start)))
 
 -- the root's control field as read: whether the bitmap is in it, and the four bytes
@@ -98,11 +98,11 @@ rootPage g zero p b = wholeEntries g p (drop (controlSize g) b)
 rootPage g (suc i) p b = wholeEntries g p b
 
 -- a subdirectory's control field after the marker: name and start page of the directory above, a zero byte between
-abbrev pub backReference : ℕ → Above → List ℕ → Bool
+abbrev pub backReference : ℕ → Parent → List ℕ → Bool
 backReference n up b = eqb (number (take 4 (drop 1 b))) (up .name) && (eqb (getD b 5 0) 0 && eqb (number (take n (drop 6 b))) (up .start))
 
 -- the pages of a subdirectory: on its first page too short (4), marker (3), rest (4)
-unfoldable pub subPage : Geometry → Above → Test
+unfoldable pub subPage : Geometry → Parent → Test
 subPage g up zero p b = do
   refuse-unless (leb (controlSize g) (length b)) 4 p
   refuse-unless (eqb (getD b 0 0) (marker (g .width))) 3 p

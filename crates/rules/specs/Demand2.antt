@@ -11,16 +11,15 @@ use Rattle.geometry.specs.Geometry.{geometryOf, dataCapacity}
 use Rattle.geometry.specs.Choose.{choose}
 use Rattle.geometry.specs.Number.{Bytes}
 use Rattle.geometry.specs.Page.{pageOf}
-use Rattle.packet.specs.Packet.{Write, write}
+use Rattle.packet.specs.Packet.{Write, write, made}
 use Rattle.rules.specs.Result.{Res, ok}
 use Rattle.rules.specs.PageSets.{count, freePages}
 use Rattle.rules.specs.Chain.{Link, pages, content, pagesFor}
 use Rattle.rules.specs.Tree.{Label, end, page, mapPages, Image, used}
-use Rattle.rules.specs.Control.{theRoot}
 use Rattle.rules.specs.Bitmap.{bitmapOf}
 use Rattle.rules.specs.WellFormed.{WellFormed}
-use Rattle.rules.specs.Paths.{Path, pathOf, fileLabel, Found, nothing, aFile, aDirectory, atRoot, Place, directoryAt}
-use Rattle.rules.specs.Writes.{made, Edit, edited, editWrites}
+use Rattle.rules.specs.Paths.{Path, pathOf, fileLabel, Found, nothing, aFile, aDirectory, Place, rootPlace, directoryAt}
+use Rattle.rules.specs.Writes.{Edit, edited, editWrites}
 use Rattle.rules.specs.Format.{emptyImage, formatWrites}
 use Rattle.rules.specs.Put.{keptPages, extraPages, putEdit}
 use Rattle.rules.specs.Delete.{deleteEdit}
@@ -75,15 +74,10 @@ pub record PathIn (g : Geometry) (path image : List ℕ) : Type 0 where
   pub to : Path
   pub formed : pathOf path ≡ ok to
   pub place : Place
-  pub there : directoryAt (to .directories) atRoot theRoot (before .tree) ≡ ok place
+  pub there : directoryAt (to .directories) (rootPlace (before .tree)) ≡ ok place
 
--- a delete: an accepted image without the path's file, all else as before
-pub record Deleted (g : Geometry) (path image after : List ℕ) : Type 0 where
-  pub at : PathIn g path image
-  -- accepted, with the old tree but for that entry; bytes outside the packets written stay
-  pub tree : Image
-  pub tree-is : tree ≡ edited g (at .to .directories) (deleteEdit (at .to) (at .place)) (at .before)
-  pub done : EditDone g image (at .before) tree (editWrites g (bitmapOf g (used (at .before)) (at .before .map)) (deleteEdit (at .to) (at .place)) (at .before) tree) after
+-- what paths show in the tree after a delete
+pub record DeleteShows {g : Geometry} {path image : List ℕ} (at : PathIn g path image) (tree : Image) : Type 0 where
   -- the path's file was there and is gone
   pub label : Label
   pub links : List Link
@@ -94,18 +88,23 @@ pub record Deleted (g : Geometry) (path image after : List ℕ) : Type 0 where
   -- the pages of its chain are free
   pub total : (x : ℕ) → count x (used tree) + count x (pages links) ≡ count x (used (at .before))
 
--- a put: an accepted image that reads the bytes at the path, all else as before
-pub record PutDone (g : Geometry) (path bytes image after : List ℕ) : Type 0 where
+-- a delete: an accepted image without the path's file, all else as before
+pub record Deleted (g : Geometry) (path image after : List ℕ) : Type 0 where
   pub at : PathIn g path image
-  pub edit : Edit
-  pub planned : putEdit g (freePages (keptPages (at .to) (at .before)) (g .pages)) (at .to) bytes (at .place) ≡ ok edit
-  -- accepted, with the edited tree; bytes outside the packets written stay
+  -- accepted, with the old tree but for that entry; bytes outside the packets written stay
   pub tree : Image
-  pub tree-is : tree ≡ edited g (at .to .directories) edit (at .before)
-  pub done : EditDone g image (at .before) tree (editWrites g (bitmapOf g (used (at .before)) (at .before .map)) edit (at .before) tree) after
-  -- the path's file has the path's name and extension byte, top bit clear, and reads the bytes
+  pub tree-is : tree ≡ edited g (at .to .directories) (deleteEdit (at .to) (at .place)) (at .before)
+  pub done : EditDone g image (at .before) tree (editWrites g (bitmapOf g (used (at .before)) (at .before .map)) (deleteEdit (at .to) (at .place)) (at .before) tree) after
+  pub shows : DeleteShows at tree
+
+-- what paths show in the tree after a put of bytes by an edit
+pub record PutShows {g : Geometry} {path image : List ℕ} (at : PathIn g path image) (bytes : List ℕ) (edit : Edit) (tree : Image) : Type 0 where
+  -- the path's file has the path's name and extension byte (0 to 99, so top bit clear), and reads the bytes
+  pub label : Label
   pub links : List Link
-  pub file : atPath (filePath (at .to)) tree ≡ aFile (fileLabel (at .to)) links
+  pub file : atPath (filePath (at .to)) tree ≡ aFile label links
+  pub name-is : label .name ≡ at .to .name
+  pub extension-is : label .extension ≡ at .to .extension
   pub reads : content links ≡ bytes
   -- every other path shows what it showed: entry, pages, bytes; of the target, its entry, and its pages with those that join it
   pub others : (ks : List ℕ) → (ks ≡ filePath (at .to) → ⊥) → (ks ≡ targetPath (at .to) → ⊥) → shown g (atPath ks tree) ≡ shown g (atPath ks (at .before))
@@ -119,3 +118,14 @@ pub record PutDone (g : Geometry) (path bytes image after : List ℕ) : Type 0 w
   pub joins : length joined ≡ extraPages g (fileLabel (at .to)) (at .place .items)
   -- the pages in use
   pub total : length (used tree) + length (chainPages (atPath (filePath (at .to)) (at .before))) ≡ length (used (at .before)) + length joined + pagesFor (dataCapacity g) (length bytes)
+
+-- a put: an accepted image that reads the bytes at the path, all else as before
+pub record PutDone (g : Geometry) (path bytes image after : List ℕ) : Type 0 where
+  pub at : PathIn g path image
+  pub edit : Edit
+  pub planned : putEdit g (freePages (keptPages (at .to) (at .before)) (g .pages)) (at .to) bytes (at .place) ≡ ok edit
+  -- accepted, with the edited tree; bytes outside the packets written stay
+  pub tree : Image
+  pub tree-is : tree ≡ edited g (at .to .directories) edit (at .before)
+  pub done : EditDone g image (at .before) tree (editWrites g (bitmapOf g (used (at .before)) (at .before .map)) edit (at .before) tree) after
+  pub shows : PutShows at bytes edit tree

@@ -1,8 +1,10 @@
 -- The edits of a directory: a new entry, a file's chain replaced, an entry removed; what each does to keys, pages and what stands under a key.
 use mathlib.Core.Path.{_≡_, refl, ap, sym, _∙_}
+use mathlib.Core.Logic.{inl, inr}
 use mathlib.Core.Bool.{Bool, true, false}
 use mathlib.Core.List.{List, [], _∷_, _++_}
 use Prim.Native.Nat.{ℕ, zero, suc, _+_, _-_, _≤_}
+use native.Mathlib.Nat.{eq-zero-or-pos}
 use native.Mathlib.Omega.{arith}
 use lib.Dec.{eqb}
 use borrow.Author.Tests.{eqb-true, eq-eqb, ne-eqb}
@@ -11,10 +13,18 @@ use Rattle.geometry.specs.ChooseLaws.{choose-true, choose-false, on-choose}
 use Rattle.rules.specs.PageSets.{bit, hit, count}
 use Rattle.rules.specs.PageSetLaws.{hit-same, same, other, hits, count-append}
 use Rattle.rules.specs.Chain.{Link, pages}
-use Rattle.rules.specs.Tree.{Label, keyOf, Items, end, page, file, dir, ownPages, innerPages, keys}
+use Rattle.rules.specs.Tree.{Label, keyOf, width, Items, end, page, file, dir, ownPages, innerPages, allPages, keys}
 use Rattle.rules.specs.Paths.{Found, nothing, aFile, aDirectory, find}
 use Rattle.rules.specs.Put.{insert, isFull, replace}
 use Rattle.rules.specs.Delete.{remove}
+
+-- ---- an entry's slots
+pub width-one : (l : Label) → width l ≡ 1
+unfolding width
+width-one l = refl
+
+pub width-some : (l : Label) → 1 ≤ width l
+width-some l = omega (arith, width-one l)
 
 -- ---- what stands under a key
 pub directory-no-file : {l m : Label} {d : Items} {ls : List Link} → aDirectory l d ≡ aFile m ls → ⊥
@@ -49,6 +59,12 @@ none-found k (dir l d t) e = elim (hits k (keyOf l)) [
   | other q i ↦ omega (arith, none-found k t (simp (ne-eqb k (keyOf l) q, choose-false) at e))
 ]
 
+-- the pages of what is found, with all below it
+abbrev pub allFound : Found → List ℕ
+allFound nothing = []
+allFound (aFile l ls) = pages ls
+allFound (aDirectory l d) = allPages d
+
 -- a file that is found is an entry of the directory, with its pages
 pub record FoundFile (k : ℕ) (l : Label) (ls : List Link) (t : Items) : Type 0 where
   pub key-is : k ≡ keyOf l
@@ -80,22 +96,25 @@ pub record IsEntry (new : Items → Items) (k : ℕ) (ps : List ℕ) (found : Fo
 pub file-entry : (l : Label) (ls : List Link) → IsEntry (file l ls) (keyOf l) (pages ls) (aFile l ls)
 file-entry l ls = record { own-same = λ t. refl; inner-more = λ x t. count-append x (pages ls) (innerPages t); keys-more = λ x t. refl; finds = λ j t. refl }
 
+pub directory-entry : (l : Label) (d : Items) → IsEntry (dir l d) (keyOf l) (allPages d) (aDirectory l d)
+directory-entry l d = record { own-same = λ t. refl; inner-more = λ x t. simp count-append (omega arith); keys-more = λ x t. refl; finds = λ j t. refl }
+
 module _ (new : Items → Items) (k : ℕ) (ps : List ℕ) (found : Found) (is : IsEntry new k ps found) (later q : ℕ) where
   pub insert-keys : (next x r : ℕ) (t : Items) → count x (keys (insert new later q next r t)) ≡ hit x k + count x (keys t)
   insert-keys next x zero end = is .keys-more x end
   insert-keys next x (suc r) end = is .keys-more x end
   insert-keys next x zero (page p t) = insert-keys later x next t
   insert-keys next x (suc r) (page p t) = is .keys-more x (page p t)
-  insert-keys next x r (file l ls t) = omega (arith, insert-keys next x (r - 1) t)
-  insert-keys next x r (dir l d t) = omega (arith, insert-keys next x (r - 1) t)
+  insert-keys next x r (file l ls t) = omega (arith, insert-keys next x (r - width l) t)
+  insert-keys next x r (dir l d t) = omega (arith, insert-keys next x (r - width l) t)
 
   pub insert-inner : (next x r : ℕ) (t : Items) → count x (innerPages (insert new later q next r t)) ≡ count x ps + count x (innerPages t)
   insert-inner next x zero end = is .inner-more x end
   insert-inner next x (suc r) end = is .inner-more x end
   insert-inner next x zero (page p t) = insert-inner later x next t
   insert-inner next x (suc r) (page p t) = is .inner-more x (page p t)
-  insert-inner next x r (file l ls t) = simp count-append (omega (arith, insert-inner next x (r - 1) t))
-  insert-inner next x r (dir l d t) = simp count-append (omega (arith, insert-inner next x (r - 1) t))
+  insert-inner next x r (file l ls t) = simp count-append (omega (arith, insert-inner next x (r - width l) t))
+  insert-inner next x r (dir l d t) = simp count-append (omega (arith, insert-inner next x (r - width l) t))
 
   -- page q joins the directory's end exactly when no page has space
   pub insert-full : (next r : ℕ) (t : Items) → isFull later next r t ≡ true → ownPages (insert new later q next r t) ≡ ownPages t ++ (q ∷ [])
@@ -103,16 +122,16 @@ module _ (new : Items → Items) (k : ℕ) (ps : List ℕ) (found : Found) (is :
   insert-full next (suc r) end e = absurd (let z : _≡_ {A = ℕ} 0 1 = ap bit e in omega arith)
   insert-full next zero (page p t) e = ap (λ (l : List ℕ). p ∷ l) (insert-full later next t e)
   insert-full next (suc r) (page p t) e = absurd (let z : _≡_ {A = ℕ} 0 1 = ap bit e in omega arith)
-  insert-full next r (file l ls t) e = insert-full next (r - 1) t e
-  insert-full next r (dir l d t) e = insert-full next (r - 1) t e
+  insert-full next r (file l ls t) e = insert-full next (r - width l) t e
+  insert-full next r (dir l d t) e = insert-full next (r - width l) t e
 
   pub insert-room : (next r : ℕ) (t : Items) → isFull later next r t ≡ false → ownPages (insert new later q next r t) ≡ ownPages t
   insert-room next zero end e = absurd (let z : _≡_ {A = ℕ} 1 0 = ap bit e in omega arith)
   insert-room next (suc r) end e = is .own-same end
   insert-room next zero (page p t) e = ap (λ (l : List ℕ). p ∷ l) (insert-room later next t e)
   insert-room next (suc r) (page p t) e = is .own-same (page p t)
-  insert-room next r (file l ls t) e = insert-room next (r - 1) t e
-  insert-room next r (dir l d t) e = insert-room next (r - 1) t e
+  insert-room next r (file l ls t) e = insert-room next (r - width l) t e
+  insert-room next r (dir l d t) e = insert-room next (r - width l) t e
 
   pub insert-own : (next x r : ℕ) (t : Items) → count x (ownPages (insert new later q next r t)) ≡ count x (ownPages t) + count x (choose (isFull later next r t) (q ∷ []) [])
   insert-own next x r t = go (isFull later next r t) refl
@@ -128,17 +147,17 @@ module _ (new : Items → Items) (k : ℕ) (ps : List ℕ) (found : Found) (is :
   find-inserted next zero (page p t) h = find-inserted later next t h
   find-inserted next (suc r) (page p t) h = is .finds k (page p t) ∙ simp (eq-eqb k k refl, choose-true)
   find-inserted next r (file l ls t) h = elim (hits k (keyOf l))
-      [ same e i ↦ absurd (omega arith) | other e i ↦ simp (ne-eqb k (keyOf l) e, choose-false) (find-inserted next (r - 1) t (omega arith)) ]
+      [ same e i ↦ absurd (omega arith) | other e i ↦ simp (ne-eqb k (keyOf l) e, choose-false) (find-inserted next (r - width l) t (omega arith)) ]
   find-inserted next r (dir l d t) h = elim (hits k (keyOf l))
-      [ same e i ↦ absurd (omega arith) | other e i ↦ simp (ne-eqb k (keyOf l) e, choose-false) (find-inserted next (r - 1) t (omega arith)) ]
+      [ same e i ↦ absurd (omega arith) | other e i ↦ simp (ne-eqb k (keyOf l) e, choose-false) (find-inserted next (r - width l) t (omega arith)) ]
 
   pub find-beside-inserted : (j : ℕ) → (j ≡ k → ⊥) → (next r : ℕ) (t : Items) → find j (insert new later q next r t) ≡ find j t
   find-beside-inserted j n next zero end = is .finds j end ∙ simp (ne-eqb j k n, choose-false)
   find-beside-inserted j n next (suc r) end = is .finds j end ∙ simp (ne-eqb j k n, choose-false)
   find-beside-inserted j n next zero (page p t) = find-beside-inserted j n later next t
   find-beside-inserted j n next (suc r) (page p t) = is .finds j (page p t) ∙ simp (ne-eqb j k n, choose-false)
-  find-beside-inserted j n next r (file l ls t) = ap (choose (eqb j (keyOf l)) (aFile l ls)) (find-beside-inserted j n next (r - 1) t)
-  find-beside-inserted j n next r (dir l d t) = ap (choose (eqb j (keyOf l)) (aDirectory l d)) (find-beside-inserted j n next (r - 1) t)
+  find-beside-inserted j n next r (file l ls t) = ap (choose (eqb j (keyOf l)) (aFile l ls)) (find-beside-inserted j n next (r - width l) t)
+  find-beside-inserted j n next r (dir l d t) = ap (choose (eqb j (keyOf l)) (aDirectory l d)) (find-beside-inserted j n next (r - width l) t)
 
 -- ---- a replaced file
 pub replace-keys : (k : ℕ) (new : List Link) (t : Items) → keys (replace k new t) ≡ keys t
@@ -193,43 +212,57 @@ find-beside-replaced j k new n (file l ls t) = elim (hits k (keyOf l)) [
 ]
 find-beside-replaced j k new n (dir l d t) = ap (choose (eqb j (keyOf l)) (aDirectory l d)) (find-beside-replaced j k new n t)
 
--- ---- a removed entry
+-- ---- a removed entry, whatever it is
 pub remove-own : (k : ℕ) (t : Items) → ownPages (remove k t) ≡ ownPages t
 remove-own k end = refl
 remove-own k (page p t) = ap (λ (xs : List ℕ). p ∷ xs) (remove-own k t)
 remove-own k (file l ls t) = elim (hits k (keyOf l))
     [ same e i ↦ simp (eq-eqb k (keyOf l) e, choose-true) | other e i ↦ simp (ne-eqb k (keyOf l) e, choose-false) (remove-own k t) ]
-remove-own k (dir l d t) = remove-own k t
+remove-own k (dir l d t) = elim (hits k (keyOf l))
+    [ same e i ↦ simp (eq-eqb k (keyOf l) e, choose-true) | other e i ↦ simp (ne-eqb k (keyOf l) e, choose-false) (remove-own k t) ]
 
-pub remove-keys : (x k : ℕ) (l : Label) (ls : List Link) (t : Items) → find k t ≡ aFile l ls → hit x k + count x (keys (remove k t)) ≡ count x (keys t)
-remove-keys x k l ls end e = absurd (nothing-no-file e)
-remove-keys x k l ls (page p t) e = remove-keys x k l ls t e
-remove-keys x k l ls (file m c t) e = on-choose _ _ _ _ e
-    (λ q z. simp (q, choose-true) (omega (arith, ap (hit x) (eqb-true k (keyOf m) q))))
-    (λ q z. simp (q, choose-false) (omega (arith, remove-keys x k l ls t z)))
-remove-keys x k l ls (dir m d t) e = on-choose _ _ _ _ e
-    (λ q z. absurd (directory-no-file z))
-    (λ q z. omega (arith, remove-keys x k l ls t z))
+pub remove-keys : (x k : ℕ) (t : Items) → 1 ≤ count k (keys t) → hit x k + count x (keys (remove k t)) ≡ count x (keys t)
+remove-keys x k end h = absurd (omega arith)
+remove-keys x k (page p t) h = remove-keys x k t h
+remove-keys x k (file l ls t) h = elim (hits k (keyOf l)) [
+  | same e i ↦ simp (eq-eqb k (keyOf l) e, choose-true) (omega (arith, ap (hit x) e))
+  | other e i ↦ simp (ne-eqb k (keyOf l) e, choose-false) (omega (arith, remove-keys x k t (omega arith)))
+]
+remove-keys x k (dir l d t) h = elim (hits k (keyOf l)) [
+  | same e i ↦ simp (eq-eqb k (keyOf l) e, choose-true) (omega (arith, ap (hit x) e))
+  | other e i ↦ simp (ne-eqb k (keyOf l) e, choose-false) (omega (arith, remove-keys x k t (omega arith)))
+]
 
-pub remove-inner : (x k : ℕ) (l : Label) (ls : List Link) (t : Items) → find k t ≡ aFile l ls → count x (pages ls) + count x (innerPages (remove k t)) ≡ count x (innerPages t)
-remove-inner x k l ls end e = absurd (nothing-no-file e)
-remove-inner x k l ls (page p t) e = remove-inner x k l ls t e
-remove-inner x k l ls (file m c t) e = on-choose _ _ _ _ e
-    (λ q z. rw (← file-links z) (simp (q, choose-true, count-append)))
-    (λ q z. simp (q, choose-false, count-append) (omega (arith, remove-inner x k l ls t z)))
-remove-inner x k l ls (dir m d t) e = on-choose _ _ _ _ e
-    (λ q z. absurd (directory-no-file z))
-    (λ q z. simp count-append (omega (arith, remove-inner x k l ls t z)))
+-- the pages of what was found go
+pub remove-inner : (x k : ℕ) (t : Items) → count x (allFound (find k t)) + count x (innerPages (remove k t)) ≡ count x (innerPages t)
+remove-inner x k end = refl
+remove-inner x k (page p t) = remove-inner x k t
+remove-inner x k (file l ls t) = elim (hits k (keyOf l)) [
+  | same e i ↦ simp (eq-eqb k (keyOf l) e, choose-true, count-append)
+  | other e i ↦ simp (ne-eqb k (keyOf l) e, choose-false, count-append) (omega (arith, remove-inner x k t))
+]
+remove-inner x k (dir l d t) = elim (hits k (keyOf l)) [
+  | same e i ↦ simp (eq-eqb k (keyOf l) e, choose-true, count-append) (omega arith)
+  | other e i ↦ simp (ne-eqb k (keyOf l) e, choose-false, count-append) (omega (arith, remove-inner x k t))
+]
 
 pub remove-none : (k : ℕ) (t : Items) → count k (keys t) ≡ 0 → remove k t ≡ t
 remove-none k end h = refl
 remove-none k (page p t) h = ap (page p) (remove-none k t h)
 remove-none k (file l ls t) h = elim (hits k (keyOf l))
     [ same e i ↦ absurd (omega arith) | other e i ↦ simp (ne-eqb k (keyOf l) e, choose-false) (ap (file l ls) (remove-none k t (omega arith))) ]
-remove-none k (dir l d t) h = ap (dir l d) (remove-none k t (omega arith))
+remove-none k (dir l d t) h = elim (hits k (keyOf l))
+    [ same e i ↦ absurd (omega arith) | other e i ↦ simp (ne-eqb k (keyOf l) e, choose-false) (ap (dir l d) (remove-none k t (omega arith))) ]
 
-pub find-removed : (k : ℕ) (l : Label) (ls : List Link) (t : Items) → count k (keys t) ≤ 1 → find k t ≡ aFile l ls → find k (remove k t) ≡ nothing
-find-removed k l ls t h e = find-none k (remove k t) (omega (arith, remove-keys k k l ls t e, hit-same k))
+-- where no key stands twice, the key is gone and no key has come
+pub remove-fewer : (x k : ℕ) (t : Items) → count x (keys (remove k t)) ≤ count x (keys t)
+remove-fewer x k t = elim (eq-zero-or-pos (count k (keys t))) [ inl z ↦ rw (remove-none k t z) (omega arith) | inr z ↦ omega (arith, remove-keys x k t z) ]
+
+pub find-removed : (k : ℕ) (t : Items) → count k (keys t) ≤ 1 → find k (remove k t) ≡ nothing
+find-removed k t h = find-none k (remove k t) (elim (eq-zero-or-pos (count k (keys t))) [
+  | inl z ↦ omega (arith, remove-fewer k k t)
+  | inr z ↦ omega (arith, remove-keys k k t z, hit-same k)
+])
 
 pub find-beside-removed : (j k : ℕ) → (j ≡ k → ⊥) → (t : Items) → find j (remove k t) ≡ find j t
 find-beside-removed j k n end = refl
@@ -238,4 +271,7 @@ find-beside-removed j k n (file l ls t) = elim (hits k (keyOf l)) [
   | same e i ↦ simp (eq-eqb k (keyOf l) e, choose-true, ne-eqb j (keyOf l) (λ f. n (f ∙ sym e)), choose-false)
   | other e i ↦ simp (ne-eqb k (keyOf l) e, choose-false) (ap (choose (eqb j (keyOf l)) (aFile l ls)) (find-beside-removed j k n t))
 ]
-find-beside-removed j k n (dir l d t) = ap (choose (eqb j (keyOf l)) (aDirectory l d)) (find-beside-removed j k n t)
+find-beside-removed j k n (dir l d t) = elim (hits k (keyOf l)) [
+  | same e i ↦ simp (eq-eqb k (keyOf l) e, choose-true, ne-eqb j (keyOf l) (λ f. n (f ∙ sym e)), choose-false)
+  | other e i ↦ simp (ne-eqb k (keyOf l) e, choose-false) (ap (choose (eqb j (keyOf l)) (aDirectory l d)) (find-beside-removed j k n t))
+]

@@ -5,9 +5,9 @@ use Prim.Native.Nat.{ℕ, zero, suc, _+_}
 use Rattle.geometry.specs.declared.Geometry.{Geometry}
 use Rattle.geometry.specs.Choose.{choose}
 use Rattle.geometry.specs.Geometry.{dataCapacity, bitmapSize}
-use Rattle.packet.specs.Packet.{Write, play}
+use Rattle.packet.specs.Packet.{Write, afterWrites}
 use Rattle.rules.specs.Result.{Res, ok, andThen as _>>=_, andAfter as _>>_, refuse-unless}
-use Rattle.rules.specs.Chain.{linked, spread, pagesFor}
+use Rattle.rules.specs.Chain.{linked, chainOf, pagesFor}
 use Rattle.rules.specs.Tree.{end, page, directoryLinks, Map, inRoot, inFile, Image, used}
 use Rattle.rules.specs.Control.{localAllowed, rootControl}
 use Rattle.rules.specs.Bitmap.{bitmapFrom, bitmapOf}
@@ -22,7 +22,7 @@ upward p (suc k) = p ∷ upward (p + 1) k
 abbrev pub newMap : Geometry → Map
 newMap g =
     let ps = upward 1 (pagesFor (dataCapacity g) (bitmapSize g)) in
-    inFile (spread (dataCapacity g) ps (bitmapFrom (0 ∷ ps) 0 (bitmapSize g)))
+    inFile (chainOf (dataCapacity g) ps (bitmapFrom (0 ∷ ps) 0 (bitmapSize g)))
 
 -- an image without entries: page 0 and, if asked, the bitmap file
 unfoldable pub emptyImage : Geometry → Bool → Image
@@ -37,4 +37,4 @@ formatWrites g i =
 unfoldable pub format : Geometry → Bool → List ℕ → Res (List ℕ)
 format g local image = do
   refuse-unless (not local || localAllowed g) 4 0
-  ok (play g (formatWrites g (emptyImage g local)) image)
+  ok (afterWrites g (formatWrites g (emptyImage g local)) image)

@@ -1,4 +1,5 @@
 pub mod Result
+pub mod Answers
 pub mod PageSets
 pub mod Chain
 pub mod Names
@@ -19,14 +20,16 @@ pub mod WellFormed
 pub mod Candidate
 pub mod Demand2
 pub mod Promises
+pub mod Careful
+pub mod CarefulPromises
 pub mod ResultLaws
 pub mod PageSetLaws
 pub mod ChainLaws
 pub mod Soundness
-pub mod OwnerLaws
 pub mod BitmapLaws
 pub mod EditLaws
 pub mod TargetLaws
+pub mod TreeLaws
 pub mod RefusalLaws
 pub mod FuelLaws
 pub mod CallLaws

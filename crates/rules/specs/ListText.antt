@@ -8,10 +8,10 @@ use Rattle.geometry.specs.declared.Geometry.{Geometry}
 use Rattle.geometry.specs.Choose.{choose}
 use Rattle.geometry.specs.Geometry.{geometryOf}
 use Rattle.geometry.specs.Number.{number, numberBytes}
-use Rattle.packet.specs.Packet.{viewOf}
 use Rattle.rules.specs.declared.Totals.{Totals}
 use Rattle.rules.specs.declared.Line.{Line}
 use Rattle.rules.specs.Result.{Res, ok, err, andThen as _>>=_, andAfter as _>>_, refuse-unless}
+use Rattle.rules.specs.Chain.{viewsOf}
 use Rattle.rules.specs.Check.{check}
 use Rattle.rules.specs.Owners.{totals}
 use Rattle.rules.specs.Listing.{linesOf}
@@ -97,7 +97,7 @@ dumpRight dump =
 -- all else is the check's answer; the program lends an owner table of 65,535 numbers
 unfoldable pub dumpText : List ℕ → List ℕ → Res (List ℕ)
 dumpText dump image = inGeometry (geometryOf (dumpSize dump) (dumpPages dump) (length image) 65535) (err 1 0) (λ g. do
-  i ← check g (viewOf g image)
+  i ← check g (viewsOf g image)
   ok (totalsText g (totals i) ++ linesText (linesOf 0 (i .tree))))
 
 unfoldable pub refusalText : Res (List ℕ) → List ℕ

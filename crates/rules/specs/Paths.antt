@@ -1,5 +1,5 @@
 -- Document 01, "Edits": paths, and what stands at one.
-use mathlib.Core.Bool.{Bool, true, _&&_}
+use mathlib.Core.Bool.{Bool, true, false, _&&_, _||_}
 use mathlib.Core.List.{List, [], _∷_}
 use Prim.Native.Nat.{ℕ, zero, suc, _-_, _/_, _%_}
 use lib.Dec.{leb, eqb}
@@ -8,9 +8,9 @@ use Rattle.geometry.specs.Choose.{choose}
 use Rattle.geometry.specs.Number.{number}
 use Rattle.rules.specs.Result.{Res, ok, err, andThen as _>>=_, andAfter as _>>_, refuse-unless}
 use Rattle.rules.specs.Chain.{Link}
-use Rattle.rules.specs.Names.{validName, key}
+use Rattle.rules.specs.Names.{validName, attribute, key}
 use Rattle.rules.specs.Tree.{Label, keyOf, Items, end, page, file, dir, startOf}
-use Rattle.rules.specs.Control.{Above, theRoot}
+use Rattle.rules.specs.Control.{Parent, theRoot}
 
 pub record Path : Type 0 where
   pub directories : List ℕ
@@ -64,22 +64,37 @@ find k (dir l d t) = choose (eqb k (keyOf l)) (aDirectory l d) (find k t)
 -- a directory's own place: the root, or a subdirectory of the directory above it
 pub data Site : Type 0 where
   atRoot : Site
-  below : Above → Site
+  below : Parent → Site
 
+-- a directory that was reached: its place, how it is known to those below it, whether it or one on the way to it is hidden, its items
 pub record Place : Type 0 where
   pub site : Site
+  pub here : Parent
+  pub hidden : Bool
   pub items : Items
 
+-- the root, which is not hidden
+abbrev pub rootPlace : Items → Place
+rootPlace t = record { site = atRoot; here = theRoot; hidden = false; items = t }
+
+-- the top bit of its extension makes a subdirectory hidden
+abbrev pub isHidden : Label → Bool
+isHidden l = eqb (attribute (l .extension)) 1
+
+-- one name on: the subdirectory d with the label l
+abbrev pub stepDown : Place → ℕ → Label → Items → Place
+stepDown p x l d = record { site = below (p .here); here = record { name = x; start = startOf d }; hidden = p .hidden || isHidden l; items = d }
+
 -- what follows in the directory found; 15 if there is none
-abbrev pub inDirectory : Found → (Items → Res Place) → Res Place
+abbrev pub inDirectory : Found → (Label → Items → Res Place) → Res Place
 inDirectory nothing go = err 15 0
 inDirectory (aFile l ls) go = err 15 0
-inDirectory (aDirectory l d) go = go d
+inDirectory (aDirectory l d) go = go l d
 
--- the directory that the names lead to from the directory `here`, which stands at a site with the items t; 15 if one is missing
-unfoldable pub directoryAt : List ℕ → Site → Above → Items → Res Place
-directoryAt [] site here t = ok (record { site = site; items = t })
-directoryAt (x ∷ xs) site here t = inDirectory (find (directoryKey x) t) (λ d. directoryAt xs (below here) (record { name = x; start = startOf d }) d)
+-- the directory that the names lead to from the one at a place; 15 if one is missing
+unfoldable pub directoryAt : List ℕ → Place → Res Place
+directoryAt [] p = ok p
+directoryAt (x ∷ xs) p = inDirectory (find (directoryKey x) (p .items)) (λ l d. directoryAt xs (stepDown p x l d))
 
 -- a path in a tree: its file's path, and where its target stands (a term of document 01): the directory that its directory names lead to, the root if there are none
 pub record Target : Type 0 where
@@ -90,7 +105,7 @@ pub record Target : Type 0 where
 unfoldable pub targetOf : List ℕ → Items → Res Target
 targetOf path t = do
   q ← pathOf path
-  d ← directoryAt (q .directories) atRoot theRoot t
+  d ← directoryAt (q .directories) (rootPlace t)
   ok (record { to = q; place = d })
 
 -- a change of the directory that the names lead to

@@ -10,7 +10,8 @@ use Rattle.geometry.specs.declared.Shape.the-variants.{Fits}
 use Rattle.geometry.specs.Geometry.{geometryOf}
 use Rattle.rules.specs.Result.{Res, err}
 use Rattle.rules.specs.Tree.{Image}
-use Rattle.rules.specs.Candidate.{Demand3}
+use Rattle.rules.specs.Paths.{pathOf}
+use Rattle.rules.specs.Candidate.{NotReadOnly, PutFile, Demand3}
 use Rattle.rules.specs.Demand2.{WellFormedAt, Formatted, Deleted, PutDone}
 
 module _ (P N : ℕ) (image table : List ℕ) where
@@ -37,4 +38,4 @@ module _ (P N : ℕ) (image table : List ℕ) where
 
   -- put: demand 3 too
   abbrev pub Puts : List ℕ → List ℕ → Type 0 → (Res (Unit {0}) → Type 0) → List ℕ → Type 0
-  Puts path bytes isDone told after = Leaves (λ g. PutDone g path bytes image after) isDone after × Demand3 P N image table path bytes isDone (told (err 17 0)) after
+  Puts path bytes isDone told after = Leaves (λ g. PutDone g path bytes image after) isDone after × Demand3 P N image table (pathOf path) NotReadOnly (PutFile bytes) isDone (told (err 17 0)) after

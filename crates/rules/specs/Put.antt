@@ -7,26 +7,26 @@ use lib.ListN.{length, take, drop, getD}
 use Rattle.geometry.specs.declared.Geometry.{Geometry}
 use Rattle.geometry.specs.Choose.{choose}
 use Rattle.geometry.specs.Geometry.{dataCapacity, firstEntries, laterEntries}
-use Rattle.packet.specs.Packet.{viewOf, play}
+use Rattle.packet.specs.Packet.{afterWrites}
 use Rattle.rules.specs.Result.{Res, ok, andThen as _>>=_, andAfter as _>>_, refuse-unless}
 use Rattle.rules.specs.PageSets.{bit, mem, freePages}
-use Rattle.rules.specs.Chain.{Link, spread, pagesFor}
-use Rattle.rules.specs.Tree.{Label, keyOf, Items, end, page, file, dir, allPages, keys, mapPages, Image, used}
+use Rattle.rules.specs.Chain.{viewsOf, Link, chainOf, pagesFor}
+use Rattle.rules.specs.Tree.{Label, keyOf, width, Items, end, page, file, dir, allPages, keys, mapPages, Image, used}
 use Rattle.rules.specs.Names.{attribute}
 use Rattle.rules.specs.Bitmap.{bitmapOf}
 use Rattle.rules.specs.Check.{check}
-use Rattle.rules.specs.Paths.{Path, fileKey, fileLabel, Found, nothing, aFile, aDirectory, find, Place, targetOf, changeAt}
+use Rattle.rules.specs.Paths.{Path, fileKey, fileLabel, Found, nothing, aFile, aDirectory, find, Place, Target, targetOf, changeAt}
 use Rattle.rules.specs.Writes.{Edit, edited, editWrites}
 
--- a new entry, put in front by `new`, goes to the end of the first directory page with space, in chain order: `room` entries are free on this page,
+-- a new entry, put in front by `new`, goes to the end of the first directory page with space, in chain order: `room` slots are free on this page,
 -- `next` on the next one, `later` on each further one; if there is none, page q joins the directory's end
 abbrev pub insert : (Items → Items) → ℕ → ℕ → ℕ → ℕ → Items → Items
 insert new later q next zero end = page q (new end)
 insert new later q next (suc r) end = new end
 insert new later q next zero (page p t) = page p (insert new later q later next t)
 insert new later q next (suc r) (page p t) = new (page p t)
-insert new later q next r (file l ls t) = file l ls (insert new later q next (r - 1) t)
-insert new later q next r (dir l d t) = dir l d (insert new later q next (r - 1) t)
+insert new later q next r (file l ls t) = file l ls (insert new later q next (r - width l) t)
+insert new later q next r (dir l d t) = dir l d (insert new later q next (r - width l) t)
 
 -- whether no page has space
 abbrev pub isFull : ℕ → ℕ → ℕ → Items → Bool
@@ -34,8 +34,8 @@ isFull later next zero end = true
 isFull later next (suc r) end = false
 isFull later next zero (page p t) = isFull later later next t
 isFull later next (suc r) (page p t) = false
-isFull later next r (file l ls t) = isFull later next (r - 1) t
-isFull later next r (dir l d t) = isFull later next (r - 1) t
+isFull later next r (file l ls t) = isFull later next (r - width l) t
+isFull later next r (dir l d t) = isFull later next (r - width l) t
 
 -- a replaced file: its entry stays in place
 abbrev pub replace : ℕ → List Link → Items → Items
@@ -49,6 +49,13 @@ unfoldable pub writable : Found → Res (Unit {0})
 writable nothing = ok tt
 writable (aFile l ls) = refuse-unless (eqb (attribute (l .extension)) 0) 16 0
 writable (aDirectory l d) = ok tt
+
+-- the target of a put: 14, 15, then 16
+unfoldable pub putTarget : List ℕ → Items → Res Target
+putTarget path t = do
+  x ← targetOf path t
+  writable (find (fileKey (x .to)) (x .place .items))
+  ok x
 
 -- the pages in use but for the replaced chain, which counts as free
 unfoldable pub keptPages : Path → Image → List ℕ
@@ -67,19 +74,18 @@ unfoldable pub putEdit : Geometry → List ℕ → Path → List ℕ → Place �
 putEdit g free q bytes place =
     let extra = extraPages g (fileLabel q) (place .items) in
     let wanted = pagesFor (dataCapacity g) (length bytes) in
-    let chain = spread (dataCapacity g) (take wanted (drop extra free)) bytes in do
+    let chain = chainOf (dataCapacity g) (take wanted (drop extra free)) bytes in do
       refuse-unless (leb (extra + wanted) (length free)) 17 0
       ok (record { site = place .site; before = place .items; after = itemsAfter g (fileLabel q) (getD free 0 0) chain (place .items); chain = chain })
 
 -- the image after an edit that marks nothing beforehand
 unfoldable pub plainEdit : Geometry → List ℕ → Edit → Image → List ℕ → List ℕ
-plainEdit g names e i image = play g (editWrites g (bitmapOf g (used i) (i .map)) e i (edited g names e i)) image
+plainEdit g names e i image = afterWrites g (editWrites g (bitmapOf g (used i) (i .map)) e i (edited g names e i)) image
 
 -- the image after a put
 unfoldable pub put : Geometry → List ℕ → List ℕ → List ℕ → Res (List ℕ)
 put g path bytes image = do
-  i ← check g (viewOf g image)
-  x ← targetOf path (i .tree)
-  writable (find (fileKey (x .to)) (x .place .items))
+  i ← check g (viewsOf g image)
+  x ← putTarget path (i .tree)
   e ← putEdit g (freePages (keptPages (x .to) i) (g .pages)) (x .to) bytes (x .place)
   ok (plainEdit g (x .to .directories) e i image)

@@ -13,11 +13,11 @@ use Rattle.rules.specs.declared.Line.{Line}
 use Rattle.rules.specs.Result.{Res, ok, err, andThen, andAfter, refuse-unless}
 use Rattle.rules.specs.ResultLaws.{clash}
 use Rattle.rules.specs.Chain.{packetAt, Test, anyPage}
-use Rattle.rules.specs.Tree.{Items, startOf}
-use Rattle.rules.specs.Control.{Above, headOf, wholeEntries, rootPage, subPage}
+use Rattle.rules.specs.Tree.{Label, Items}
+use Rattle.rules.specs.Control.{Parent, headOf, wholeEntries, rootPage, subPage}
 use Rattle.rules.specs.Check.{judgeLabel}
 use Rattle.rules.specs.Listing.{lineAt}
-use Rattle.rules.specs.Paths.{pathOf, directoryKey, Found, nothing, aFile, aDirectory, find, Site, below, directoryAt, targetOf}
+use Rattle.rules.specs.Paths.{pathOf, directoryKey, Found, nothing, aFile, aDirectory, find, Place, stepDown, directoryAt, targetOf}
 use Rattle.rules.specs.Format.{format}
 use Rattle.rules.specs.Put.{writable}
 use Rattle.rules.specs.Delete.{present}
@@ -99,7 +99,7 @@ unfolding rootPage
 root-faults g most zero p b h = whole-faults g most p _ h
 root-faults g most (suc i) p b h = whole-faults g most p b h
 
-pub sub-faults : (g : Geometry) (up : Above) (most : ℕ) → TestFaults most (subPage g up)
+pub sub-faults : (g : Geometry) (up : Parent) (most : ℕ) → TestFaults most (subPage g up)
 unfolding subPage
 sub-faults g up most zero p b h = refuses-test _ 4 _ _ tt h (refuses-test _ 3 _ _ tt h (refuses-test _ 4 _ _ tt h (whole-faults g most p _ h)))
 sub-faults g up most (suc i) p b h = whole-faults g most p b h
@@ -119,21 +119,20 @@ path-faults : (b : List ℕ) → Refuses 14 14 1 (pathOf b)
 unfolding pathOf
 path-faults b = let z : 0 < 1 = omega arith in refuses-test _ 14 _ _ tt z (refuses-test _ 14 _ _ tt z (refuses-test _ 14 _ _ tt z refuses-ok))
 
-place-faults : (xs : List ℕ) (site : Site) (here : Above) (t : Items) → Refuses 15 15 1 (directoryAt xs site here t)
-place-faults [] site here t = unfold directoryAt in refuses-ok
-place-faults (x ∷ xs) site here t = go (find (directoryKey x) t) refl (λ d. place-faults xs (below here) (record { name = x; start = startOf d }) d)
+place-faults : (xs : List ℕ) (p : Place) → Refuses 15 15 1 (directoryAt xs p)
+place-faults [] p = unfold directoryAt in refuses-ok
+place-faults (x ∷ xs) p = go (find (directoryKey x) (p .items)) refl (λ l d. place-faults xs (stepDown p x l d))
   where
-    go : (f : Found) → find (directoryKey x) t ≡ f → ((d : Items) → Refuses 15 15 1 (directoryAt xs (below here) (record { name = x; start = startOf d }) d))
-        → Refuses 15 15 1 (directoryAt (x ∷ xs) site here t)
+    go : (f : Found) → find (directoryKey x) (p .items) ≡ f → ((l : Label) (d : Items) → Refuses 15 15 1 (directoryAt xs (stepDown p x l d))) → Refuses 15 15 1 (directoryAt (x ∷ xs) p)
     go nothing e k = unfold directoryAt in rw e (refuses-err tt (omega arith))
     go (aFile l ls) e k = unfold directoryAt in rw e (refuses-err tt (omega arith))
-    go (aDirectory l d) e k = unfold directoryAt in rw e (k d)
+    go (aDirectory l d) e k = unfold directoryAt in rw e (k l d)
 
 pub target-faults : (path : List ℕ) (t : Items) → Refuses 14 15 1 (targetOf path t)
 unfolding targetOf
 target-faults path t =
     refuses-then _ _ (refuses-within 14 15 1 (omega arith) (omega arith) (omega arith) (path-faults path)) λ q _.
-    refuses-then _ _ (refuses-within 14 15 1 (omega arith) (omega arith) (omega arith) (place-faults (q .directories) _ _ t)) λ d _. refuses-ok
+    refuses-then _ _ (refuses-within 14 15 1 (omega arith) (omega arith) (omega arith) (place-faults (q .directories) _)) λ d _. refuses-ok
 
 pub writable-faults : (f : Found) → Refuses 16 16 1 (writable f)
 unfolding writable

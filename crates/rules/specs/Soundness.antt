@@ -7,17 +7,16 @@ use lib.ListN.{length, drop, length-append}
 use Rattle.geometry.specs.declared.Geometry.{Geometry}
 use Rattle.geometry.specs.ChooseLaws.{on-choose}
 use Rattle.geometry.specs.Geometry.{entrySize, controlSize}
-use Rattle.packet.specs.Packet.{View}
 use Rattle.rules.specs.declared.Entry.{Entry}
 use Rattle.rules.specs.Result.{ok}
 use Rattle.rules.specs.ResultLaws.{ok-inj, clash, on-then, on-refuse}
 use Rattle.rules.specs.PageSets.{count, range, Within}
 use Rattle.rules.specs.PageSetLaws.{count-append}
-use Rattle.rules.specs.Chain.{Link, link, pages, Test, anyPage, walk}
+use Rattle.rules.specs.Chain.{Views, Link, link, pages, Test, anyPage, walk}
 use Rattle.rules.specs.ChainLaws.{IsChain, length-pages, walk-sound}
 use Rattle.rules.specs.Names.{key}
 use Rattle.rules.specs.Tree.{Items, Token, newPage, entry, entriesIn, linkTokens, ownPages, innerPages, Map, mapPages, Image, used}
-use Rattle.rules.specs.Control.{Above, theRoot, Head, rootPage, subPage}
+use Rattle.rules.specs.Control.{Parent, theRoot, Head, rootPage, subPage}
 use Rattle.rules.specs.Owners.{fileCount, directoryCount}
 use Rattle.rules.specs.Check.{Part, chain, directory, partPages, add, Judge, Scan, judgeFile, judgeEntry, judgeEntries, judgeDirectory, judgeSub, judgeMap, scan, check, scanWith, judgeMapFile}
 
@@ -75,35 +74,35 @@ module _ (g : Geometry) where
     pub room : fileCount (i .tree) + directoryCount (i .tree) + 1 + length (mapPages (i .map)) ≤ length (used i)
 
   abbrev pub JudgeSound : Judge → Type 0
-  JudgeSound sub = (here : Above) (claimed : List ℕ) (p : ℕ) (e : Entry) (d : Items) → Within (g .pages) claimed → sub here claimed p e ≡ ok d → PartClear claimed (directory d)
+  JudgeSound sub = (here : Parent) (claimed : List ℕ) (p : ℕ) (e : Entry) (d : Items) → Within (g .pages) claimed → sub here claimed p e ≡ ok d → PartClear claimed (directory d)
 
-module _ (g : Geometry) (v : View) where
+module _ (g : Geometry) (vs : Views) where
   -- of a directory: its chain, then its entries
   pub record DirectoryClear (test : Test) (claimed : List ℕ) (p start : ℕ) (t : Items) : Type 0 where
     pub links : List Link
-    pub walked : walk (g .pages) v test (suc (g .pages)) 0 claimed p start ≡ ok links
-    pub chain : IsChain (g .pages) v test 0 claimed start links
+    pub walked : walk (g .pages) (vs .pages) test (suc (g .pages)) 0 claimed p start ≡ ok links
+    pub chain : IsChain (g .pages) (vs .pages) test 0 claimed start links
     pub own-pages : ownPages t ≡ pages links
     pub clear : (z : ℕ) → count z (ownPages t) + count z (innerPages t) + count z claimed ≤ count z (range (g .pages))
     pub room : fileCount t + directoryCount t ≤ length (innerPages t)
     pub some : 1 ≤ length (ownPages t)
 
-  pub file-sound : (claimed : List ℕ) (p : ℕ) (e : Entry) (x : Part) → Within (g .pages) claimed → judgeFile g v (suc (g .pages)) claimed p e ≡ ok x → PartClear g claimed x
+  pub file-sound : (claimed : List ℕ) (p : ℕ) (e : Entry) (x : Part) → Within (g .pages) claimed → judgeFile g vs (suc (g .pages)) claimed p e ≡ ok x → PartClear g claimed x
   unfolding judgeFile
   file-sound claimed p e x fit q = on-refuse _ _ _ _ _ q λ g₁ q. on-then _ _ _ q λ ls w q. on-refuse _ _ _ _ _ q λ g₂ q.
-      let c = walk-sound (g .pages) v anyPage (suc (g .pages)) 0 claimed p (e .start) ls fit w in
+      let c = walk-sound (g .pages) (vs .file (e .extension)) anyPage (suc (g .pages)) 0 claimed p (e .start) ls fit w in
       subst (PartClear g claimed) (ok-inj q) (record { clear = c .clear; room = omega (arith, c .some, length-pages ls) })
 
-  pub entry-sound : (sub : Judge) → JudgeSound g sub → (here : Above) (claimed : List ℕ) (p : ℕ) (seen : List ℕ) (e : Entry) (x : Part)
-      → Within (g .pages) claimed → judgeEntry g v (suc (g .pages)) sub here claimed p seen e ≡ ok x → PartClear g claimed x
+  pub entry-sound : (sub : Judge) → JudgeSound g sub → (here : Parent) (claimed : List ℕ) (p : ℕ) (seen : List ℕ) (e : Entry) (x : Part)
+      → Within (g .pages) claimed → judgeEntry g vs (suc (g .pages)) sub here claimed p seen e ≡ ok x → PartClear g claimed x
   unfolding judgeEntry
   entry-sound sub h here claimed p seen e x fit q =
       on-then _ _ _ q λ u g₁ q. on-refuse _ _ _ _ _ q λ g₂ q. on-choose _ _ _ _ q
       (λ k q. on-then _ _ _ q λ d w q. subst (PartClear g claimed) (ok-inj q) (h here claimed p e d fit w))
       (λ k q. file-sound claimed p e x fit q)
 
-  pub entries-sound : (sub : Judge) → JudgeSound g sub → (here : Above) (ts : List Token) (claimed : List ℕ) (p : ℕ) (seen : List ℕ) (t : Items)
-      → Within (g .pages) claimed → judgeEntries g v (suc (g .pages)) sub here claimed p seen ts ≡ ok t → EntriesClear g claimed ts t
+  pub entries-sound : (sub : Judge) → JudgeSound g sub → (here : Parent) (ts : List Token) (claimed : List ℕ) (p : ℕ) (seen : List ℕ) (t : Items)
+      → Within (g .pages) claimed → judgeEntries g vs (suc (g .pages)) sub here claimed p seen ts ≡ ok t → EntriesClear g claimed ts t
   unfolding judgeEntries
   entries-sound sub h here [] claimed p seen t fit q =
       subst (EntriesClear g claimed []) (ok-inj q) (record { clear = λ z. omega (arith, fit z); room = omega arith; own-pages = refl })
@@ -119,11 +118,11 @@ module _ (g : Geometry) (v : View) where
         own-pages = add-own e x u ∙ i .own-pages;
       })
 
-  pub directory-sound : (sub : Judge) → JudgeSound g sub → (test : Test) (here : Above) (claimed : List ℕ) (p : ℕ) (t : Items)
-      → Within (g .pages) claimed → judgeDirectory g v (suc (g .pages)) sub test here claimed p ≡ ok t → DirectoryClear test claimed p (here .start) t
+  pub directory-sound : (sub : Judge) → JudgeSound g sub → (test : Test) (here : Parent) (claimed : List ℕ) (p : ℕ) (t : Items)
+      → Within (g .pages) claimed → judgeDirectory g vs (suc (g .pages)) sub test here claimed p ≡ ok t → DirectoryClear test claimed p (here .start) t
   unfolding judgeDirectory
   directory-sound sub h test here claimed p t fit q = on-then _ _ _ q λ ls w q.
-      let c = walk-sound (g .pages) v test (suc (g .pages)) 0 claimed p (here .start) ls fit w in
+      let c = walk-sound (g .pages) (vs .pages) test (suc (g .pages)) 0 claimed p (here .start) ls fit w in
       let i = entries-sound sub h here (linkTokens g (controlSize g) ls) (pages ls ++ claimed) (here .start) [] t (λ z. simp count-append (c .clear z)) q in
       let o : ownPages t ≡ pages ls = i .own-pages ∙ pages-tokens g (controlSize g) ls in
       record {
@@ -139,33 +138,33 @@ module _ (g : Geometry) (v : View) where
   pub directory-part : (test : Test) (claimed : List ℕ) (p start : ℕ) (t : Items) → DirectoryClear test claimed p start t → PartClear g claimed (directory t)
   directory-part test claimed p start t d = record { clear = λ z. simp count-append (d .clear z); room = simp length-append (omega (arith, d .room, d .some)) }
 
-  pub sub-sound : (levels : ℕ) → JudgeSound g (judgeSub g v (suc (g .pages)) levels)
+  pub sub-sound : (levels : ℕ) → JudgeSound g (judgeSub g vs (suc (g .pages)) levels)
   unfolding judgeSub
   sub-sound zero here claimed p e d fit q = clash q
   sub-sound (suc levels) here claimed p e d fit q = on-refuse _ _ _ _ _ q λ g₁ q. on-refuse _ _ _ _ _ q λ g₂ q.
       directory-part (subPage g here) claimed p (e .start) d
-      (directory-sound (judgeSub g v (suc (g .pages)) levels) (sub-sound levels) (subPage g here) (record { name = e .name; start = e .start }) claimed p d fit q)
+      (directory-sound (judgeSub g vs (suc (g .pages)) levels) (sub-sound levels) (subPage g here) (record { name = e .name; start = e .start }) claimed p d fit q)
 
   -- the bitmap file's pages
-  pub map-sound : (h : Head) (m : Map) → judgeMap g v (suc (g .pages)) h ≡ ok m → Within (g .pages) (mapPages m)
+  pub map-sound : (h : Head) (m : Map) → judgeMap g vs (suc (g .pages)) h ≡ ok m → Within (g .pages) (mapPages m)
   unfolding judgeMap judgeMapFile
   map-sound h m q = on-choose _ _ _ _ q
       (λ k q. subst (λ (m : Map). Within (g .pages) (mapPages m)) (ok-inj q) (λ z. omega arith))
       (λ k q. on-refuse _ _ _ _ _ q λ g₁ q. on-then _ _ _ q λ ls w q. on-refuse _ _ _ _ _ q λ g₂ q. on-refuse _ _ _ _ _ q λ g₃ q.
-      let c = walk-sound (g .pages) v anyPage (suc (g .pages)) 0 [] 0 _ ls (λ z. omega arith) w in
+      let c = walk-sound (g .pages) (vs .pages) anyPage (suc (g .pages)) 0 [] 0 _ ls (λ z. omega arith) w in
       subst (λ (m : Map). Within (g .pages) (mapPages m)) (ok-inj q) (λ z. omega (arith, c .clear z)))
 
-  pub scan-sound : (s : Scan) → scan g v ≡ ok s → ImageClear g (s .image)
+  pub scan-sound : (s : Scan) → scan g vs ≡ ok s → ImageClear g (s .image)
   unfolding scan scanWith
   scan-sound s q = on-then _ _ _ q λ x a q. on-then _ _ _ q λ h b q. on-then _ _ _ q λ m c q. on-then _ _ _ q λ t d q.
       let f = map-sound h m c in
-      let r = directory-sound (judgeSub g v (suc (g .pages)) 8) (sub-sound 8) (rootPage g) theRoot (mapPages m) 0 t f d in
+      let r = directory-sound (judgeSub g vs (suc (g .pages)) 8) (sub-sound 8) (rootPage g) theRoot (mapPages m) 0 t f d in
       subst (λ (s : Scan). ImageClear g (s .image)) (ok-inj q) (record {
         clear = λ z. simp count-append (r .clear z);
         room = simp length-append (omega (arith, r .room, r .some));
       })
 
   -- of an accepted image
-  pub check-sound : (i : Image) → check g v ≡ ok i → ImageClear g i
+  pub check-sound : (i : Image) → check g vs ≡ ok i → ImageClear g i
   unfolding check
   check-sound i q = on-then _ _ _ q λ s a q. on-then _ _ _ q λ u b q. subst (ImageClear g) (ok-inj q) (scan-sound s a)

@@ -19,6 +19,10 @@ labelOf e = record { name = e .name; extension = e .extension }
 abbrev pub keyOf : Label → ℕ
 keyOf l = key (l .name) (l .extension)
 
+-- the slots that an entry takes in its directory page: one
+unfoldable pub width : Label → ℕ
+width l = 1
+
 -- a directory: where a page of it begins, and its entries in chain order, each with its chain or its directory
 pub data Items : Type 0 where
   end : Items

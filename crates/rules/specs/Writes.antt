@@ -1,41 +1,21 @@
 -- The ordered page writes of an edit.
-use mathlib.Core.Bool.{Bool, true, false, _&&_}
+use mathlib.Core.Bool.{Bool, _&&_}
 use mathlib.Core.List.{List, [], _∷_, _++_}
 use Prim.Native.Nat.{ℕ}
 use lib.Dec.{eqb}
 use lib.ListN.{take}
 use Rattle.geometry.specs.declared.Geometry.{Geometry}
 use Rattle.geometry.specs.Choose.{choose}
-use Rattle.packet.specs.Packet.{Packet, bad, good, viewOf, Write, write, writePage}
+use Rattle.packet.specs.Packet.{Write, write, sameList}
 use Rattle.rules.specs.Chain.{Link, linked}
 use Rattle.rules.specs.Tree.{Items, directoryLinks, allPages, Map, inRoot, inFile, mapPages, Image, used}
 use Rattle.rules.specs.Control.{rootControl, subControl}
 use Rattle.rules.specs.Bitmap.{bitmapOf, refill, remap}
 use Rattle.rules.specs.Paths.{Site, atRoot, below, changeAt}
 
--- two lists are equal
-abbrev pub sameList : List ℕ → List ℕ → Bool
-sameList [] [] = true
-sameList [] (y ∷ ys) = false
-sameList (x ∷ xs) [] = false
-sameList (x ∷ xs) (y ∷ ys) = eqb x y && sameList xs ys
-
+-- two page writes are equal
 abbrev pub sameWrite : Write → Write → Bool
 sameWrite (write p b n) (write q c m) = eqb p q && (sameList b c && eqb n m)
-
--- a packet has these bytes and this pointer
-abbrev pub isPacketOf : Packet → List ℕ → ℕ → Bool
-isPacketOf bad b n = false
-isPacketOf (good c m) b n = sameList c b && eqb m n
-
--- the packet of the page would not change
-unfoldable pub unchanged : Geometry → Write → List ℕ → Bool
-unchanged g (write p b n) image = isPacketOf (viewOf g image p) b n
-
--- the writes that change a packet, in order, each judged on what stands before it
-unfoldable pub made : Geometry → List Write → List ℕ → List Write
-made g [] image = []
-made g (w ∷ ws) image = choose (unchanged g w image) (made g ws image) (w ∷ made g ws (writePage g w image))
 
 -- the packets of a changed chain that differ from those before, place by place
 abbrev pub changes : List Write → List Write → List Write

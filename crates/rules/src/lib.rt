@@ -29,3 +29,45 @@ pub struct Line {
     // bytes of a file, 0 for a directory
     pub length: usize,
 }
+
+// What a check answers: the totals, or the number of a refusal of document 01 and its page.
+pub enum Checked {
+    Done(Totals),
+    Refused(u8, usize),
+}
+
+// What an edit answers: done, or the number of a refusal of document 01 and its page.
+pub enum Edited {
+    Done,
+    Refused(u8, usize),
+}
+
+// What listing answers: a line, or the number of a refusal of document 01 and its page.
+pub enum Listed {
+    Entry(Line),
+    Refused(u8, usize),
+}
+
+// What reading answers: the bytes read, or the number of a refusal of document 01 and its page.
+pub enum Length {
+    Done(usize),
+    Refused(u8, usize),
+}
+
+// How many page writes a careful call has made, and whether any are left.
+pub struct WriteCount {
+    pub made: usize,
+    pub left: bool,
+}
+
+// What a careful edit answers: its page writes, or the number of a refusal of document 01 and its page.
+pub enum Halted {
+    Done(WriteCount),
+    Refused(u8, usize),
+}
+
+// What a mend answers: the marks cleared, or the number of a refusal of document 01 and its page.
+pub enum Mended {
+    Done(usize),
+    Refused(u8, usize),
+}

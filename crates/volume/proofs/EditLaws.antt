@@ -8,48 +8,48 @@ use Rattle.geometry.specs.declared.Shape.{Shape}
 use Rattle.geometry.specs.declared.Shape.the-variants.{Fits}
 use Rattle.geometry.specs.Geometry.{geometryOf, Fit}
 use Rattle.geometry.specs.NumberLaws.{bytes-from}
-use Rattle.packet.specs.Packet.{View, viewOf}
 use Rattle.rules.specs.declared.Totals.{Totals}
 use Rattle.rules.specs.Result.{Res, ok, err}
+use Rattle.rules.specs.Chain.{Views, viewsOf}
 use Rattle.rules.specs.Tree.{Image}
 use Rattle.rules.specs.Check.{check}
 use Rattle.rules.specs.Owners.{tableAfter}
 use Rattle.rules.specs.Calls.{inGeometry, done, changed}
-use Rattle.walk.specs.declared.Walk.{Walk}
-use Rattle.walk.specs.declared.Walk.the-variants as w
-use Rattle.volume.specs.declared.Edited.{Edited}
-use Rattle.volume.specs.declared.Edited.the-variants as edited
+use Rattle.rules.specs.declared.Checked.{Checked}
+use Rattle.rules.specs.declared.Checked.the-variants as w
+use Rattle.rules.specs.declared.Edited.{Edited}
+use Rattle.rules.specs.declared.Edited.the-variants as edited
 use Rattle.volume.specs.Scans.{TableChecked}
-use Rattle.volume.specs.Told.{editTold}
+use Rattle.rules.specs.Answers.{editResult}
 use Rattle.volume.specs.Edits.{leaves, TableOf, EditLeaves}
 
 -- the table that a check fills, and what stands past it
-table-told : (g : Geometry) (v : View) (r : Walk) (u table : List ℕ) → TableChecked g v r u → u ++ drop (g .pages) table ≡ tableAfter (g .pages) (check g v) table
+table-told : (g : Geometry) (vs : Views) (r : Checked) (u table : List ℕ) → TableChecked g vs r u → u ++ drop (g .pages) table ≡ tableAfter (g .pages) (check g vs) table
 unfolding tableAfter
-table-told g v (w.Done d) u table k = ap (λ (x : List ℕ). x ++ drop (g .pages) table) (k .3) ∙ sym (ap (λ (x : Res Image). tableAfter (g .pages) x table) (k .1))
-table-told g v (w.Refused n p) u table k = ap (λ (x : List ℕ). x ++ drop (g .pages) table) (k .1) ∙ sym (ap (λ (x : Res Image). tableAfter (g .pages) x table) (k .0))
+table-told g vs (w.Done d) u table k = ap (λ (x : List ℕ). x ++ drop (g .pages) table) (k .3) ∙ sym (ap (λ (x : Res Image). tableAfter (g .pages) x table) (k .1))
+table-told g vs (w.Refused n p) u table k = ap (λ (x : List ℕ). x ++ drop (g .pages) table) (k .1) ∙ sym (ap (λ (x : Res Image). tableAfter (g .pages) x table) (k .0))
 
 pub fit-same : (g : Geometry) (a b : List ℕ) → Fit g a → length b ≡ length a → Fit g b
 fit-same g a b f e = record { valid = f .valid; whole = e ∙ f .whole }
 
-module _ (g : Geometry) (image : List ℕ) (r : Walk) (u : List ℕ) (K : TableChecked g (viewOf g image) r u) where
+module _ (g : Geometry) (image : List ℕ) (r : Checked) (u : List ℕ) (K : TableChecked g (viewsOf g image) r u) where
   -- the check's fault is the answer of an edit that checks first
-  pub fault-leaves : (rule : Res (List ℕ)) → ((n p : ℕ) → check g (viewOf g image) ≡ err n p → rule ≡ err n p) → (n p : ℕ) → r ≡ w.Refused n p → EditLeaves g image rule (edited.Refused n p) image u
-  fault-leaves rule h n p e = record { answers = sym (ap (leaves image) (h n p (subst (λ (x : Walk). TableChecked g (viewOf g image) x u) e K .0))); check = r; checked = K }
+  pub fault-leaves : (rule : Res (List ℕ)) → ((n p : ℕ) → check g (viewsOf g image) ≡ err n p → rule ≡ err n p) → (n p : ℕ) → r ≡ w.Refused n p → EditLeaves g image rule (edited.Refused n p) image u
+  fault-leaves rule h n p e = record { answers = sym (ap (leaves image) (h n p (subst (λ (x : Checked). TableChecked g (viewsOf g image) x u) e K .0))); check = r; checked = K }
 
   pub table-of : (h : (i : ℕ) → getD image i 0 < 256) (t : Totals) → r ≡ w.Done t → TableOf g image u
-  table-of h t e = let k = subst (λ (x : Walk). TableChecked g (viewOf g image) x u) e K in record { bytes = bytes-from image h; tree = k .0; accepted = k .1; table-is = k .3 }
+  table-of h t e = let k = subst (λ (x : Checked). TableChecked g (viewsOf g image) x u) e K in record { bytes = bytes-from image h; tree = k .0; accepted = k .1; table-is = k .3 }
 
 module _ (P N : ℕ) (image table : List ℕ) where
-  done-leaves : (g : Geometry) (x : Res (List ℕ)) → (leaves image x .0, leaves image x .1, tableAfter (g .pages) (check g (viewOf g (leaves image x .1))) table) ≡ done P N image table g x
+  done-leaves : (g : Geometry) (x : Res (List ℕ)) → (leaves image x .0, leaves image x .1, tableAfter (g .pages) (check g (viewsOf g (leaves image x .1))) table) ≡ done P N image table g x
   done-leaves g (ok after) = refl
   done-leaves g (err n p) = refl
 
   -- an edit in the geometry that the sizes give
   pub changed-leaves : (g : Geometry) → geometryOf P N (length image) (length table) ≡ Fits g → (edit : Geometry → Res (List ℕ)) (r : Edited) (after u : List ℕ) → EditLeaves g image (edit g) r after u
-      → (editTold r, after, u ++ drop (g .pages) table) ≡ changed P N image table edit
+      → (editResult r, after, u ++ drop (g .pages) table) ≡ changed P N image table edit
   changed-leaves g e edit r after u k =
       let a = k .answers in
-      ap₂ (λ (x : Res (Unit {0}) × List ℕ) (y : List ℕ). (x .0, x .1, y)) a (table-told g (viewOf g after) (k .check) u table (k .checked)
-      ∙ ap (λ (x : Res (Unit {0}) × List ℕ). tableAfter (g .pages) (check g (viewOf g (x .1))) table) a)
+      ap₂ (λ (x : Res (Unit {0}) × List ℕ) (y : List ℕ). (x .0, x .1, y)) a (table-told g (viewsOf g after) (k .check) u table (k .checked)
+      ∙ ap (λ (x : Res (Unit {0}) × List ℕ). tableAfter (g .pages) (check g (viewsOf g (x .1))) table) a)
       ∙ done-leaves g (edit g) ∙ sym (ap (λ (s : Shape). inGeometry s (err 1 0, image, table) (λ g. done P N image table g (edit g))) e)

@@ -8,20 +8,20 @@ use lib.ListN.{length, replicate, length-replicate}
 use borrow.Author.Tests.{eq-eqb, ne-eqb, lt-ltb, le-ltb}
 use Rattle.geometry.specs.declared.Geometry.{Geometry}
 use Rattle.geometry.specs.Geometry.{bitmapSize}
-use Rattle.packet.specs.Packet.{View}
 use Rattle.rules.specs.Result.{Res, ok, err, andThen, refuse-unless}
 use Rattle.rules.specs.ResultLaws.{then-ok, then-err, refuse-true, refuse-false}
-use Rattle.rules.specs.Chain.{Link, pages, content, walk}
+use Rattle.rules.specs.Chain.{Views, Link, pages, content, walk}
 use Rattle.rules.specs.ChainLaws.{length-pages}
 use Rattle.rules.specs.Tree.{inFile}
 use Rattle.rules.specs.Owners.{own}
-use Rattle.rules.specs.OwnerLaws.{Represents, represents-none, represents-length, inUse}
+use Rattle.owners.specs.Owned.{Represents}
+use Rattle.owners.specs.OwnerLaws.{represents-none, represents-length, inUse}
 use Rattle.directory.specs.declared.control.Kind.the-variants as kind
 use Rattle.directory.specs.Faults.{testOf}
 use Rattle.chain.specs.declared.Claim.{Claim}
 use Rattle.chain.specs.declared.Claim.the-variants as claim
 use Rattle.chain.specs.Claims.{Claims}
-use Rattle.walk.specs.declared.Walk.the-variants as w
+use Rattle.rules.specs.declared.Checked.the-variants as w
 use Rattle.walk.proofs.Parts.{test-file, IsClaimed, claimed-chain, claim-refused}
 use Rattle.rules.specs.Check.{judgeMapFile}
 use Rattle.volume.specs.Scans.{noEntries, MapClaimed}
@@ -32,33 +32,33 @@ empty-table N t z =
     let r : Represents t [] = subst (λ (x : List ℕ). Represents x []) (sym z) (represents-none N) in
     (r, ap length z ∙ length-replicate {A = ℕ} N 0, represents-length t [] r)
 
-module _ (g : Geometry) (v : View) (start pages-told : ℕ) where
-  pub map-none : start ≡ 0 → judgeMapFile g v (suc (g .pages)) start pages-told ≡ err 6 0
+module _ (g : Geometry) (vs : Views) (start pages-told : ℕ) where
+  pub map-none : start ≡ 0 → judgeMapFile g vs (suc (g .pages)) start pages-told ≡ err 6 0
   unfolding judgeMapFile
   map-none z = simp (le-ltb 0 start (omega arith), refuse-false, then-err)
 
   abbrev chainOf : Res (List Link)
-  chainOf = walk (g .pages) v (testOf g kind.File) (suc (g .pages)) 0 [] 0 start
+  chainOf = walk (g .pages) (vs .pages) (testOf g kind.File) (suc (g .pages)) 0 [] 0 start
 
   module _ (s : start ≡ 0 → ⊥) where
-    map-step : judgeMapFile g v (suc (g .pages)) start pages-told
+    map-step : judgeMapFile g vs (suc (g .pages)) start pages-told
         ≡ andThen chainOf (λ ls. andThen (refuse-unless (eqb pages-told (length ls)) 8 0) (λ _. andThen (refuse-unless (eqb (length (content ls)) (bitmapSize g)) 8 0) (λ _. ok (inFile ls))))
     unfolding judgeMapFile
     map-step = simp (lt-ltb 0 start (omega arith), refuse-true, then-ok, test-file g)
 
-    module _ (t u : List ℕ) (z : t ≡ replicate (g .pages) 0) (r : Claim) (k : Claims g v (testOf g kind.File) 2 0 start t r u) where
-      pub map-refused : (n p : ℕ) → r ≡ claim.Refused n p → judgeMapFile g v (suc (g .pages)) start pages-told ≡ err n p
+    module _ (t u : List ℕ) (z : t ≡ replicate (g .pages) 0) (r : Claim) (k : Claims g (vs .pages) (testOf g kind.File) 2 0 start t r u) where
+      pub map-refused : (n p : ℕ) → r ≡ claim.Refused n p → judgeMapFile g vs (suc (g .pages)) start pages-told ≡ err n p
       map-refused n p i = simp (map-step, claim-refused chainOf 2 n p t u r (k [] (empty-table (g .pages) t z .0)) i, then-err)
 
       module _ (n b : ℕ) (i : r ≡ claim.Chain n b) where
         is-claimed : IsClaimed chainOf 2 n b t u
         is-claimed = claimed-chain chainOf 2 n b t u r (k [] (empty-table (g .pages) t z .0)) i
 
-        pub map-counted : (pages-told ≡ n → ⊥) → judgeMapFile g v (suc (g .pages)) start pages-told ≡ err 8 0
+        pub map-counted : (pages-told ≡ n → ⊥) → judgeMapFile g vs (suc (g .pages)) start pages-told ≡ err 8 0
         map-counted y = simp (map-step, is-claimed .chain-is, then-ok, ne-eqb pages-told (length (is-claimed .links)) (λ j. y (j ∙ sym (is-claimed .pages-are))), refuse-false, then-err)
 
         module _ (y : pages-told ≡ n) (m : ℕ) (e : m ≡ bitmapSize g) where
-          pub map-short : (b ≡ m → ⊥) → judgeMapFile g v (suc (g .pages)) start pages-told ≡ err 8 0
+          pub map-short : (b ≡ m → ⊥) → judgeMapFile g vs (suc (g .pages)) start pages-told ≡ err 8 0
           map-short x = simp (
             map-step,
             is-claimed .chain-is,
@@ -70,7 +70,7 @@ module _ (g : Geometry) (v : View) (start pages-told : ℕ) where
             then-err,
           )
 
-          pub map-done : b ≡ m → MapClaimed g v start pages-told (w.Done (noEntries n)) u
+          pub map-done : b ≡ m → MapClaimed g vs start pages-told (w.Done (noEntries n)) u
           unfolding MapClaimed
           map-done x = (
             inFile (is-claimed .links),

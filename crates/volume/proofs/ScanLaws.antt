@@ -23,23 +23,24 @@ use Rattle.rules.specs.Result.{Res, ok, err, andThen, andAfter, refuse-unless}
 use Rattle.rules.specs.ResultLaws.{ok-inj, clash, on-then, on-refuse, then-ok, then-err}
 use Rattle.rules.specs.PageSets.{count, Within}
 use Rattle.rules.specs.PageSetLaws.{count-append}
-use Rattle.rules.specs.Chain.{Link, content, packetAt, anyPage}
+use Rattle.rules.specs.Chain.{Views, viewsOf, Link, content, packetAt, anyPage}
 use Rattle.rules.specs.ChainLaws.{packet-good, length-pages, walk-sound}
 use Rattle.rules.specs.Tree.{Items, ownPages, innerPages, allPages, Map, inRoot, inFile, mapPages, used}
 use Rattle.rules.specs.Control.{theRoot, Head, headOf, mapStart, mapCount, rootPage, mostLocal, localAllowed, placeZeros, fieldAt}
 use Rattle.rules.specs.Owners.{own, owners}
-use Rattle.rules.specs.OwnerLaws.{nonzero, Represents, represents-none, represents-own, represents-length, inUse, length-own, represents-owners}
+use Rattle.owners.specs.Owned.{ownerAt, nonzero, Represents}
+use Rattle.owners.specs.OwnerLaws.{represents-none, represents-own, represents-length, inUse, length-own, represents-owners}
 use Rattle.rules.specs.Check.{Scan, rawBits, judgeBits, judgeMap, judgeDirectory, judgeSub, scan, check, scanWith, judgeMapFile}
 use Rattle.rules.specs.Soundness.{scan-sound}
 use Rattle.directory.specs.declared.control.Root.{Root}
 use Rattle.directory.specs.declared.control.Root.the-variants as root
 use Rattle.directory.specs.Faults.{control}
-use Rattle.walk.specs.declared.Walk.{Walk}
-use Rattle.walk.specs.declared.Walk.the-variants as w
+use Rattle.rules.specs.declared.Checked.{Checked}
+use Rattle.rules.specs.declared.Checked.the-variants as w
 use Rattle.walk.specs.Walks.{Answers, plusDirectory, ownDirectory}
 use Rattle.volume.specs.Scans.{rootOf, noEntries, MapClaimed, Scanned}
-use Rattle.chain.specs.KnownChain.{ChainStands}
-use Rattle.chain.proofs.Following.{chain-stands}
+use Rattle.chain.specs.KnownChain.{ChainAt}
+use Rattle.chain.proofs.Following.{chain-at}
 
 -- ---- page 0
 on-fault : {B C : Type 0} (t : Bool) (n p : ℕ) (r : Res B) (m q : ℕ) → andAfter (refuse-unless t n p) r ≡ err m q → (p ≡ q → C) → (r ≡ err m q → C) → C
@@ -67,55 +68,55 @@ head-local g b h e l =
     leb-true (g .pages) mostLocal (sym (choose-true _ _) ∙ ap (λ (x : Bool). choose x (localAllowed g) (placeZeros (g .width) (fieldAt (g .width) b))) (sym q) ∙ g₆)
 
 -- ---- what the root's control field says
-module _ (g : Geometry) (v : View) where
+module _ (g : Geometry) (vs : Views) where
   abbrev walked : Map → Res Items
-  walked m = judgeDirectory g v (suc (g .pages)) (judgeSub g v (suc (g .pages)) 8) (rootPage g) theRoot (mapPages m) 0
+  walked m = judgeDirectory g vs (suc (g .pages)) (judgeSub g vs (suc (g .pages)) 8) (rootPage g) theRoot (mapPages m) 0
 
   -- the rest of the scan, the bitmap's place known
   abbrev rest : Head → Map → Res Scan
   rest h m = andThen (walked m) (λ t. ok (record { image = record { tree = t; map = m }; raw = rawBits h m }))
 
   abbrev onHead : Head → Res Scan
-  onHead h = andThen (judgeMap g v (suc (g .pages)) h) (rest h)
+  onHead h = andThen (judgeMap g vs (suc (g .pages)) h) (rest h)
 
   pub record IsHead (h : Head) : Type 0 where
     pub bytes : List ℕ
     pub next : ℕ
-    pub packet : v 0 ≡ good bytes next
+    pub packet : vs .pages 0 ≡ good bytes next
     pub head : headOf g bytes ≡ ok h
 
-  from-head : (h : Head) → IsHead h → scan g v ≡ onHead h
+  from-head : (h : Head) → IsHead h → scan g vs ≡ onHead h
   unfolding scan scanWith
-  from-head h k = simp (packet-good v 0 (k .bytes) (k .next) (k .packet), then-ok, k .head)
+  from-head h k = simp (packet-good (vs .pages) 0 (k .bytes) (k .next) (k .packet), then-ok, k .head)
 
   -- the answer of the root's control field, by what stands in it
   pub data Said (r : Root) : Type 0 where
-    refused : (n : ℕ) → r ≡ root.Refused n → scan g v ≡ err n 0 → Said r
+    refused : (n : ℕ) → r ≡ root.Refused n → scan g vs ≡ err n 0 → Said r
     local : (h : Head) → IsHead h → r ≡ root.Local → h .local ≡ true → Said r
     remote : (h : Head) → IsHead h → r ≡ root.Remote (mapStart (g .width) h) (mapCount (g .width) h) → h .local ≡ false → Said r
 
-  bad-page : v 0 ≡ bad → scan g v ≡ err 2 0
+  bad-page : vs .pages 0 ≡ bad → scan g vs ≡ err 2 0
   unfolding scan scanWith packetAt
   bad-page e = simp (e, then-err)
 
-  bad-head : (b : List ℕ) (n k p : ℕ) → v 0 ≡ good b n → headOf g b ≡ err k p → scan g v ≡ err k 0
+  bad-head : (b : List ℕ) (n k p : ℕ) → vs .pages 0 ≡ good b n → headOf g b ≡ err k p → scan g vs ≡ err k 0
   unfolding scan scanWith
-  bad-head b n k p e q = let z : scan g v ≡ err k p = simp (packet-good v 0 b n e, then-ok, q, then-err) in z ∙ ap (err k) (sym (head-page g b k p q))
+  bad-head b n k p e q = let z : scan g vs ≡ err k p = simp (packet-good (vs .pages) 0 b n e, then-ok, q, then-err) in z ∙ ap (err k) (sym (head-page g b k p q))
 
   by-place : (r : Root) (h : Head) → IsHead h → (l : Bool) → h .local ≡ l → r ≡ choose l root.Local (root.Remote (mapStart (g .width) h) (mapCount (g .width) h)) → Said r
   by-place r h k true e q = local h k (q ∙ choose-true _ _) e
   by-place r h k false e q = remote h k (q ∙ choose-false _ _) e
 
-  by-head : (r : Root) (b : List ℕ) (n : ℕ) → v 0 ≡ good b n → (y : Res Head) → headOf g b ≡ y → r ≡ control (g .width) y → Said r
+  by-head : (r : Root) (b : List ℕ) (n : ℕ) → vs .pages 0 ≡ good b n → (y : Res Head) → headOf g b ≡ y → r ≡ control (g .width) y → Said r
   by-head r b n e (ok h) q i = by-place r h (record { bytes = b; next = n; packet = e; head = q }) (h .local) refl i
   by-head r b n e (err k p) q i = refused k i (bad-head b n k p e q)
 
-  by-packet : (r : Root) (x : Packet) → v 0 ≡ x → r ≡ rootOf g x → Said r
+  by-packet : (r : Root) (x : Packet) → vs .pages 0 ≡ x → r ≡ rootOf g x → Said r
   by-packet r bad e q = refused 2 q (bad-page e)
   by-packet r (good b n) e q = by-head r b n e (headOf g b) refl q
 
-  pub said : (r : Root) → r ≡ rootOf g (v 0) → Said r
-  said r q = by-packet r (v 0) refl q
+  pub said : (r : Root) → r ≡ rootOf g (vs .pages 0) → Said r
+  said r q = by-packet r (vs .pages 0) refl q
 
   -- ---- the three cases
   abbrev told : Root → ℕ
@@ -123,7 +124,7 @@ module _ (g : Geometry) (v : View) where
   told (root.Remote a b) = 1
   told (root.Refused n) = 2
 
-  pub scan-refused : (r : Root) (n : ℕ) → r ≡ rootOf g (v 0) → r ≡ root.Refused n → scan g v ≡ err n 0
+  pub scan-refused : (r : Root) (n : ℕ) → r ≡ rootOf g (vs .pages 0) → r ≡ root.Refused n → scan g vs ≡ err n 0
   scan-refused r n q i = elim (said r q) [
     | refused m j k ↦ k ∙ ap (λ (x : Root). err (number x) 0) (sym j ∙ i)
     | local h k j l ↦ absurd (let z : 0 ≡ 2 = ap told (sym j ∙ i) in omega arith)
@@ -138,10 +139,10 @@ module _ (g : Geometry) (v : View) where
   pub record InRoot : Type 0 where
     pub head : Head
     pub is-head : IsHead head
-    pub scan-is : scan g v ≡ rest head inRoot
+    pub scan-is : scan g vs ≡ rest head inRoot
     pub few : g .pages ≤ mostLocal
 
-  pub scan-local : (r : Root) → r ≡ rootOf g (v 0) → r ≡ root.Local → InRoot
+  pub scan-local : (r : Root) → r ≡ rootOf g (vs .pages 0) → r ≡ root.Local → InRoot
   unfolding judgeMap
   scan-local r q i = elim (said r q) [
     | refused m j k ↦ absurd (let z : 2 ≡ 0 = ap told (sym j ∙ i) in omega arith)
@@ -151,9 +152,9 @@ module _ (g : Geometry) (v : View) where
 
   pub record InFile (start n : ℕ) : Type 0 where
     pub head : Head
-    pub scan-is : scan g v ≡ andThen (judgeMapFile g v (suc (g .pages)) start n) (rest head)
+    pub scan-is : scan g vs ≡ andThen (judgeMapFile g vs (suc (g .pages)) start n) (rest head)
 
-  pub scan-remote : (r : Root) (start n : ℕ) → r ≡ rootOf g (v 0) → r ≡ root.Remote start n → InFile start n
+  pub scan-remote : (r : Root) (start n : ℕ) → r ≡ rootOf g (vs .pages 0) → r ≡ root.Remote start n → InFile start n
   unfolding judgeMap
   scan-remote r start n q i = elim (said r q) [
     | refused m j k ↦ absurd (let z : 2 ≡ 1 = ap told (sym j ∙ i) in omega arith)
@@ -178,8 +179,8 @@ module _ (g : Geometry) (v : View) where
   same-totals : (a b c d e f : ℕ) → a ≡ d → b ≡ e → c ≡ f → _≡_ {A = Totals} (record { used = a; files = b; directories = c }) (record { used = d; files = e; directories = f })
   same-totals a b c d e f p q r = λ i. record { used = p i; files = q i; directories = r i }
 
-  pub scan-from : (h : Head) (m : Map) → scan g v ≡ rest h m → (n : ℕ) (t : List ℕ) → n ≡ length (mapPages m) → t ≡ own 2 (mapPages m) (replicate (g .pages) 0) → (r : Walk) (u : List ℕ)
-      → Answers (plusDirectory (noEntries n)) (ownDirectory 1 0 t) (walked m) r u → Scanned g v r u
+  pub scan-from : (h : Head) (m : Map) → scan g vs ≡ rest h m → (n : ℕ) (t : List ℕ) → n ≡ length (mapPages m) → t ≡ own 2 (mapPages m) (replicate (g .pages) 0) → (r : Checked) (u : List ℕ)
+      → Answers (plusDirectory (noEntries n)) (ownDirectory 1 0 t) (walked m) r u → Scanned g vs r u
   scan-from h m e n t l z (w.Done d) u (i, a, b, k) = (
     record { image = record { tree = i; map = m }; raw = rawBits h m },
     e ∙ simp (a, then-ok),
@@ -199,25 +200,25 @@ mapped g m n t f l z =
     let N = g .pages in
     let e = length-replicate {A = ℕ} N 0 in
     let a = represents-own 2 (mapPages m) (replicate N 0) [] (omega arith) (represents-none N) (λ x. rw e (omega (arith, f x))) in
-    let r : Represents t (mapPages m) = λ x. omega (arith, a x, count-append x (mapPages m) [], ap (λ (y : List ℕ). nonzero (getD y x 0)) z) in
+    let r : Represents t (mapPages m) = λ x. omega (arith, a x, count-append x (mapPages m) [], ap (λ (y : List ℕ). nonzero (ownerAt y x)) z) in
     record { represents = r; long = ap length z ∙ length-own 2 (mapPages m) (replicate N 0) ∙ e; used-is = l ∙ sym (represents-length t (mapPages m) r) }
 
 -- what the bitmap file's claiming gives
-pub record FileMapped (g : Geometry) (v : View) (start count n : ℕ) (u : List ℕ) : Type 0 where
+pub record FileMapped (g : Geometry) (vs : Views) (start count n : ℕ) (u : List ℕ) : Type 0 where
   pub map : Map
-  pub map-is : judgeMapFile g v (suc (g .pages)) start count ≡ ok map
+  pub map-is : judgeMapFile g vs (suc (g .pages)) start count ≡ ok map
   pub pages-are : n ≡ length (mapPages map)
   pub table-is : u ≡ own 2 (mapPages map) (replicate (g .pages) 0)
   pub inside : Within (g .pages) (mapPages map)
   pub some : 1 ≤ n
 
-pub file-mapped : (g : Geometry) (v : View) (start count : ℕ) (r : Walk) (u : List ℕ) (d : Totals) → MapClaimed g v start count r u → r ≡ w.Done d → FileMapped g v start count (d .used) u
+pub file-mapped : (g : Geometry) (vs : Views) (start count : ℕ) (r : Checked) (u : List ℕ) (d : Totals) → MapClaimed g vs start count r u → r ≡ w.Done d → FileMapped g vs start count (d .used) u
 unfolding judgeMapFile MapClaimed
-file-mapped g v start count r u d k i =
-    let a : MapClaimed g v start count (w.Done d) u = subst (λ (x : Walk). MapClaimed g v start count x u) i k in
+file-mapped g vs start count r u d k i =
+    let a : MapClaimed g vs start count (w.Done d) u = subst (λ (x : Checked). MapClaimed g vs start count x u) i k in
     let n : d .used ≡ length (mapPages (a .0)) = ap (λ (x : Totals). x .used) (a .2) in
     on-refuse _ _ _ _ _ (a .1) λ g₁ q. on-then _ _ _ q λ ls y q. on-refuse _ _ _ _ _ q λ g₂ q. on-refuse _ _ _ _ _ q λ g₃ q.
-    let c = walk-sound (g .pages) v anyPage (suc (g .pages)) 0 [] 0 start ls (λ z. omega arith) y in
+    let c = walk-sound (g .pages) (vs .pages) anyPage (suc (g .pages)) 0 [] 0 start ls (λ z. omega arith) y in
     let m : inFile ls ≡ a .0 = ok-inj q in
     record {
       map = a .0;
@@ -228,15 +229,15 @@ file-mapped g v start count r u d k i =
       some = omega (arith, n, ap (λ (x : Map). length (mapPages x)) m, length-pages ls, c .some);
     }
 
-pub map-refused-is : (g : Geometry) (v : View) (start count : ℕ) (r : Walk) (u : List ℕ) (n p : ℕ) → MapClaimed g v start count r u → r ≡ w.Refused n p → judgeMapFile g v (suc (g .pages)) start count ≡ err n p
+pub map-refused-is : (g : Geometry) (vs : Views) (start count : ℕ) (r : Checked) (u : List ℕ) (n p : ℕ) → MapClaimed g vs start count r u → r ≡ w.Refused n p → judgeMapFile g vs (suc (g .pages)) start count ≡ err n p
 unfolding MapClaimed
-map-refused-is g v start count r u n p k i = subst (λ (x : Walk). MapClaimed g v start count x u) i k
+map-refused-is g vs start count r u n p k i = subst (λ (x : Checked). MapClaimed g vs start count x u) i k
 
-pub file-refused : (g : Geometry) (v : View) (start count n p : ℕ) → InFile g v start count → judgeMapFile g v (suc (g .pages)) start count ≡ err n p → scan g v ≡ err n p
-file-refused g v start count n p k e = k .scan-is ∙ ap (λ (x : Res Map). andThen x (rest g v (k .head))) e ∙ then-err n p (rest g v (k .head))
+pub file-refused : (g : Geometry) (vs : Views) (start count n p : ℕ) → InFile g vs start count → judgeMapFile g vs (suc (g .pages)) start count ≡ err n p → scan g vs ≡ err n p
+file-refused g vs start count n p k e = k .scan-is ∙ ap (λ (x : Res Map). andThen x (rest g vs (k .head))) e ∙ then-err n p (rest g vs (k .head))
 
-pub file-scan : (g : Geometry) (v : View) (start count n : ℕ) (u : List ℕ) (k : InFile g v start count) (m : FileMapped g v start count n u) → scan g v ≡ rest g v (k .head) (m .map)
-file-scan g v start count n u k m = k .scan-is ∙ ap (λ (x : Res Map). andThen x (rest g v (k .head))) (m .map-is) ∙ then-ok (m .map) (rest g v (k .head))
+pub file-scan : (g : Geometry) (vs : Views) (start count n : ℕ) (u : List ℕ) (k : InFile g vs start count) (m : FileMapped g vs start count n u) → scan g vs ≡ rest g vs (k .head) (m .map)
+file-scan g vs start count n u k m = k .scan-is ∙ ap (λ (x : Res Map). andThen x (rest g vs (k .head))) (m .map-is) ∙ then-ok (m .map) (rest g vs (k .head))
 
 -- ---- page 0 as the code reads it
 pub root-page : (g : Geometry) (image : List ℕ) (p : ℕ) (page : List ℕ) (j : Judged) → page ≡ pageOf g p image → j ≡ judged (packetOf (g .width) p page) → j ≡ judged (packetOf (g .width) p (pageOf g p image))
@@ -280,10 +281,10 @@ head-field g b h e =
     on-refuse _ _ _ _ _ e λ g₁ e. on-refuse _ _ _ _ _ e λ g₂ e. on-refuse _ _ _ _ _ e λ g₃ e. on-refuse _ _ _ _ _ e λ g₄ e. on-refuse _ _ _ _ _ e λ g₅ e. on-refuse _ _ _ _ _ e λ g₆ e.
     (ap (λ (x : Head). x .field) (sym (ok-inj e)), leb-true (controlSize g) (length b) g₁)
 
-scanned-raw : (g : Geometry) (v : View) (h : Head) (m : Map) (s : Scan) → rest g v h m ≡ ok s → s .raw ≡ rawBits h m
-scanned-raw g v h m s e = on-then _ _ _ e λ t a e. ap (λ (x : Scan). x .raw) (sym (ok-inj e))
+scanned-raw : (g : Geometry) (vs : Views) (h : Head) (m : Map) (s : Scan) → rest g vs h m ≡ ok s → s .raw ≡ rawBits h m
+scanned-raw g vs h m s e = on-then _ _ _ e λ t a e. ap (λ (x : Scan). x .raw) (sym (ok-inj e))
 
-pub raw-local : (g : Geometry) (image : List ℕ) (k : InRoot g (viewOf g image)) (s : Scan) → scan g (viewOf g image) ≡ ok s → s .raw ≡ take 4 (drop (3 + g .width) (pageOf g 0 image))
+pub raw-local : (g : Geometry) (image : List ℕ) (k : InRoot g (viewsOf g image)) (s : Scan) → scan g (viewsOf g image) ≡ ok s → s .raw ≡ take 4 (drop (3 + g .width) (pageOf g 0 image))
 unfolding viewOf controlSize
 raw-local g image k s e =
     let n = g .width in
@@ -291,37 +292,38 @@ raw-local g image k s e =
     let b = k .is-head .bytes in
     let r = right-packet n 0 page b (k .is-head .next) (k .is-head .packet) in
     let f = head-field g b (k .head) (k .is-head .head) in
-    let d : drop (n + 2) b ≡ take (length b - (n + 2)) (drop (1 + (n + 2)) page) = ap (drop (n + 2)) (r .bytes-are) ∙ drop-of-take (n + 2) (length b) (drop 1 page) (omega (arith, f .1)) ∙ ap (take (length b - (n + 2))) (drop-drop (n + 2) 1 page) in
+    let d : drop (n + 2) b ≡ take (length b - (n + 2)) (drop (1 + (n + 2)) page) =
+    ap (drop (n + 2)) (r .bytes-are) ∙ drop-of-take (n + 2) (length b) (drop 1 page) (omega (arith, f .1)) ∙ ap (take (length b - (n + 2))) (drop-drop (n + 2) 1 page) in
     let a : 1 + (n + 2) ≡ 3 + n = omega arith in
-    scanned-raw g (viewOf g image) (k .head) inRoot s (sym (k .scan-is) ∙ e) ∙ f .0 ∙ ap (take 4) d ∙ take-take 4 (length b - (n + 2)) (drop (1 + (n + 2)) page) (omega (arith, f .1)) ∙ ap (λ (x : ℕ). take 4 (drop x page)) a
+    scanned-raw g (viewsOf g image) (k .head) inRoot s (sym (k .scan-is) ∙ e) ∙ f .0 ∙ ap (take 4) d ∙ take-take 4 (length b - (n + 2)) (drop (1 + (n + 2)) page) (omega (arith, f .1)) ∙ ap (λ (x : ℕ). take 4 (drop x page)) a
 
 -- in a file: its content
 pub record RawFile (g : Geometry) (v : View) (start : ℕ) (s : Scan) : Type 0 where
   pub links : List Link
-  pub chain : ChainStands g v start links
+  pub chain : ChainAt g v start links
   pub raw-is : s .raw ≡ content links
 
-pub raw-file : (g : Geometry) (v : View) (start count : ℕ) (k : InFile g v start count) (s : Scan) → scan g v ≡ ok s → RawFile g v start s
+pub raw-file : (g : Geometry) (vs : Views) (start count : ℕ) (k : InFile g vs start count) (s : Scan) → scan g vs ≡ ok s → RawFile g (vs .pages) start s
 unfolding judgeMapFile
-raw-file g v start count k s e =
+raw-file g vs start count k s e =
     on-then _ _ _ (sym (k .scan-is) ∙ e) λ m q z. on-refuse _ _ _ _ _ q λ g₁ q. on-then _ _ _ q λ ls y q. on-refuse _ _ _ _ _ q λ g₂ q. on-refuse _ _ _ _ _ q λ g₃ q.
-    let c = walk-sound (g .pages) v anyPage (suc (g .pages)) 0 [] 0 start ls (λ x. omega arith) y in
-    record { links = ls; chain = chain-stands g v anyPage [] start ls c; raw-is = scanned-raw g v (k .head) m s z ∙ ap (rawBits (k .head)) (sym (ok-inj q)) }
+    let c = walk-sound (g .pages) (vs .pages) anyPage (suc (g .pages)) 0 [] 0 start ls (λ x. omega arith) y in
+    record { links = ls; chain = chain-at g (vs .pages) anyPage [] start ls c; raw-is = scanned-raw g vs (k .head) m s z ∙ ap (rawBits (k .head)) (sym (ok-inj q)) }
 
 -- ---- the check from its halves
-module _ (g : Geometry) (v : View) where
-  pub check-refused : (n p : ℕ) → scan g v ≡ err n p → check g v ≡ err n p
+module _ (g : Geometry) (vs : Views) where
+  pub check-refused : (n p : ℕ) → scan g vs ≡ err n p → check g vs ≡ err n p
   unfolding check
   check-refused n p e = simp (e, then-err)
 
-  module _ (s : Scan) (e : scan g v ≡ ok s) where
-    pub check-differs : (d : ℕ) → judgeBits (s .raw) (used (s .image)) ≡ err 13 d → check g v ≡ err 13 d
+  module _ (s : Scan) (e : scan g vs ≡ ok s) where
+    pub check-differs : (d : ℕ) → judgeBits (s .raw) (used (s .image)) ≡ err 13 d → check g vs ≡ err 13 d
     unfolding check
     check-differs d q = simp (e, then-ok, q, then-err)
 
-    pub check-same : judgeBits (s .raw) (used (s .image)) ≡ ok tt → check g v ≡ ok (s .image)
+    pub check-same : judgeBits (s .raw) (used (s .image)) ≡ ok tt → check g vs ≡ ok (s .image)
     unfolding check
     check-same q = simp (e, then-ok, q)
 
     pub scan-table : (u : List ℕ) → u ≡ owners (g .pages) (s .image) → Represents u (used (s .image))
-    scan-table u q = subst (λ (x : List ℕ). Represents x (used (s .image))) (sym q) (represents-owners (g .pages) (s .image) (scan-sound g v s e .clear))
+    scan-table u q = subst (λ (x : List ℕ). Represents x (used (s .image))) (sym q) (represents-owners (g .pages) (s .image) (scan-sound g vs s e .clear))

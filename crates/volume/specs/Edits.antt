@@ -3,15 +3,15 @@ use mathlib.Core.Path.{_≡_}
 use mathlib.Core.List.{List}
 use Prim.Native.Nat.{ℕ}
 use Rattle.geometry.specs.declared.Geometry.{Geometry}
-use Rattle.packet.specs.Packet.{viewOf}
 use Rattle.geometry.specs.Number.{Bytes}
 use Rattle.rules.specs.Result.{Res, ok, err}
+use Rattle.rules.specs.Chain.{viewsOf}
 use Rattle.rules.specs.Tree.{Image}
 use Rattle.rules.specs.Check.{check}
 use Rattle.rules.specs.Owners.{owners}
-use Rattle.walk.specs.declared.Walk.{Walk}
-use Rattle.volume.specs.declared.Edited.{Edited}
-use Rattle.volume.specs.Told.{editTold}
+use Rattle.rules.specs.declared.Checked.{Checked}
+use Rattle.rules.specs.declared.Edited.{Edited}
+use Rattle.rules.specs.Answers.{editResult}
 use Rattle.volume.specs.Scans.{TableChecked}
 
 -- the answer of an edit and the image that it leaves
@@ -20,17 +20,17 @@ leaves image (ok after) = (ok tt, after)
 leaves image (err n p) = (err n p, image)
 
 abbrev pub Answered : List ℕ → Res (List ℕ) → Edited → List ℕ → Type 0
-Answered image rule r after = _≡_ {A = Res (Unit {0}) × List ℕ} (editTold r, after) (leaves image rule)
+Answered image rule r after = _≡_ {A = Res (Unit {0}) × List ℕ} (editResult r, after) (leaves image rule)
 
 -- the image is accepted, and the table tells of it
 pub record TableOf (g : Geometry) (image table : List ℕ) : Type 0 where
   pub bytes : Bytes image
   pub tree : Image
-  pub accepted : check g (viewOf g image) ≡ ok tree
+  pub accepted : check g (viewsOf g image) ≡ ok tree
   pub table-is : table ≡ owners (g .pages) tree
 
 -- an edit in its geometry: its answer, the image, and the table of the image as it then stands
 pub record EditLeaves (g : Geometry) (image : List ℕ) (rule : Res (List ℕ)) (r : Edited) (after table : List ℕ) : Type 0 where
   pub answers : Answered image rule r after
-  pub check : Walk
-  pub checked : TableChecked g (viewOf g after) check table
+  pub check : Checked
+  pub checked : TableChecked g (viewsOf g after) check table

@@ -12,42 +12,27 @@ use geometry::MOST_LEVELS;
 use geometry::ROOT_OWNER;
 use geometry::Shape;
 use packet::Judged;
+use rules::Checked;
 use rules::Totals;
-use walk::Walk;
 ghost use mathlib.Core.Path.{_≡_};
 ghost use Prim.Native.Nat.{_+_, _≤_, _<_};
-ghost use lib.ListN.{length, replicate};
+ghost use lib.ListN.{length};
 ghost use Rattle.geometry.specs.Geometry.{Fit};
 ghost use Rattle.packet.specs.Packet.{viewOf};
-ghost use Rattle.rules.specs.OwnerLaws.{inUse};
+ghost use Rattle.owners.specs.Owned.{allFree};
+ghost use Rattle.owners.specs.OwnerLaws.{inUse};
 ghost use Rattle.rules.specs.Result.{IsOk};
+ghost use Rattle.rules.specs.Chain.{viewsOf};
 ghost use Rattle.rules.specs.Promises.{Accepts};
-ghost use Rattle.volume.specs.Told.{told};
+ghost use Rattle.rules.specs.Answers.{checkResult};
 ghost use Rattle.volume.specs.Scans.{rootOf, MapClaimed, RootWalked, Scanned, IsScanned, BitsCompared, TableChecked};
 ghost use Rattle.rules.specs.Calls.{checkCall};
-
-// What an edit answers: done, or the number of a refusal of document 01 and its page.
-pub enum Edited {
-    Done,
-    Refused(u8, usize),
-}
 
 // `ROOT`, the first byte lowest.
 const ROOT: u32 = 0x544F4F52;
 
 // Where the four bitmap bytes stand in page 0, past the map address.
 const FIELD_AT: usize = LENGTH_BYTES + BITMAP_FIELD_PAST;
-
-// Makes every page free.
-fn clear(owners: &mut [u16])
-    ensures { λ _. ⌜ now (owners .exit) ≡ replicate (length (now (owners .entry))) 0 ⌝ }
-{
-    let mut i = 0;
-    while i < owners.len() {
-        owners[i] = 0;
-        i += 1;
-    }
-}
 
 // Reads the root's control field from page 0; its packet may be wrong (2).
 fn root_of(image: &[u8], g: Geometry) -> Root
@@ -64,24 +49,24 @@ fn root_of(image: &[u8], g: Geometry) -> Root
 }
 
 // Claims the bitmap file: its start page (6), its chain, its page count (8), its bytes (8).
-fn claim_map(image: &[u8], g: Geometry, start: usize, count: usize, owners: &mut [u16]) -> Walk
+fn claim_map(image: &[u8], g: Geometry, start: usize, count: usize, table: &mut [u16]) -> Checked
     requires { ⌜ Fit g (now image) ⌝ }
-    requires { ⌜ now owners ≡ replicate (g .pages) 0 ⌝ }
-    ensures { λ r. ⌜ MapClaimed g (viewOf g (now (image .entry))) start count r (now (owners .exit)) ⌝ }
+    requires { ⌜ now table ≡ allFree (g .pages) ⌝ }
+    ensures { λ r. ⌜ MapClaimed g (viewsOf g (now (image .entry))) start count r (now (table .exit)) ⌝ }
 {
     if start == 0 {
-        return Walk::Refused(6, 0);
+        return Checked::Refused(6, 0);
     }
-    match chain::claim_chain(image, g, Kind::File, MAP_OWNER, 0, start, owners) {
-        Claim::Refused(number, told) => Walk::Refused(number, told),
+    match chain::claim_chain(image, g, Kind::File, MAP_OWNER, 0, start, table) {
+        Claim::Refused(number, at) => Checked::Refused(number, at),
         Claim::Chain(pages, bytes) => {
             if count != pages {
-                return Walk::Refused(8, 0);
+                return Checked::Refused(8, 0);
             }
             if bytes != g.bitmap_size() {
-                return Walk::Refused(8, 0);
+                return Checked::Refused(8, 0);
             }
-            Walk::Done(Totals {
+            Checked::Done(Totals {
                 used: pages,
                 files: 0,
                 directories: 0,
@@ -91,10 +76,10 @@ fn claim_map(image: &[u8], g: Geometry, start: usize, count: usize, owners: &mut
 }
 
 // Walks the root and all below it; the bitmap file has so many pages.
-fn walk_root(image: &[u8], g: Geometry, used: usize, owners: &mut [u16]) -> Walk
+fn walk_root(image: &[u8], g: Geometry, used: usize, table: &mut [u16]) -> Checked
     requires { ⌜ Fit g (now image) ⌝ }
-    requires { ⌜ (length (now owners) ≡ g .pages) × (used ≡ inUse (now owners)) × (65532 < g .pages → 1 ≤ used) ⌝ }
-    ensures { λ r. ⌜ RootWalked g (viewOf g (now (image .entry))) used (now (owners .entry)) r (now (owners .exit)) ⌝ }
+    requires { ⌜ (length (now table) ≡ g .pages) × (used ≡ inUse (now table)) × (65532 < g .pages → 1 ≤ used) ⌝ }
+    ensures { λ r. ⌜ RootWalked g (viewsOf g (now (image .entry))) used (now (table .entry)) r (now (table .exit)) ⌝ }
 {
     let totals = Totals {
         used,
@@ -111,31 +96,31 @@ fn walk_root(image: &[u8], g: Geometry, used: usize, owners: &mut [u16]) -> Walk
         0,
         ROOT_OWNER,
         totals,
-        owners,
+        table,
     )
 }
 
 // The first half of the check, over an empty table: all but the bits of the bitmap.
-fn scan(image: &[u8], g: Geometry, root: Root, owners: &mut [u16]) -> Walk
+fn scan(image: &[u8], g: Geometry, root: Root, table: &mut [u16]) -> Checked
     requires { ⌜ Fit g (now image) ⌝ }
-    requires { ⌜ (now owners ≡ replicate (g .pages) 0) × (root ≡ rootOf g (viewOf g (now image) 0)) ⌝ }
-    ensures { λ r. ⌜ Scanned g (viewOf g (now (image .entry))) r (now (owners .exit)) ⌝ }
+    requires { ⌜ (now table ≡ allFree (g .pages)) × (root ≡ rootOf g (viewOf g (now image) 0)) ⌝ }
+    ensures { λ r. ⌜ Scanned g (viewsOf g (now (image .entry))) r (now (table .exit)) ⌝ }
 {
     match root {
-        Root::Refused(number) => Walk::Refused(number, 0),
-        Root::Local => walk_root(image, g, 0, owners),
-        Root::Remote(start, count) => match claim_map(image, g, start, count, owners) {
-            Walk::Refused(number, told) => Walk::Refused(number, told),
-            Walk::Done(map) => walk_root(image, g, map.used, owners),
+        Root::Refused(number) => Checked::Refused(number, 0),
+        Root::Local => walk_root(image, g, 0, table),
+        Root::Remote(start, count) => match claim_map(image, g, start, count, table) {
+            Checked::Refused(number, at) => Checked::Refused(number, at),
+            Checked::Done(map) => walk_root(image, g, map.used, table),
         },
     }
 }
 
 // The second half: the bits of the bitmap where the root's control field places it.
-fn compare(image: &[u8], g: Geometry, root: Root, owners: &[u16]) -> Bits
+fn compare(image: &[u8], g: Geometry, root: Root, table: &[u16]) -> Bits
     requires { ⌜ Fit g (now image) ⌝ }
-    requires { ⌜ (root ≡ rootOf g (viewOf g (now image) 0)) × IsScanned g (viewOf g (now image)) ⌝ }
-    ensures { λ r. ⌜ BitsCompared g (viewOf g (now (image .entry))) (now (owners .entry)) r ⌝ }
+    requires { ⌜ (root ≡ rootOf g (viewOf g (now image) 0)) × IsScanned g (viewsOf g (now image)) ⌝ }
+    ensures { λ r. ⌜ BitsCompared g (viewsOf g (now (image .entry))) (now (table .entry)) r ⌝ }
 {
     match root {
         // a refused root was never scanned
@@ -144,45 +129,45 @@ fn compare(image: &[u8], g: Geometry, root: Root, owners: &[u16]) -> Bits
             let at = FIELD_AT + g.width;
             let end = at + BITMAP_FIELD_BYTES;
             let page = geometry::page_of(image, g, 0);
-            bitmap::compare_local(&page[at..end], owners)
+            bitmap::compare_local(&page[at..end], table)
         }
-        Root::Remote(start, _) => bitmap::compare_chain(image, g, start, owners),
+        Root::Remote(start, _) => bitmap::compare_chain(image, g, start, table),
     }
 }
 
 // Checks an image whose geometry is known and fills the table, or leaves it empty.
-pub fn check_table(image: &[u8], g: Geometry, owners: &mut [u16]) -> Walk
+pub fn check_table(image: &[u8], g: Geometry, table: &mut [u16]) -> Checked
     requires { ⌜ Fit g (now image) ⌝ }
-    requires { ⌜ length (now owners) ≡ g .pages ⌝ }
-    ensures { λ r. ⌜ TableChecked g (viewOf g (now (image .entry))) r (now (owners .exit)) ⌝ }
+    requires { ⌜ length (now table) ≡ g .pages ⌝ }
+    ensures { λ r. ⌜ TableChecked g (viewsOf g (now (image .entry))) r (now (table .exit)) ⌝ }
 {
-    clear(owners);
+    owners::clear(table);
     let root = root_of(image, g);
-    match scan(image, g, root, owners) {
-        Walk::Refused(number, page) => {
-            clear(owners);
-            Walk::Refused(number, page)
+    match scan(image, g, root, table) {
+        Checked::Refused(number, page) => {
+            owners::clear(table);
+            Checked::Refused(number, page)
         }
-        Walk::Done(totals) => match compare(image, g, root, owners) {
+        Checked::Done(totals) => match compare(image, g, root, table) {
             Bits::Differ(bit) => {
-                clear(owners);
-                Walk::Refused(13, bit)
+                owners::clear(table);
+                Checked::Refused(13, bit)
             }
-            Bits::Same => Walk::Done(totals),
+            Bits::Same => Checked::Done(totals),
         },
     }
 }
 
 // Checks an image in its geometry: pages in use, files and directories, or the first fault. Fills the owner table.
-pub fn check(image: &[u8], size: u32, pages: u32, owners: &mut [u16]) -> Walk
-    ensures { λ r. ⌜ (told r, now (owners .exit)) ≡ checkCall size pages (now (image .entry)) (now (owners .entry)) ⌝ }
-    ensures { λ r. ⌜ Accepts size pages (now (image .entry)) (now (owners .entry)) (IsOk (told r)) ⌝ }
+pub fn check(image: &[u8], size: u32, pages: u32, table: &mut [u16]) -> Checked
+    ensures { λ r. ⌜ (checkResult r, now (table .exit)) ≡ checkCall size pages (now (image .entry)) (now (table .entry)) ⌝ }
+    ensures { λ r. ⌜ Accepts size pages (now (image .entry)) (now (table .entry)) (IsOk (checkResult r)) ⌝ }
 {
-    match Geometry::new(size, pages, image.len(), owners.len()) {
-        Shape::Wrong => Walk::Refused(1, 0),
+    match Geometry::new(size, pages, image.len(), table.len()) {
+        Shape::Invalid => Checked::Refused(1, 0),
         Shape::Fits(g) => {
             let n = g.pages;
-            check_table(image, g, &mut owners[..n])
+            check_table(image, g, &mut table[..n])
         }
     }
 }

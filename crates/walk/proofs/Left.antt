@@ -1,180 +1,186 @@
 -- The walk over a directory's entries as the code goes: a place in the chain, what was met, and that whatever answers what is left answers all.
 use mathlib.Core.Path.{_≡_, refl, ap, ap₂, sym, _∙_, subst}
-use mathlib.Core.List.{List, [], _∷_, _++_, append-assoc}
-use Prim.Native.Nat.{ℕ, suc, _+_, _*_, _≤_, _<_}
+use mathlib.Core.List.{List, [], _∷_, _++_, append-assoc, append-nil}
+use Prim.Native.Nat.{ℕ, suc, _+_, _-_, _≤_, _<_}
 use native.Mathlib.Omega.{arith}
 use lib.Dec.{ltb}
-use lib.ListN.{length, take, drop, length-append}
+use lib.ListN.{length, take, length-append}
 use lib.Seq.{take-append-seam}
 use Rattle.geometry.specs.declared.Geometry.{Geometry}
-use Rattle.geometry.specs.Geometry.{entrySize, controlSize, Fit}
-use Rattle.geometry.specs.Page.{pageOf}
-use Rattle.packet.specs.Packet.{View, viewOf}
+use Rattle.geometry.specs.Geometry.{controlSize}
 use Rattle.rules.specs.declared.Entry.{Entry}
 use Rattle.rules.specs.declared.Totals.{Totals}
-use Rattle.rules.specs.Result.{ok}
+use Rattle.rules.specs.Result.{Res, ok}
 use Rattle.rules.specs.PageSets.{count, mem, Within}
 use Rattle.rules.specs.PageSetLaws.{count-append}
-use Rattle.rules.specs.Chain.{Link}
-use Rattle.rules.specs.Names.{key, entryOf}
+use Rattle.rules.specs.Chain.{Views, Link}
+use Rattle.rules.specs.Names.{key}
 use Rattle.rules.specs.Tree.{Token, entry, linkTokens}
-use Rattle.rules.specs.Control.{Above}
-use Rattle.rules.specs.OwnerLaws.{Represents, represents-within, taken, represents-taken}
-use Rattle.rules.specs.Check.{Part, partPages, judgeEntry, judgeSub}
+use Rattle.rules.specs.TreeLaws.{pageTokens}
+use Rattle.rules.specs.Control.{Parent}
+use Rattle.owners.specs.Owned.{Represents}
+use Rattle.owners.specs.OwnerLaws.{represents-within, taken, represents-taken}
+use Rattle.rules.specs.Check.{Part, partPages, Judge, judgeEntry, judgeSub}
 use Rattle.rules.specs.Soundness.{entry-sound, sub-sound}
-use Rattle.chain.specs.Claims.{IsGood, Counted}
-use Rattle.chain.specs.Steps.{firstStep}
+use Rattle.chain.specs.KnownChain.{ChainAt, KnownChain}
 use Rattle.entries.specs.declared.Slot.{Slot}
-use Rattle.entries.specs.EntrySlots.{chainKeys, openOf, advanced, HasEntries}
-use Rattle.entries.proofs.TokensAt.{TokensAt, EntryAt, tokenKeys, token-keys, first-page, next-entry, no-more, page-after, next-tokens}
-use Rattle.walk.specs.declared.Walk.{Walk}
-use Rattle.walk.specs.declared.Walk.the-variants as w
+use Rattle.entries.specs.EntrySlots.{chainKeys, advanced, HasEntries, CountsEntries}
+use Rattle.entries.specs.TokensAt.{TokensAt, InDirectory, Begins, IsEntry, NextEntry, NoEntry}
+use Rattle.entries.proofs.TokenLaws.{tokenKeys, token-keys, keys-pages}
+use Rattle.entries.proofs.Stepping.{ReadAhead, read-ahead}
+use Rattle.rules.specs.declared.Checked.{Checked}
+use Rattle.rules.specs.declared.Checked.the-variants as w
 use Rattle.walk.specs.Walks.{Good, Answers, plusPart, ownPart, Met, EntryWalked}
-use Rattle.walk.proofs.Steps.{represents-part, good-part, Rest, rest-end, rest-page, rest-refused, rest-entry}
-use Rattle.chain.specs.KnownChain.{ChainStands, KnownChain}
+use Rattle.walk.proofs.Steps.{represents-part, good-part, Rest, rest-end, rest-page, rest-pages, rest-refused, rest-entry}
 
 -- ---- what is left
-module _ (g : Geometry) (v : View) (levels name start : ℕ) where
-  abbrev pub here : Above
+module _ (g : Geometry) (vs : Views) (levels name start : ℕ) where
+  abbrev pub here : Parent
   here = record { name = name; start = start }
 
-  abbrev pub LeftOver : List ℕ → ℕ → List ℕ → List Token → Totals → List ℕ → Walk → List ℕ → Type 0
-  LeftOver = Rest g v (judgeSub g v (suc (g .pages)) levels) here
+  abbrev pub LeftOver : List ℕ → ℕ → List ℕ → List Token → Totals → List ℕ → Checked → List ℕ → Type 0
+  LeftOver = Rest g vs (judgeSub g vs (suc (g .pages)) levels) here
 
-  -- after m entries of the chain ls₀, whose walk began with the totals c₀ and the table t₀
+  -- all entries of a chain, whose walk begins with these totals, this table and these pages claimed
+  abbrev pub Whole : Totals → List ℕ → List ℕ → List Link → Checked → List ℕ → Type 0
+  Whole c t claimed ls = LeftOver claimed start [] (linkTokens g (controlSize g) ls) c t
+
+  -- after m entries of the chain ls₀
   pub record Left (c₀ : Totals) (t₀ claimed₀ : List ℕ) (ls₀ : List Link) (t : List ℕ) (c : Totals) (s : Slot) (m : ℕ) : Type 0 where
+    pub chain : ChainAt g (vs .pages) start ls₀
     pub claimed : List ℕ
     pub seen : List ℕ
     pub before : List ℕ
     pub ts : List Token
     pub represents : Represents t claimed
     pub good-totals : Good g c t
-    pub ahead : TokensAt g v (length ls₀) s ts
+    pub ahead : TokensAt g (vs .pages) s ts
     pub keys-are : chainKeys g (controlSize g) ls₀ ≡ before ++ tokenKeys ts
     pub met : length before ≡ m
     pub same : (k : ℕ) → count k seen ≡ count k before
-    pub finish : (r : Walk) (u : List ℕ) → LeftOver claimed (s .page) seen ts c t r u → LeftOver claimed₀ start [] (linkTokens g (controlSize g) ls₀) c₀ t₀ r u
+    pub finish : (r : Checked) (u : List ℕ) → LeftOver claimed (s .page) seen ts c t r u → Whole c₀ t₀ claimed₀ ls₀ r u
 
--- ---- over the image
-module _ (g : Geometry) (image : List ℕ) (fit : Fit g image) (levels name start : ℕ) (c₀ : Totals) (t₀ claimed₀ : List ℕ) (ls₀ : List Link) (chain : ChainStands g (viewOf g image) start ls₀) where
-  abbrev v : View
-  v = viewOf g image
+same-left : {g : Geometry} {vs : Views} {levels name start : ℕ} {c₀ : Totals} {t₀ claimed₀ : List ℕ} {ls₀ : List Link} {t t′ : List ℕ} {c c′ : Totals} {s s′ : Slot} {m m′ : ℕ} → t ≡ t′ → c ≡ c′ → s ≡ s′ → m ≡ m′
+    → Left g vs levels name start c₀ t₀ claimed₀ ls₀ t′ c′ s′ m′ → Left g vs levels name start c₀ t₀ claimed₀ ls₀ t c s m
+same-left p q r h L = rw (p, q, r, h) L
 
-  abbrev pub Now : List ℕ → Totals → Slot → ℕ → Type 0
-  Now = Left g v levels name start c₀ t₀ claimed₀ ls₀
+-- the first page
+pub left-first : {g : Geometry} {vs : Views} (levels name start : ℕ) {c : Totals} {t claimed : List ℕ} {ls : List Link} {s : Slot} (n : ℕ)
+    → Begins g (vs .pages) start s → ChainAt g (vs .pages) start ls → 0 ≡ n → Represents t claimed → Good g c t → Left g vs levels name start c t claimed ls t c s n
+left-first {g} {vs} levels name start {c} {t} {claimed} {ls} {s} n b d z r h =
+    let p = b ls d in
+    record {
+      chain = d;
+      claimed = claimed;
+      seen = [];
+      before = [];
+      ts = p .later;
+      represents = r;
+      good-totals = h;
+      ahead = p .ahead;
+      keys-are = sym (token-keys g (controlSize g) ls) ∙ ap tokenKeys (p .split);
+      met = z;
+      same = λ k. refl;
+      finish = λ x u a. subst (λ (y : List Token). LeftOver g vs levels name start claimed start [] y c t x u) (sym (p .split))
+          (rest-page g vs (judgeSub g vs (suc (g .pages)) levels) (here g vs levels name start) claimed start [] (s .page) (p .later) c t x u a);
+    }
 
-  abbrev pub Whole : Walk → List ℕ → Type 0
-  Whole = LeftOver g v levels name start claimed₀ start [] (linkTokens g (controlSize g) ls₀) c₀ t₀
+module _ {g : Geometry} {vs : Views} {levels name start : ℕ} {c₀ : Totals} {t₀ claimed₀ : List ℕ} {ls₀ : List Link} {t : List ℕ} {c : Totals} {s : Slot} {m : ℕ}
+    (L : Left g vs levels name start c₀ t₀ claimed₀ ls₀ t c s m) where
+  open Left L using (chain, claimed, seen, before, ts, represents, good-totals, ahead, keys-are, met, same, finish)
 
-  module _ (t : List ℕ) (c : Totals) (s : Slot) (m : ℕ) (L : Now t c s m) where
-    open Left L using (claimed, seen, before, ts, represents, good-totals, ahead, keys-are, met, same, finish)
+  abbrev sub : Judge
+  sub = judgeSub g vs (suc (g .pages)) levels
 
-    -- the entries met are the chain's first
-    all-keys : length (chainKeys g (controlSize g) ls₀) ≡ m + length (tokenKeys ts)
-    all-keys = ap length keys-are ∙ length-append before (tokenKeys ts) ∙ ap (λ (n : ℕ). n + length (tokenKeys ts)) met
+  abbrev dir : Parent
+  dir = here g vs levels name start
 
-    pub left-known : HasEntries g v start m
-    left-known = record { links = ls₀; chain = chain; enough = omega (arith, all-keys) }
+  pub left-in : InDirectory g (vs .pages) s
+  left-in = record { ts = ts; ahead = ahead }
 
-    met-names : (k : ℕ) → Met g v start m k seen
-    met-names k =
-        (ls₀, chain, omega (arith, all-keys), ap (ltb 0) (same k) ∙ ap (mem k) (sym (take-append-seam before (tokenKeys ts))) ∙ ap₂ (λ (i : ℕ) (l : List ℕ). mem k (take i l)) met (sym keys-are))
+  -- the entries met are the chain's first
+  all-keys : length (chainKeys g (controlSize g) ls₀) ≡ m + length (tokenKeys ts)
+  all-keys = ap length keys-are ∙ length-append before (tokenKeys ts) ∙ ap (λ (n : ℕ). n + length (tokenKeys ts)) met
 
-    module _ (i : s .at < s .count) (e : Entry) (q : e ≡ entryOf (g .width) (drop (1 + s .skip + entrySize g * s .at) (pageOf g (s .page) image))) where
-      read : EntryAt g v (length ls₀) s e ts
-      read = next-entry g image fit (length ls₀) s ts ahead i e q
+  pub left-known : HasEntries g (vs .pages) start m
+  left-known = record { links = ls₀; chain = chain; enough = omega (arith, all-keys) }
 
-      -- there is one entry more
-      pub one-left : m < length (chainKeys g (controlSize g) ls₀)
-      one-left = omega (arith, all-keys, ap (λ (x : List Token). length (tokenKeys x)) (read .split))
+  met-names : (k : ℕ) → Met g (vs .pages) start m k seen
+  met-names k =
+      (ls₀, chain, omega (arith, all-keys), ap (ltb 0) (same k) ∙ ap (mem k) (sym (take-append-seam before (tokenKeys ts))) ∙ ap₂ (λ (i : ℕ) (l : List ℕ). mem k (take i l)) met (sym keys-are))
 
-      on-tokens : (r : Walk) (u : List ℕ) → LeftOver g v levels name start claimed (s .page) seen (entry e ∷ read .later) c t r u → Whole r u
-      on-tokens r u z = finish r u (subst (λ (x : List Token). LeftOver g v levels name start claimed (s .page) seen x c t r u) (sym (read .split)) z)
+  -- no entry is left
+  pub left-done : ((ts : List Token) → TokensAt g (vs .pages) s ts → NoEntry ts) → Whole g vs levels name start c₀ t₀ claimed₀ ls₀ (w.Done c) t
+  left-done n =
+      let o = n ts ahead in
+      let all : pageTokens (o .pages) ++ [] ≡ ts = append-nil (pageTokens (o .pages)) ∙ sym (o .are) in
+      finish (w.Done c) t (subst (λ (x : List Token). LeftOver g vs levels name start claimed (s .page) seen x c t (w.Done c) t) all
+      (rest-pages g vs sub dir claimed (s .page) seen (o .pages) [] c t (w.Done c) t
+      (rest-end g vs sub dir claimed _ seen c t)))
 
-      module _ (r : Walk) (u : List ℕ) (z : EntryWalked g v levels name start (s .page) m e c t r u) where
-        answered : (x : Walk) → r ≡ x → Answers (plusPart c) (ownPart (c .files + c .directories) t) (judgeEntry g v (suc (g .pages)) (judgeSub g v (suc (g .pages)) levels) (here g v levels name start) claimed (s .page) seen e) x u
-        answered x o = subst (λ (x : Walk). Answers (plusPart c) (ownPart (c .files + c .directories) t) (judgeEntry g v (suc (g .pages)) (judgeSub g v (suc (g .pages)) levels) (here g v levels name start) claimed (s .page) seen e) x u) o
-            (z claimed seen represents (met-names (key (e .name) (e .extension))))
+  -- the next entry
+  module _ {at : Slot} {e : Entry} (n : NextEntry g (vs .pages) s at) (i : IsEntry g (vs .pages) at e) where
+    abbrev read : ReadAhead g (vs .pages) s ts at e
+    read = read-ahead n i ts ahead
 
-        pub left-refused : (n p : ℕ) → r ≡ w.Refused n p → Whole (w.Refused n p) u
-        left-refused n p o = on-tokens (w.Refused n p) u (rest-refused g v (judgeSub g v (suc (g .pages)) levels) (here g v levels name start) claimed (s .page) seen e (read .later) c t n p u (answered (w.Refused n p) o))
+    keys-read : tokenKeys ts ≡ key (e .name) (e .extension) ∷ tokenKeys (read .later)
+    keys-read = ap tokenKeys (read .split) ∙ keys-pages (read .pages) (entry e ∷ read .later)
 
-        module _ (l : length t ≡ g .pages) where
-          entered : (x : Part) → judgeEntry g v (suc (g .pages)) (judgeSub g v (suc (g .pages)) levels) (here g v levels name start) claimed (s .page) seen e ≡ ok x
-              → Now (ownPart (c .files + c .directories) t x) (plusPart c x) (advanced s) (m + 1)
-          entered x j =
-              let k = key (e .name) (e .extension) in
-              let f : Within (g .pages) claimed = subst (λ (n : ℕ). Within n claimed) l (represents-within t claimed represents) in
-              let p = entry-sound g v (judgeSub g v (suc (g .pages)) levels) (sub-sound g v levels) (here g v levels name start) claimed (s .page) seen e x f j in
-              record {
-                claimed = partPages x ++ claimed;
-                seen = k ∷ seen;
-                before = before ++ (k ∷ []);
-                ts = read .later;
-                represents = represents-part (c .files + c .directories) x t claimed represents (λ y. rw l (p .clear y));
-                good-totals = good-part g c x t claimed good-totals represents l p;
-                ahead = read .ahead;
-                keys-are = keys-are ∙ ap (λ (x : List Token). before ++ tokenKeys x) (read .split) ∙ sym (append-assoc before (k ∷ []) (tokenKeys (read .later)));
-                met = omega (arith, met, length-append before (k ∷ []));
-                same = λ y. omega (arith, same y, count-append y before (k ∷ []));
-                finish = λ r u z. on-tokens r u (rest-entry g v (judgeSub g v (suc (g .pages)) levels) (here g v levels name start) claimed (s .page) seen e (read .later) c t x j r u z);
-              }
+    -- there is one entry more
+    pub one-left : m < length (chainKeys g (controlSize g) ls₀)
+    one-left = omega (arith, all-keys, ap length keys-read)
 
-          -- past it, with one entry less to go
-          pub left-entry : (d : Totals) → r ≡ w.Done d → (s′ : Slot) (n : ℕ) → s′ ≡ advanced s → m + 1 ≡ n → Now u d s′ n
-          left-entry d o s′ n y h =
-              let a = answered (w.Done d) o in
-              subst (λ (x : ℕ). Now u d s′ x) h (subst (λ (x : Slot). Now u d x (m + 1)) (sym y) (subst (λ (x : List ℕ). Now x d (advanced s) (m + 1)) (sym (a .3)) (subst (λ (x : Totals). Now (ownPart (c .files + c .directories) t (a .0)) x (advanced s) (m + 1)) (sym (a .2)) (entered (a .0) (a .1)))))
+    on-tokens : (r : Checked) (u : List ℕ) → LeftOver g vs levels name start claimed (at .page) seen (entry e ∷ read .later) c t r u → Whole g vs levels name start c₀ t₀ claimed₀ ls₀ r u
+    on-tokens r u z =
+        let later = entry e ∷ read .later in
+        finish r u (subst (λ (x : List Token). LeftOver g vs levels name start claimed (s .page) seen x c t r u) (sym (read .split))
+        (rest-pages g vs sub dir claimed (s .page) seen (read .pages) later c t r u
+        (subst (λ (p : ℕ). LeftOver g vs levels name start claimed p seen later c t r u) (read .page-is) z)))
 
-    module _ (i : s .count ≤ s .at) where
-      pub left-done : s .next .page ≡ 0 → Whole (w.Done c) t
-      left-done z = finish (w.Done c) t (subst (λ (x : List Token). LeftOver g v levels name start claimed (s .page) seen x c t (w.Done c) t) (sym (no-more g image fit (length ls₀) s ts ahead i z))
-          (rest-end g v (judgeSub g v (suc (g .pages)) levels) (here g v levels name start) claimed (s .page) seen c t))
+    module _ (r : Checked) (u : List ℕ) (z : EntryWalked g vs levels name start (at .page) m e c t r u) where
+      abbrev rule : Res Part
+      rule = judgeEntry g vs (suc (g .pages)) sub dir claimed (at .page) seen e
 
-      module _ (z : s .next .page ≡ 0 → ⊥) where
-        -- there is a next page
-        pub left-next : Counted (s .next) × (s .next .page < g .pages) × IsGood (v (s .next .page)) × (s .next .count < length ls₀)
-        left-next = page-after g image fit (length ls₀) s ts ahead i z
+      answered : (x : Checked) → r ≡ x → Answers (plusPart c) (ownPart (c .files + c .directories) t) rule x u
+      answered x o = subst (λ (x : Checked). Answers (plusPart c) (ownPart (c .files + c .directories) t) rule x u) o (z claimed seen represents (met-names (key (e .name) (e .extension))))
 
-        pub left-page : (s′ : Slot) → s′ ≡ openOf g v 0 (s .next) → Now t c s′ m
-        left-page s′ y =
-            let k = next-tokens g image fit (length ls₀) s ts ahead i z s′ y in
+      pub left-refused : (n p : ℕ) → r ≡ w.Refused n p → Whole g vs levels name start c₀ t₀ claimed₀ ls₀ (w.Refused n p) u
+      left-refused n p o =
+          on-tokens (w.Refused n p) u (rest-refused g vs sub dir claimed (at .page) seen e (read .later) c t n p u (answered (w.Refused n p) o))
+
+      module _ (l : length t ≡ g .pages) where
+        entered : (x : Part) → rule ≡ ok x → Left g vs levels name start c₀ t₀ claimed₀ ls₀ (ownPart (c .files + c .directories) t x) (plusPart c x) (advanced at) (m + 1)
+        entered x j =
+            let k = key (e .name) (e .extension) in
+            let f : Within (g .pages) claimed = subst (λ (n : ℕ). Within n claimed) l (represents-within t claimed represents) in
+            let p = entry-sound g vs sub (sub-sound g vs levels) dir claimed (at .page) seen e x f j in
             record {
-              claimed = claimed;
-              seen = seen;
-              before = before;
-              ts = k .later;
-              represents = represents;
-              good-totals = good-totals;
-              ahead = k .ahead;
-              keys-are = keys-are ∙ ap (λ (x : List Token). before ++ tokenKeys x) (k .split);
-              met = met;
-              same = same;
-              finish = λ r u a. finish r u (subst (λ (x : List Token). LeftOver g v levels name start claimed (s .page) seen x c t r u) (sym (k .split))
-                  (rest-page g v (judgeSub g v (suc (g .pages)) levels) (here g v levels name start) claimed (s .page) seen (s′ .page) (k .later) c t r u a));
+              chain = chain;
+              claimed = partPages x ++ claimed;
+              seen = k ∷ seen;
+              before = before ++ (k ∷ []);
+              ts = read .later;
+              represents = represents-part (c .files + c .directories) x t claimed represents (λ y. rw l (p .clear y));
+              good-totals = good-part g c x t claimed good-totals represents l p;
+              ahead = read .ahead;
+              keys-are = keys-are ∙ ap (λ (x : List ℕ). before ++ x) keys-read ∙ sym (append-assoc before (k ∷ []) (tokenKeys (read .later)));
+              met = omega (arith, met, length-append before (k ∷ []));
+              same = λ y. omega (arith, same y, count-append y before (k ∷ []));
+              finish = λ r u z. on-tokens r u (rest-entry g vs sub dir claimed (at .page) seen e (read .later) c t x j r u z);
             }
 
-  -- the first page
-  pub left-first : (s : Slot) (n : ℕ) → s ≡ openOf g v (controlSize g) (firstStep start start) → 0 ≡ n → Represents t₀ claimed₀ → Good g c₀ t₀ → Now t₀ c₀ s n
-  left-first s n e z r h =
-      let k = first-page g image fit start s ls₀ e chain in
-      subst (Now t₀ c₀ s) z (record {
-        claimed = claimed₀;
-        seen = [];
-        before = [];
-        ts = k .later;
-        represents = r;
-        good-totals = h;
-        ahead = k .ahead;
-        keys-are = sym (token-keys g (controlSize g) ls₀) ∙ ap tokenKeys (k .split);
-        met = refl;
-        same = λ x. refl;
-        finish = λ x u a. subst (λ (y : List Token). LeftOver g v levels name start claimed₀ start [] y c₀ t₀ x u) (sym (k .split))
-            (rest-page g v (judgeSub g v (suc (g .pages)) levels) (here g v levels name start) claimed₀ start [] (s .page) (k .later) c₀ t₀ x u a);
-      })
+        -- past it, with one entry less to go
+        pub left-entry : (d : Totals) → r ≡ w.Done d → (s′ : Slot) (n : ℕ) → s′ ≡ advanced at → m + 1 ≡ n → Left g vs levels name start c₀ t₀ claimed₀ ls₀ u d s′ n
+        left-entry d o s′ n y h = let a = answered (w.Done d) o in same-left (a .3) (a .2) y (sym h) (entered (a .0) (a .1))
 
 -- for the code's own needs: one list of claimed pages and one chain
-pub witness : (g : Geometry) (v : View) (levels name start : ℕ) (c₀ : Totals) (t₀ t : List ℕ) (c : Totals) (s : Slot) (m : ℕ) (k : KnownChain g v start)
-    → ((claimed : List ℕ) (ls : List Link) → Represents t₀ claimed → ChainStands g v start ls → Left g v levels name start c₀ t₀ claimed ls t c s m)
-    → Left g v levels name start c₀ t₀ (taken t₀) (k .links) t c s m
-witness g v levels name start c₀ t₀ t c s m k f = f (taken t₀) (k .links) (represents-taken t₀) (k .chain)
+pub witness : {g : Geometry} {vs : Views} {levels name start : ℕ} {c₀ : Totals} {t₀ t : List ℕ} {c : Totals} {s : Slot} {m : ℕ} (k : KnownChain g (vs .pages) start)
+    → ((claimed : List ℕ) (ls : List Link) → Represents t₀ claimed → ChainAt g (vs .pages) start ls → Left g vs levels name start c₀ t₀ claimed ls t c s m)
+    → Left g vs levels name start c₀ t₀ (taken t₀) (k .links) t c s m
+witness {t₀ = t₀} k f = f (taken t₀) (k .links) (represents-taken t₀) (k .chain)
+
+-- where there is a next entry, one of those to be counted is to go
+pub some-to-go : {g : Geometry} {vs : Views} {levels name start : ℕ} {c₀ : Totals} {t₀ t : List ℕ} {c : Totals} {s : Slot} (count left : ℕ) → CountsEntries g (vs .pages) start count → (k : KnownChain g (vs .pages) start)
+    → ((claimed : List ℕ) (ls : List Link) → Represents t₀ claimed → ChainAt g (vs .pages) start ls → Left g vs levels name start c₀ t₀ claimed ls t c s (count - left))
+    → {at : Slot} {e : Entry} → NextEntry g (vs .pages) s at → IsEntry g (vs .pages) at e → left ≤ count → 0 < left
+some-to-go count left n k f a i h = omega (arith, one-left (witness k f) a i, n (k .links) (k .chain))

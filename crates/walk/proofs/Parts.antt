@@ -19,21 +19,21 @@ use Rattle.rules.specs.Result.{Res, ok, err, andThen, andAfter, refuse-unless}
 use Rattle.rules.specs.ResultLaws.{clash, then-ok, then-err, refuse-true, refuse-false}
 use Rattle.rules.specs.PageSets.{mem, Within}
 use Rattle.rules.specs.PageSetLaws.{count-append, within-length}
-use Rattle.rules.specs.Chain.{Link, pages, content, Test, anyPage, walk}
+use Rattle.rules.specs.Chain.{Views, Link, pages, content, Test, anyPage, walk}
 use Rattle.rules.specs.ChainLaws.{length-pages, walk-sound}
 use Rattle.rules.specs.Names.{key, directoryNumber}
 use Rattle.rules.specs.Owners.{own}
-use Rattle.rules.specs.OwnerLaws.{inUse, inUse-le, taken, represents-taken, represents-within}
+use Rattle.owners.specs.OwnerLaws.{inUse, inUse-le, taken, represents-taken, represents-within}
 use Rattle.rules.specs.Check.{Part, chain, directory, judgeLabel, judgeFile, judgeEntry, judgeDirectory, judgeSub}
-use Rattle.rules.specs.Control.{Above, subPage}
+use Rattle.rules.specs.Control.{Parent, subPage}
 use Rattle.directory.specs.declared.control.Kind.the-variants as kind
 use Rattle.directory.specs.Faults.{faultAt, testOf}
 use Rattle.chain.specs.declared.Claim.{Claim}
 use Rattle.chain.specs.declared.Claim.the-variants as claim
 use Rattle.chain.specs.Claims.{Agrees, Claims}
 use Rattle.entries.specs.EntrySlots.{chainKeys, Repeats}
-use Rattle.walk.specs.declared.Walk.{Walk}
-use Rattle.walk.specs.declared.Walk.the-variants as w
+use Rattle.rules.specs.declared.Checked.{Checked}
+use Rattle.rules.specs.declared.Checked.the-variants as w
 use Rattle.walk.specs.Walks.{Good, Ready, Answers, plusDirectory, plusPart, ownDirectory, ownPart, judgeFirst, judgeBelow, Met}
 
 pub fault-err : (n p : ℕ) → (n ≡ 0 → ⊥) → faultAt n p ≡ err n p
@@ -140,32 +140,32 @@ claim-few g v test owner from start n b t u r k i l =
     let m = within-length (g .pages) (pages (a .links) ++ cl) (λ x. simp count-append (c .clear x)) in
     (omega (arith, c .some, a .pages-are), omega (arith, m, length-append (pages (a .links)) cl, length-pages (a .links), a .pages-are))
 
-module _ (g : Geometry) (v : View) (claimed : List ℕ) (p : ℕ) (e : Entry) where
-  abbrev chainOf : Res (List Link)
-  chainOf = walk (g .pages) v (testOf g kind.File) (suc (g .pages)) 0 claimed p (e .start)
+module _ (g : Geometry) (vs : Views) (claimed : List ℕ) (p : ℕ) (e : Entry) where
+  abbrev walked : Res (List Link)
+  walked = walk (g .pages) (vs .file (e .extension)) (testOf g kind.File) (suc (g .pages)) 0 claimed p (e .start)
 
-  pub file-none : e .start ≡ 0 → judgeFile g v (suc (g .pages)) claimed p e ≡ err 6 p
+  pub file-none : e .start ≡ 0 → judgeFile g vs (suc (g .pages)) claimed p e ≡ err 6 p
   unfolding judgeFile
   file-none z = simp (le-ltb 0 (e .start) (omega arith), refuse-false, then-err)
 
   module _ (s : e .start ≡ 0 → ⊥) where
-    file-step : judgeFile g v (suc (g .pages)) claimed p e ≡ andThen chainOf (λ ls. andThen (refuse-unless (eqb (e .pages) (length ls)) 8 p) (λ _. ok (chain ls)))
+    file-step : judgeFile g vs (suc (g .pages)) claimed p e ≡ andThen walked (λ ls. andThen (refuse-unless (eqb (e .pages) (length ls)) 8 p) (λ _. ok (chain ls)))
     unfolding judgeFile
     file-step = simp (lt-ltb 0 (e .start) (omega arith), refuse-true, then-ok, test-file g)
 
-    module _ (owner : ℕ) (t u : List ℕ) (r : Claim) (k : Agrees 0 0 owner t chainOf r u) where
-      pub file-refused : (n q : ℕ) → r ≡ claim.Refused n q → judgeFile g v (suc (g .pages)) claimed p e ≡ err n q
-      file-refused n q i = simp (file-step, claim-refused chainOf owner n q t u r k i, then-err)
+    module _ (owner : ℕ) (t u : List ℕ) (r : Claim) (k : Agrees 0 0 owner t walked r u) where
+      pub file-refused : (n q : ℕ) → r ≡ claim.Refused n q → judgeFile g vs (suc (g .pages)) claimed p e ≡ err n q
+      file-refused n q i = simp (file-step, claim-refused walked owner n q t u r k i, then-err)
 
-      pub file-counted : (n b : ℕ) → r ≡ claim.Chain n b → (e .pages ≡ n → ⊥) → judgeFile g v (suc (g .pages)) claimed p e ≡ err 8 p
+      pub file-counted : (n b : ℕ) → r ≡ claim.Chain n b → (e .pages ≡ n → ⊥) → judgeFile g vs (suc (g .pages)) claimed p e ≡ err 8 p
       file-counted n b i y =
-          let a = claimed-chain chainOf owner n b t u r k i in
+          let a = claimed-chain walked owner n b t u r k i in
           simp (file-step, a .chain-is, then-ok, ne-eqb (e .pages) (length (a .links)) (λ j. y (j ∙ sym (a .pages-are))), refuse-false, then-err)
 
       pub file-done : (c : Totals) (n b : ℕ) → r ≡ claim.Chain n b → owner ≡ 3 + (c .files + c .directories) → e .pages ≡ n
-          → Answers (plusPart c) (ownPart (c .files + c .directories) t) (judgeFile g v (suc (g .pages)) claimed p e) (w.Done (record { used = c .used + n; files = c .files + 1; directories = c .directories })) u
+          → Answers (plusPart c) (ownPart (c .files + c .directories) t) (judgeFile g vs (suc (g .pages)) claimed p e) (w.Done (record { used = c .used + n; files = c .files + 1; directories = c .directories })) u
       file-done c n b i o y =
-          let a = claimed-chain chainOf owner n b t u r k i in (
+          let a = claimed-chain walked owner n b t u r k i in (
             chain (a .links),
             simp (file-step, a .chain-is, then-ok, eq-eqb (e .pages) (length (a .links)) (y ∙ a .pages-are), refuse-true),
             ap (λ (x : ℕ). record { used = c .used + x; files = c .files + 1; directories = c .directories }) (a .pages-are),
@@ -178,54 +178,57 @@ unfolding andThen
 then-after (ok a) s k = refl
 then-after (err n p) s k = refl
 
-sub-step : (g : Geometry) (v : View) (here : Above) (claimed : List ℕ) (p : ℕ) (e : Entry) (levels : ℕ)
-    → judgeSub g v (suc (g .pages)) levels here claimed p e ≡ andAfter (judgeBelow levels p e) (judgeDirectory g v (suc (g .pages)) (judgeSub g v (suc (g .pages)) (levels - 1)) (subPage g here) (record { name = e .name; start = e .start }) claimed p)
+sub-step : (g : Geometry) (vs : Views) (here : Parent) (claimed : List ℕ) (p : ℕ) (e : Entry) (levels : ℕ)
+    → judgeSub g vs (suc (g .pages)) levels here claimed p e
+    ≡ andAfter (judgeBelow levels p e) (judgeDirectory g vs (suc (g .pages)) (judgeSub g vs (suc (g .pages)) (levels - 1)) (subPage g here) (record { name = e .name; start = e .start }) claimed p)
 unfolding judgeSub judgeBelow
-sub-step g v here claimed p e zero = sym (then-err 12 p (λ _. judgeDirectory g v (suc (g .pages)) (judgeSub g v (suc (g .pages)) (0 - 1)) (subPage g here) (record { name = e .name; start = e .start }) claimed p))
-sub-step g v here claimed p e (suc levels) =
+sub-step g vs here claimed p e zero = sym (then-err 12 p (λ _. judgeDirectory g vs (suc (g .pages)) (judgeSub g vs (suc (g .pages)) (0 - 1)) (subPage g here) (record { name = e .name; start = e .start }) claimed p))
+sub-step g vs here claimed p e (suc levels) =
     let q : suc levels - 1 ≡ levels = omega arith in
-    rw q (then-after (refuse-unless (eqb (e .pages) 0) 8 p) (refuse-unless (ltb 0 (e .start)) 6 p) (judgeDirectory g v (suc (g .pages)) (judgeSub g v (suc (g .pages)) levels) (subPage g here) (record { name = e .name; start = e .start }) claimed p))
+    rw q (then-after (refuse-unless (eqb (e .pages) 0) 8 p) (refuse-unless (ltb 0 (e .start)) 6 p)
+    (judgeDirectory g vs (suc (g .pages)) (judgeSub g vs (suc (g .pages)) levels) (subPage g here) (record { name = e .name; start = e .start }) claimed p))
 
-module _ (g : Geometry) (v : View) (levels name start : ℕ) (claimed : List ℕ) (p : ℕ) (seen : List ℕ) (e : Entry) where
-  abbrev here : Above
+module _ (g : Geometry) (vs : Views) (levels name start : ℕ) (claimed : List ℕ) (p : ℕ) (seen : List ℕ) (e : Entry) where
+  abbrev here : Parent
   here = record { name = name; start = start }
 
   abbrev entryOf : Res Part
-  entryOf = judgeEntry g v (suc (g .pages)) (judgeSub g v (suc (g .pages)) levels) here claimed p seen e
+  entryOf = judgeEntry g vs (suc (g .pages)) (judgeSub g vs (suc (g .pages)) levels) here claimed p seen e
 
-  by-kind : entryOf ≡ andAfter (judgeFirst p seen e) (choose (directoryNumber (e .extension)) (andThen (judgeSub g v (suc (g .pages)) levels here claimed p e) (λ d. ok (directory d))) (judgeFile g v (suc (g .pages)) claimed p e))
+  by-kind : entryOf ≡ andAfter (judgeFirst p seen e) (choose (directoryNumber (e .extension)) (andThen (judgeSub g vs (suc (g .pages)) levels here claimed p e) (λ d. ok (directory d))) (judgeFile g vs (suc (g .pages)) claimed p e))
   unfolding judgeEntry judgeFirst
-  by-kind = then-after (judgeLabel p e) (refuse-unless (not (mem (key (e .name) (e .extension)) seen)) 11 p) (choose (directoryNumber (e .extension)) (andThen (judgeSub g v (suc (g .pages)) levels here claimed p e) (λ d. ok (directory d))) (judgeFile g v (suc (g .pages)) claimed p e))
+  by-kind = then-after (judgeLabel p e) (refuse-unless (not (mem (key (e .name) (e .extension)) seen)) 11 p)
+      (choose (directoryNumber (e .extension)) (andThen (judgeSub g vs (suc (g .pages)) levels here claimed p e) (λ d. ok (directory d))) (judgeFile g vs (suc (g .pages)) claimed p e))
 
   module _ (f : ℕ) (h : judgeFirst p seen e ≡ faultAt f p) where
     pub entry-refused : (f ≡ 0 → ⊥) → entryOf ≡ err f p
     entry-refused n = simp (by-kind, h, fault-err f p n, then-err)
 
     module _ (z : f ≡ 0) where
-      entry-kind : entryOf ≡ choose (directoryNumber (e .extension)) (andThen (judgeSub g v (suc (g .pages)) levels here claimed p e) (λ d. ok (directory d))) (judgeFile g v (suc (g .pages)) claimed p e)
+      entry-kind : entryOf ≡ choose (directoryNumber (e .extension)) (andThen (judgeSub g vs (suc (g .pages)) levels here claimed p e) (λ d. ok (directory d))) (judgeFile g vs (suc (g .pages)) claimed p e)
       entry-kind = simp (by-kind, h, fault-none f p z, then-ok)
 
-      entry-file : directoryNumber (e .extension) ≡ false → entryOf ≡ judgeFile g v (suc (g .pages)) claimed p e
-      entry-file n = entry-kind ∙ ap (λ (b : Bool). choose b (andThen (judgeSub g v (suc (g .pages)) levels here claimed p e) (λ d. ok (directory d))) (judgeFile g v (suc (g .pages)) claimed p e)) n ∙ choose-false _ _
+      entry-file : directoryNumber (e .extension) ≡ false → entryOf ≡ judgeFile g vs (suc (g .pages)) claimed p e
+      entry-file n = entry-kind ∙ ap (λ (b : Bool). choose b (andThen (judgeSub g vs (suc (g .pages)) levels here claimed p e) (λ d. ok (directory d))) (judgeFile g vs (suc (g .pages)) claimed p e)) n ∙ choose-false _ _
 
-      pub file-entry : directoryNumber (e .extension) ≡ false → (c : Totals) (t : List ℕ) (r : Walk) (u : List ℕ) → Answers (plusPart c) (ownPart (c .files + c .directories) t) (judgeFile g v (suc (g .pages)) claimed p e) r u
+      pub file-entry : directoryNumber (e .extension) ≡ false → (c : Totals) (t : List ℕ) (r : Checked) (u : List ℕ) → Answers (plusPart c) (ownPart (c .files + c .directories) t) (judgeFile g vs (suc (g .pages)) claimed p e) r u
           → Answers (plusPart c) (ownPart (c .files + c .directories) t) entryOf r u
       file-entry n c t r u a = subst (λ (x : Res Part). Answers (plusPart c) (ownPart (c .files + c .directories) t) x r u) (sym (entry-file n)) a
 
       module _ (x : directoryNumber (e .extension) ≡ true) (k : ℕ) (b : judgeBelow levels p e ≡ faultAt k p) where
-        entry-sub : entryOf ≡ andThen (judgeSub g v (suc (g .pages)) levels here claimed p e) (λ d. ok (directory d))
-        entry-sub = entry-kind ∙ ap (λ (b : Bool). choose b (andThen (judgeSub g v (suc (g .pages)) levels here claimed p e) (λ d. ok (directory d))) (judgeFile g v (suc (g .pages)) claimed p e)) x ∙ choose-true _ _
+        entry-sub : entryOf ≡ andThen (judgeSub g vs (suc (g .pages)) levels here claimed p e) (λ d. ok (directory d))
+        entry-sub = entry-kind ∙ ap (λ (b : Bool). choose b (andThen (judgeSub g vs (suc (g .pages)) levels here claimed p e) (λ d. ok (directory d))) (judgeFile g vs (suc (g .pages)) claimed p e)) x ∙ choose-true _ _
 
         pub entry-below : (k ≡ 0 → ⊥) → entryOf ≡ err k p
-        entry-below n = simp (entry-sub, sub-step g v here claimed p e levels, b, fault-err k p n, then-err)
+        entry-below n = simp (entry-sub, sub-step g vs here claimed p e levels, b, fault-err k p n, then-err)
 
         -- a subdirectory, with its entry counted
-        pub entry-directory : k ≡ 0 → (c : Totals) (owner : ℕ) (t : List ℕ) → owner ≡ 3 + (c .files + c .directories) → (r : Walk) (u : List ℕ)
+        pub entry-directory : k ≡ 0 → (c : Totals) (owner : ℕ) (t : List ℕ) → owner ≡ 3 + (c .files + c .directories) → (r : Checked) (u : List ℕ)
             → Answers (plusDirectory (record { used = c .used; files = c .files; directories = c .directories + 1 })) (ownDirectory owner (c .files + (c .directories + 1)) t)
-            (judgeDirectory g v (suc (g .pages)) (judgeSub g v (suc (g .pages)) (levels - 1)) (testOf g (kind.Sub name start)) (record { name = e .name; start = e .start }) claimed p) r u
+            (judgeDirectory g vs (suc (g .pages)) (judgeSub g vs (suc (g .pages)) (levels - 1)) (testOf g (kind.Sub name start)) (record { name = e .name; start = e .start }) claimed p) r u
             → Answers (plusPart c) (ownPart (c .files + c .directories) t) entryOf r u
         unfolding testOf
         entry-directory y c owner t o (w.Done d) u (i, a, q, s) =
             let j : c .files + (c .directories + 1) ≡ suc (c .files + c .directories) = omega arith in
-            (directory i, simp (entry-sub, sub-step g v here claimed p e levels, b, fault-none k p y, then-ok, a), q, s ∙ ap₂ (λ (m n : ℕ). ownDirectory m n t i) o j)
-        entry-directory y c owner t o (w.Refused n q) u a = simp (entry-sub, sub-step g v here claimed p e levels, b, fault-none k p y, then-ok, a, then-err)
+            (directory i, simp (entry-sub, sub-step g vs here claimed p e levels, b, fault-none k p y, then-ok, a), q, s ∙ ap₂ (λ (m n : ℕ). ownDirectory m n t i) o j)
+        entry-directory y c owner t o (w.Refused n q) u a = simp (entry-sub, sub-step g vs here claimed p e levels, b, fault-none k p y, then-ok, a, then-err)

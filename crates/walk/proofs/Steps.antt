@@ -6,24 +6,25 @@ use native.Mathlib.Omega.{arith}
 use lib.ListN.{length, length-append}
 use Rattle.geometry.specs.declared.Geometry.{Geometry}
 use Rattle.geometry.specs.Geometry.{controlSize}
-use Rattle.packet.specs.Packet.{View}
 use Rattle.rules.specs.declared.Entry.{Entry}
 use Rattle.rules.specs.declared.Totals.{Totals}
 use Rattle.rules.specs.Result.{ok, err}
 use Rattle.rules.specs.ResultLaws.{then-ok, then-err}
 use Rattle.rules.specs.PageSets.{count, range, Within}
 use Rattle.rules.specs.PageSetLaws.{count-append}
-use Rattle.rules.specs.Chain.{Link, pages, Test, walk}
+use Rattle.rules.specs.Chain.{Views, Link, pages, Test, walk}
 use Rattle.rules.specs.ChainLaws.{length-pages}
 use Rattle.rules.specs.Names.{key}
 use Rattle.rules.specs.Tree.{Items, end, page, Token, newPage, entry, linkTokens, ownPages, innerPages, allPages}
-use Rattle.rules.specs.Control.{Above}
+use Rattle.rules.specs.TreeLaws.{pageTokens, lastPage}
+use Rattle.rules.specs.Control.{Parent}
 use Rattle.rules.specs.Owners.{fileCount, directoryCount, own, ownEntries}
-use Rattle.rules.specs.OwnerLaws.{Represents, represents-own, represents-entries, represents-length, length-own}
+use Rattle.owners.specs.Owned.{Represents}
+use Rattle.owners.specs.OwnerLaws.{represents-own, represents-entries, represents-length, length-own}
 use Rattle.rules.specs.Check.{Part, chain, directory, partPages, add, Judge, judgeEntry, judgeEntries, judgeDirectory, judgeSub}
 use Rattle.rules.specs.Soundness.{PartClear, entriesOf, entries-sound, sub-sound, pages-tokens}
-use Rattle.walk.specs.declared.Walk.{Walk}
-use Rattle.walk.specs.declared.Walk.the-variants as w
+use Rattle.rules.specs.declared.Checked.{Checked}
+use Rattle.rules.specs.declared.Checked.the-variants as w
 use Rattle.walk.specs.Walks.{Good, Ready, Answers, plusEntries, plusDirectory, plusPart, ownDirectory, ownPart}
 
 -- ---- the table and the totals after one entry
@@ -90,10 +91,10 @@ table-add c e (directory d) t table =
     let q : c .files + fileCount d + (c .directories + 1 + directoryCount d) ≡ suc (c .files + c .directories) + (fileCount d + directoryCount d) = omega arith in
     rw q refl
 
-module _ (g : Geometry) (v : View) (sub : Judge) (here : Above) where
+module _ (g : Geometry) (vs : Views) (sub : Judge) (here : Parent) where
   -- the answer for the entries from here on, with the totals and the table so far
-  abbrev pub Rest : List ℕ → ℕ → List ℕ → List Token → Totals → List ℕ → Walk → List ℕ → Type 0
-  Rest claimed p seen ts c t r u = Answers (plusEntries c) (λ i. ownEntries (c .files + c .directories) i t) (judgeEntries g v (suc (g .pages)) sub here claimed p seen ts) r u
+  abbrev pub Rest : List ℕ → ℕ → List ℕ → List Token → Totals → List ℕ → Checked → List ℕ → Type 0
+  Rest claimed p seen ts c t r u = Answers (plusEntries c) (λ i. ownEntries (c .files + c .directories) i t) (judgeEntries g vs (suc (g .pages)) sub here claimed p seen ts) r u
 
   module _ (claimed : List ℕ) (p : ℕ) (seen : List ℕ) where
     -- no entry is left
@@ -102,36 +103,43 @@ module _ (g : Geometry) (v : View) (sub : Judge) (here : Above) where
     rest-end c t = (end, refl, same-totals _ _ _ _ _ _ (omega arith) (omega arith) (omega arith), refl)
 
     -- a page begins
-    pub rest-page : (q : ℕ) (ts : List Token) (c : Totals) (t : List ℕ) (r : Walk) (u : List ℕ) → Rest claimed q seen ts c t r u → Rest claimed p seen (newPage q ∷ ts) c t r u
+    pub rest-page : (q : ℕ) (ts : List Token) (c : Totals) (t : List ℕ) (r : Checked) (u : List ℕ) → Rest claimed q seen ts c t r u → Rest claimed p seen (newPage q ∷ ts) c t r u
     unfolding judgeEntries
     rest-page q ts c t (w.Done d) u (i, a, b, k) = (page q i, simp (a, then-ok), b, k)
     rest-page q ts c t (w.Refused n f) u a = simp (a, then-err)
 
     module _ (e : Entry) (ts : List Token) (c : Totals) (t : List ℕ) where
-      pub rest-refused : (n f : ℕ) (u : List ℕ) → judgeEntry g v (suc (g .pages)) sub here claimed p seen e ≡ err n f → Rest claimed p seen (entry e ∷ ts) c t (w.Refused n f) u
+      pub rest-refused : (n f : ℕ) (u : List ℕ) → judgeEntry g vs (suc (g .pages)) sub here claimed p seen e ≡ err n f → Rest claimed p seen (entry e ∷ ts) c t (w.Refused n f) u
       unfolding judgeEntries
       rest-refused n f u a = simp (a, then-err)
 
       -- an entry done
-      pub rest-entry : (x : Part) → judgeEntry g v (suc (g .pages)) sub here claimed p seen e ≡ ok x → (r : Walk) (u : List ℕ)
+      pub rest-entry : (x : Part) → judgeEntry g vs (suc (g .pages)) sub here claimed p seen e ≡ ok x → (r : Checked) (u : List ℕ)
           → Rest (partPages x ++ claimed) p (key (e .name) (e .extension) ∷ seen) ts (plusPart c x) (ownPart (c .files + c .directories) t x) r u → Rest claimed p seen (entry e ∷ ts) c t r u
       unfolding judgeEntries
       rest-entry x q (w.Done d) u (i, a, b, k) = (add e x i, simp (q, then-ok, a), b ∙ totals-add c e x i, k ∙ table-add c e x i t)
       rest-entry x q (w.Refused n f) u a = simp (q, then-ok, a, then-err)
 
+  -- pages without entries
+  pub rest-pages : (claimed : List ℕ) (p : ℕ) (seen ps : List ℕ) (ts : List Token) (c : Totals) (t : List ℕ) (r : Checked) (u : List ℕ) → Rest claimed (lastPage p ps) seen ts c t r u
+      → Rest claimed p seen (pageTokens ps ++ ts) c t r u
+  rest-pages claimed p seen [] ts c t r u a = a
+  rest-pages claimed p seen (q ∷ ps) ts c t r u a = rest-page claimed p seen q (pageTokens ps ++ ts) c t r u (rest-pages claimed q seen ps ts c t r u a)
+
 -- ---- a directory: its chain, then its entries
-module _ (g : Geometry) (v : View) (levels : ℕ) (test : Test) (here : Above) (claimed : List ℕ) (from : ℕ) where
-  pub directory-refused : (n p : ℕ) → walk (g .pages) v test (suc (g .pages)) 0 claimed from (here .start) ≡ err n p → judgeDirectory g v (suc (g .pages)) (judgeSub g v (suc (g .pages)) levels) test here claimed from ≡ err n p
+module _ (g : Geometry) (vs : Views) (levels : ℕ) (test : Test) (here : Parent) (claimed : List ℕ) (from : ℕ) where
+  pub directory-refused : (n p : ℕ) → walk (g .pages) (vs .pages) test (suc (g .pages)) 0 claimed from (here .start) ≡ err n p → judgeDirectory g vs (suc (g .pages)) (judgeSub g vs (suc (g .pages)) levels) test here claimed from ≡ err n p
   unfolding judgeDirectory
   directory-refused n p e = simp (e, then-err)
 
-  pub directory-rest : (ls : List Link) (owner n : ℕ) (c : Totals) (t : List ℕ) → walk (g .pages) v test (suc (g .pages)) 0 claimed from (here .start) ≡ ok ls → n ≡ length ls → Within (g .pages) (pages ls ++ claimed)
-      → (r : Walk) (u : List ℕ)
-      → Rest g v (judgeSub g v (suc (g .pages)) levels) here (pages ls ++ claimed) (here .start) [] (linkTokens g (controlSize g) ls) (record { used = c .used + n; files = c .files; directories = c .directories }) (own owner (pages ls) t) r u
-      → Answers (plusDirectory c) (ownDirectory owner (c .files + c .directories) t) (judgeDirectory g v (suc (g .pages)) (judgeSub g v (suc (g .pages)) levels) test here claimed from) r u
+  pub directory-rest : (ls : List Link) (owner n : ℕ) (c : Totals) (t : List ℕ) → walk (g .pages) (vs .pages) test (suc (g .pages)) 0 claimed from (here .start) ≡ ok ls → n ≡ length ls → Within (g .pages) (pages ls ++ claimed)
+      → (r : Checked) (u : List ℕ)
+      → Rest g vs (judgeSub g vs (suc (g .pages)) levels) here (pages ls ++ claimed) (here .start) [] (linkTokens g (controlSize g) ls)
+      (record { used = c .used + n; files = c .files; directories = c .directories }) (own owner (pages ls) t) r u
+      → Answers (plusDirectory c) (ownDirectory owner (c .files + c .directories) t) (judgeDirectory g vs (suc (g .pages)) (judgeSub g vs (suc (g .pages)) levels) test here claimed from) r u
   unfolding judgeDirectory
   directory-rest ls owner n c t e l f (w.Done d) u (i, a, b, k) =
-      let s = entries-sound g v (judgeSub g v (suc (g .pages)) levels) (sub-sound g v levels) here (linkTokens g (controlSize g) ls) (pages ls ++ claimed) (here .start) [] i f a in
+      let s = entries-sound g vs (judgeSub g vs (suc (g .pages)) levels) (sub-sound g vs levels) here (linkTokens g (controlSize g) ls) (pages ls ++ claimed) (here .start) [] i f a in
       let o : ownPages i ≡ pages ls = s .own-pages ∙ pages-tokens g (controlSize g) ls in (
         i,
         simp (e, then-ok, a),

@@ -12,18 +12,19 @@ use Rattle.rules.specs.declared.Entry.{Entry}
 use Rattle.rules.specs.declared.Totals.{Totals}
 use Rattle.rules.specs.Result.{Res, ok, err, andThen as _>>=_, andAfter as _>>_, refuse-unless}
 use Rattle.rules.specs.PageSets.{mem}
-use Rattle.rules.specs.Chain.{Link, pages, Test}
+use Rattle.rules.specs.Chain.{Views, Link, pages, Test}
 use Rattle.rules.specs.Names.{key}
 use Rattle.rules.specs.Tree.{Items, ownPages, innerPages}
 use Rattle.rules.specs.Owners.{fileCount, directoryCount, own, ownEntries}
-use Rattle.rules.specs.OwnerLaws.{Represents, inUse}
+use Rattle.owners.specs.Owned.{Represents}
+use Rattle.owners.specs.OwnerLaws.{inUse}
 use Rattle.rules.specs.Check.{Part, chain, directory, judgeLabel, judgeFile, judgeEntry, judgeDirectory, judgeSub}
 use Rattle.directory.specs.Faults.{faultAt}
 use Rattle.entries.specs.EntrySlots.{chainKeys}
-use Rattle.walk.specs.declared.Parent.{Parent}
-use Rattle.walk.specs.declared.Walk.{Walk}
-use Rattle.walk.specs.declared.Walk.the-variants as w
-use Rattle.chain.specs.KnownChain.{ChainStands}
+use Rattle.walk.specs.declared.Directory.{Directory}
+use Rattle.rules.specs.declared.Checked.{Checked}
+use Rattle.rules.specs.declared.Checked.the-variants as w
+use Rattle.chain.specs.KnownChain.{ChainAt}
 
 -- the totals inside a directory whose chain is claimed: each entry and the directory itself have a page, and so has a bitmap file, which many pages need
 pub record Good (g : Geometry) (c : Totals) (table : List ℕ) : Type 0 where
@@ -40,13 +41,13 @@ pub record Ready (g : Geometry) (c : Totals) (owner : ℕ) (table : List ℕ) : 
   pub few : inUse table < g .pages → owner < 65536
 
 -- an entry with so many to go in its directory, itself among them
-pub record Remaining (parent : Parent) (left : ℕ) : Type 0 where
+pub record Remaining (parent : Directory) (left : ℕ) : Type 0 where
   pub some : 0 < left
   pub most : left ≤ parent .count
   pub few : parent .count < 16777216
 
 -- the answer r with the table u is the rule's answer, with the totals and the table that follow from what the rule gives
-abbrev pub Answers : {A : Type 0} → (A → Totals) → (A → List ℕ) → Res A → Walk → List ℕ → Type 0
+abbrev pub Answers : {A : Type 0} → (A → Totals) → (A → List ℕ) → Res A → Checked → List ℕ → Type 0
 Answers {A = A} f h rule (w.Done d) u = (a : A) × (rule ≡ ok a) × (d ≡ f a) × (u ≡ h a)
 Answers f h rule (w.Refused n p) u = rule ≡ err n p
 
@@ -84,7 +85,7 @@ judgeBelow (suc levels) p e = do
 
 -- the names met before an entry are those of the directory's first m entries
 abbrev pub Met : Geometry → View → ℕ → ℕ → ℕ → List ℕ → Type 0
-Met g v start m k seen = (ls : List Link) × ChainStands g v start ls × (m ≤ length (chainKeys g (controlSize g) ls)) × (mem k seen ≡ mem k (take m (chainKeys g (controlSize g) ls)))
+Met g v start m k seen = (ls : List Link) × ChainAt g v start ls × (m ≤ length (chainKeys g (controlSize g) ls)) × (mem k seen ≡ mem k (take m (chainKeys g (controlSize g) ls)))
 
 -- the answers of the parts: for every list of claimed pages that the table represents and every list of the names met
 abbrev pub EntryFault : Geometry → View → ℕ → ℕ → Entry → ℕ → Type 0
@@ -93,13 +94,13 @@ EntryFault g v start m e r = (seen : List ℕ) → Met g v start m (key (e .name
 abbrev pub BelowFault : ℕ → Entry → ℕ → Type 0
 BelowFault levels e r = (p : ℕ) → judgeBelow levels p e ≡ faultAt r p
 
-abbrev pub FileWalked : Geometry → View → ℕ → Entry → Totals → List ℕ → Walk → List ℕ → Type 0
-FileWalked g v page e c t r u = (claimed : List ℕ) → Represents t claimed → Answers (plusPart c) (ownPart (c .files + c .directories) t) (judgeFile g v (suc (g .pages)) claimed page e) r u
+abbrev pub FileWalked : Geometry → Views → ℕ → Entry → Totals → List ℕ → Checked → List ℕ → Type 0
+FileWalked g vs page e c t r u = (claimed : List ℕ) → Represents t claimed → Answers (plusPart c) (ownPart (c .files + c .directories) t) (judgeFile g vs (suc (g .pages)) claimed page e) r u
 
-abbrev pub EntryWalked : Geometry → View → ℕ → ℕ → ℕ → ℕ → ℕ → Entry → Totals → List ℕ → Walk → List ℕ → Type 0
-EntryWalked g v levels name start page m e c t r u = (claimed seen : List ℕ) → Represents t claimed → Met g v start m (key (e .name) (e .extension)) seen
-    → Answers (plusPart c) (ownPart (c .files + c .directories) t) (judgeEntry g v (suc (g .pages)) (judgeSub g v (suc (g .pages)) levels) (record { name = name; start = start }) claimed page seen e) r u
+abbrev pub EntryWalked : Geometry → Views → ℕ → ℕ → ℕ → ℕ → ℕ → Entry → Totals → List ℕ → Checked → List ℕ → Type 0
+EntryWalked g vs levels name start page m e c t r u = (claimed seen : List ℕ) → Represents t claimed → Met g (vs .pages) start m (key (e .name) (e .extension)) seen
+    → Answers (plusPart c) (ownPart (c .files + c .directories) t) (judgeEntry g vs (suc (g .pages)) (judgeSub g vs (suc (g .pages)) levels) (record { name = name; start = start }) claimed page seen e) r u
 
-abbrev pub DirectoryWalked : Geometry → View → ℕ → Test → ℕ → ℕ → ℕ → ℕ → Totals → List ℕ → Walk → List ℕ → Type 0
-DirectoryWalked g v levels test name start from owner c t r u = (claimed : List ℕ) → Represents t claimed
-    → Answers (plusDirectory c) (ownDirectory owner (c .files + c .directories) t) (judgeDirectory g v (suc (g .pages)) (judgeSub g v (suc (g .pages)) levels) test (record { name = name; start = start }) claimed from) r u
+abbrev pub DirectoryWalked : Geometry → Views → ℕ → Test → ℕ → ℕ → ℕ → ℕ → Totals → List ℕ → Checked → List ℕ → Type 0
+DirectoryWalked g vs levels test name start from owner c t r u = (claimed : List ℕ) → Represents t claimed
+    → Answers (plusDirectory c) (ownDirectory owner (c .files + c .directories) t) (judgeDirectory g vs (suc (g .pages)) (judgeSub g vs (suc (g .pages)) levels) test (record { name = name; start = start }) claimed from) r u

@@ -2,9 +2,11 @@
 use chain::Claim;
 use directory::control::Kind;
 use directory::extensions::is_directory;
+use entries::Next;
 use entries::Slot;
 use geometry::FIRST_OWNER;
 use geometry::Geometry;
+use rules::Checked;
 use rules::Entry;
 use rules::Totals;
 ghost use mathlib.Core.Path.{_≡_};
@@ -12,18 +14,13 @@ ghost use Prim.Native.Nat.{_+_, _-_, _<_};
 ghost use lib.ListN.{length};
 ghost use Rattle.geometry.specs.Geometry.{Fit};
 ghost use Rattle.packet.specs.Packet.{viewOf};
+ghost use Rattle.rules.specs.Chain.{viewsOf};
 ghost use Rattle.directory.specs.Faults.{testOf};
 ghost use Rattle.entries.specs.EntrySlots.{HasEntries};
 ghost use Rattle.walk.specs.Walks.{Good, Ready, Remaining, EntryFault, BelowFault, FileWalked, EntryWalked, DirectoryWalked};
 
-// What a walk answers: the totals so far, or the number of a refusal of document 01 and its page.
-pub enum Walk {
-    Done(Totals),
-    Refused(u8, usize),
-}
-
 // The directory that an entry stands in: its name, its start page and how many entries it has.
-pub struct Parent {
+pub struct Directory {
     pub name: u32,
     pub start: usize,
     pub count: usize,
@@ -68,23 +65,23 @@ fn walk_file(
     page: usize,
     e: Entry,
     totals: Totals,
-    owners: &mut [u16],
-) -> Walk
+    table: &mut [u16],
+) -> Checked
     requires { ⌜ Fit g (now image) ⌝ }
-    requires { ⌜ (length (now owners) ≡ g .pages) × Good g totals (now owners) ⌝ }
-    ensures { λ r. ⌜ FileWalked g (viewOf g (now (image .entry))) page e totals (now (owners .entry)) r (now (owners .exit)) ⌝ }
+    requires { ⌜ (length (now table) ≡ g .pages) × Good g totals (now table) ⌝ }
+    ensures { λ r. ⌜ FileWalked g (viewsOf g (now (image .entry))) page e totals (now (table .entry)) r (now (table .exit)) ⌝ }
 {
     if e.start == 0 {
-        return Walk::Refused(6, page);
+        return Checked::Refused(6, page);
     }
     let owner = FIRST_OWNER + (totals.files + totals.directories);
-    match chain::claim_chain(image, g, Kind::File, owner, page, e.start, owners) {
-        Claim::Refused(number, told) => Walk::Refused(number, told),
+    match chain::claim_chain(image, g, Kind::File, owner, page, e.start, table) {
+        Claim::Refused(number, at) => Checked::Refused(number, at),
         Claim::Chain(pages, _) => {
             if e.pages != pages {
-                return Walk::Refused(8, page);
+                return Checked::Refused(8, page);
             }
-            Walk::Done(Totals {
+            Checked::Done(Totals {
                 used: totals.used + pages,
                 files: totals.files + 1,
                 directories: totals.directories,
@@ -98,28 +95,28 @@ fn walk_entry(
     image: &[u8],
     g: Geometry,
     levels: usize,
-    parent: Parent,
+    parent: Directory,
     page: usize,
     left: usize,
     e: Entry,
     totals: Totals,
-    owners: &mut [u16],
-) -> Walk
+    table: &mut [u16],
+) -> Checked
     requires { ⌜ Fit g (now image) ⌝ }
-    requires { ⌜ (length (now owners) ≡ g .pages) × HasEntries g (viewOf g (now image)) (parent .start) (parent .count - left) × Good g totals (now owners) × Remaining parent left ⌝ }
-    ensures { λ r. ⌜ EntryWalked g (viewOf g (now (image .entry))) levels (parent .name) (parent .start) page (parent .count - left) e totals (now (owners .entry)) r (now (owners .exit)) ⌝ }
+    requires { ⌜ (length (now table) ≡ g .pages) × HasEntries g (viewOf g (now image)) (parent .start) (parent .count - left) × Good g totals (now table) × Remaining parent left ⌝ }
+    ensures { λ r. ⌜ EntryWalked g (viewsOf g (now (image .entry))) levels (parent .name) (parent .start) page (parent .count - left) e totals (now (table .entry)) r (now (table .exit)) ⌝ }
 {
     let fault = entry_fault(image, g, parent.start, parent.count - left, e);
     if fault != 0 {
-        return Walk::Refused(fault, page);
+        return Checked::Refused(fault, page);
     }
     let below = is_directory(e.extension);
     if !below {
-        return walk_file(image, g, page, e, totals, owners);
+        return walk_file(image, g, page, e, totals, table);
     }
     let refused = below_fault(levels, e);
     if refused != 0 {
-        return Walk::Refused(refused, page);
+        return Checked::Refused(refused, page);
     }
     let owner = FIRST_OWNER + (totals.files + totals.directories);
     let inside = Totals {
@@ -137,7 +134,7 @@ fn walk_entry(
         e.start,
         owner,
         inside,
-        owners,
+        table,
     )
 }
 
@@ -152,14 +149,14 @@ pub fn walk_directory(
     start: usize,
     owner: usize,
     totals: Totals,
-    owners: &mut [u16],
-) -> Walk
+    table: &mut [u16],
+) -> Checked
     requires { ⌜ Fit g (now image) ⌝ }
-    requires { ⌜ (length (now owners) ≡ g .pages) × Ready g totals owner (now owners) ⌝ }
-    ensures { λ r. ⌜ DirectoryWalked g (viewOf g (now (image .entry))) levels (testOf g kind) name start from owner totals (now (owners .entry)) r (now (owners .exit)) ⌝ }
+    requires { ⌜ (length (now table) ≡ g .pages) × Ready g totals owner (now table) ⌝ }
+    ensures { λ r. ⌜ DirectoryWalked g (viewsOf g (now (image .entry))) levels (testOf g kind) name start from owner totals (now (table .entry)) r (now (table .exit)) ⌝ }
 {
-    match chain::claim_chain(image, g, kind, owner, from, start, owners) {
-        Claim::Refused(number, told) => Walk::Refused(number, told),
+    match chain::claim_chain(image, g, kind, owner, from, start, table) {
+        Claim::Refused(number, at) => Checked::Refused(number, at),
         Claim::Chain(pages, _) => {
             let mut so_far = Totals {
                 used: totals.used + pages,
@@ -167,26 +164,21 @@ pub fn walk_directory(
                 directories: totals.directories,
             };
             let count = entries::count_of(image, g, start);
-            let parent = Parent { name, start, count };
+            let parent = Directory { name, start, count };
             let mut slot = Slot::first(image, g, start);
             let mut left = count;
             loop {
-                if slot.at < slot.count {
-                    let page = slot.page;
-                    let e = slot.entry(image, g);
-                    match walk_entry(image, g, levels, parent, page, left, e, so_far, owners) {
-                        Walk::Refused(number, told) => return Walk::Refused(number, told),
-                        Walk::Done(d) => so_far = d,
-                    }
-                    slot = slot.past();
-                    left -= 1;
-                } else {
-                    let next = slot.next;
-                    if next.page == 0 {
-                        return Walk::Done(so_far);
-                    }
-                    slot = Slot::begin(next, 0, image, g);
+                let Next::At(at) = slot.next_entry(image, g) else {
+                    return Checked::Done(so_far);
+                };
+                let page = at.page;
+                let e = at.entry(image, g);
+                match walk_entry(image, g, levels, parent, page, left, e, so_far, table) {
+                    Checked::Refused(number, at) => return Checked::Refused(number, at),
+                    Checked::Done(d) => so_far = d,
                 }
+                slot = at.past();
+                left -= 1;
             }
         }
     }

@@ -1,5 +1,6 @@
+-- A done edit has no number to tell but 0; of a refusal only the page can be long, and it is below 131072.
 use native.Mathlib.Omega.{arith}
-use Rattle.volume.specs.Told.{editTold}
+use Rattle.rules.specs.Answers.{editResult}
 use Rattle.answers.specs.Small.{DoneSmall}
 use Rattle.answers.proofs.Telling.{small-as}
 use borrow.Author.Needs.{needs}
@@ -10,7 +11,7 @@ cast-t6 : tie.Need-cast-t6
 cast-t6 c =
     let at-answer = c .before in
     let start = at-answer .before .before in
-    omega (arith, small-as DoneSmall editTold _ _ (start .pre) (at-answer .answer .given .1))
+    omega (arith, small-as DoneSmall editResult _ _ (start .pre) (at-answer .answer .given .1))
 
 returns : tie.Need-returns
 returns c = rw (c .enum-told .given .1)

@@ -1,5 +1,6 @@
+-- A file has fewer than 2^24 bytes, so its length goes over as it is; a refusal goes over with the length 0.
 use native.Mathlib.Omega.{arith}
-use Rattle.query.specs.Told.{lengthTold}
+use Rattle.rules.specs.Answers.{lengthResult}
 use Rattle.answers.specs.Small.{LengthSmall}
 use Rattle.answers.proofs.Telling.{small-as}
 use borrow.Author.Needs.{needs}
@@ -10,13 +11,13 @@ cast-t6 : tie.Need-cast-t6
 cast-t6 c =
     let at-answer = c .before in
     let start = at-answer .before .before in
-    omega (arith, small-as LengthSmall lengthTold _ _ (start .pre) (at-answer .answer .given .1))
+    omega (arith, small-as LengthSmall lengthResult _ _ (start .pre) (at-answer .answer .given .1))
 
 cast-t8 : tie.Need-cast-t8
 cast-t8 c =
     let at-answer2 = c .before in
     let start = at-answer2 .before .before in
-    omega (arith, small-as LengthSmall lengthTold _ _ (start .pre) (at-answer2 .answer2 .given .1))
+    omega (arith, small-as LengthSmall lengthResult _ _ (start .pre) (at-answer2 .answer2 .given .1))
 
 returns : tie.Need-returns
 returns c = rw (c .before .answer .given .1)

@@ -1,3 +1,4 @@
+-- The invariant: the value, halved as often as is still left, is the byte halved k times. The measure: the halvings left.
 use mathlib.Core.Path.{_≡_, ap}
 use Prim.Native.Nat.{ℕ, _/_, _^_}
 use native.Mathlib.Omega.{arith}

@@ -1,4 +1,5 @@
--- The loop over a bitmap's chain: the bits of the pages passed agree.
+-- The loop over a bitmap's chain. The invariant: whatever the chain is, the bits of the pages passed agree, so that those to come decide.
+-- The measure: N less the pages passed.
 use mathlib.Core.Path.{sym, _∙_}
 use mathlib.Core.List.{List}
 use Prim.Native.Nat.{ℕ, _-_}
@@ -6,20 +7,21 @@ use native.Mathlib.Omega.{arith}
 use lib.ListN.{length}
 use Rattle.packet.specs.Packet.{viewOf}
 use Rattle.rules.specs.Chain.{Link, content}
-use Rattle.rules.specs.OwnerLaws.{Represents, taken, represents-taken}
+use Rattle.owners.specs.Owned.{Represents}
+use Rattle.owners.specs.OwnerLaws.{taken, represents-taken}
 use Rattle.bitmap.proofs.Comparing.{Comparing, started, in-bounds, answer-differ, answer-same, compare-on}
 use borrow.Author.Needs.{needs}
 use Rattle.bitmap.proofs.compare_chain.Statement.{statement}
 use Rattle.bitmap.proofs.compare_chain.Tie as tie
-use Rattle.chain.specs.KnownChain.{ChainStands}
+use Rattle.chain.specs.KnownChain.{ChainAt}
 use Rattle.chain.proofs.Following.{never-refused, page-known, counts-up, data-inside}
 
 abbrev Inv-loop : tie.InvT-loop
-Inv-loop image g start owners c₀ c = (ls : List Link) → ChainStands g (viewOf g image) start ls → (used : List ℕ) → Represents owners used
+Inv-loop image g start table c₀ c = (ls : List Link) → ChainAt g (viewOf g image) start ls → (used : List ℕ) → Represents table used
     → Comparing g (viewOf g image) (content ls) used (length ls) c
 
 abbrev μ-loop : tie.MeasureT-loop
-μ-loop image g start owners c₀ c = g .pages - c .count
+μ-loop image g start table c₀ c = g .pages - c .count
 
 loop-holds : tie.Need-loop-holds Inv-loop μ-loop
 loop-holds c =
@@ -30,7 +32,7 @@ step-requires : tie.Need-step-requires Inv-loop μ-loop
 step-requires c κs =
     let start = c .before .before .before .before in
     let s = start .pre in
-    let t = start .args .owners .now in
+    let t = start .args .table .now in
     let l = c .loop .inv (s .1 .links) (s .1 .chain) (taken t) (represents-taken t) in
     (s .0, (l .read .following .counted, λ z. page-known _ _ (s .0) _ _ _ (l .read .following) .1))
 
@@ -40,7 +42,7 @@ returns c =
     let at-loop = at-step .before in
     let start = at-loop .before .before .before .before in
     let s = start .pre in
-    let t = start .args .owners .now in
+    let t = start .args .table .now in
     let l = at-loop .loop .inv (s .1 .links) (s .1 .chain) (taken t) (represents-taken t) in
     let k = page-known _ _ (s .0) _ _ _ (l .read .following) in
     absurd (never-refused _ _ _ (k .0) (k .1) _ _ (sym (c .enum-told .given .1) ∙ at-step .step .ensures))
@@ -50,7 +52,7 @@ page-of-requires c κs =
     let at-loop = c .before .before .before .before in
     let start = at-loop .before .before .before .before in
     let s = start .pre in
-    let t = start .args .owners .now in
+    let t = start .args .table .now in
     let l = at-loop .loop .inv (s .1 .links) (s .1 .chain) (taken t) (represents-taken t) in
     (s .0, page-known _ _ (s .0) _ _ _ (l .read .following) .0)
 
@@ -61,7 +63,7 @@ data-of-requires c κs =
     let at-loop = at-step .before in
     let start = at-loop .before .before .before .before in
     let s = start .pre in
-    let t = start .args .owners .now in
+    let t = start .args .table .now in
     let l = at-loop .loop .inv (s .1 .links) (s .1 .chain) (taken t) (represents-taken t) in
     data-inside _ _ (s .0) _ _ _ (l .read .following) _ _ _ (at-size .size .given .1) (at-step .step .ensures) _ (c .page-of .ensures)
 
@@ -73,9 +75,9 @@ compare-bytes-requires c κs =
     let at-loop = at-step .before in
     let start = at-loop .before .before .before .before in
     let s = start .pre in
-    let t = start .args .owners .now in
+    let t = start .args .table .now in
     let l = at-loop .loop .inv (s .1 .links) (s .1 .chain) (taken t) (represents-taken t) in
-    in-bounds _ _ (s .0) _ _ _ _ l _ _ _ (at-size .size .given .1) (at-step .step .ensures) _ (at-page-of .page-of .ensures) _ (c .data-of .ensures)
+    in-bounds _ _ (s .0) l (at-size .size .given .1) (at-step .step .ensures) (at-page-of .page-of .ensures) (c .data-of .ensures)
 
 returns-2 : tie.Need-returns-2 Inv-loop μ-loop
 returns-2 c =
@@ -89,8 +91,8 @@ returns-2 c =
     let start = at-loop .before .before .before .before in
     λ ls d used r.
     let s = start .pre in
-    answer-differ _ _ (s .0) _ _ _ _ (at-loop .loop .inv ls d used r) _ _ _ (at-size .size .given .1) (at-step .step .ensures) _ (at-page-of .page-of .ensures) _
-    (at-data-of .data-of .ensures) (start .args .owners .now) r (at-compare-bytes .compare-bytes .result) (at-compare-bytes .compare-bytes .ensures) _ (at-bit .bit .given .1)
+    answer-differ _ _ (s .0) (at-loop .loop .inv ls d used r) (at-size .size .given .1) (at-step .step .ensures) (at-page-of .page-of .ensures)
+    (at-data-of .data-of .ensures) (start .args .table .now) r (at-compare-bytes .compare-bytes .result) (at-compare-bytes .compare-bytes .ensures) _ (at-bit .bit .given .1)
 
 returns-3 : tie.Need-returns-3 Inv-loop μ-loop
 returns-3 c =
@@ -104,8 +106,8 @@ returns-3 c =
     let start = at-loop .before .before .before .before in
     λ ls d used r.
     let s = start .pre in
-    answer-same _ _ (s .0) _ _ _ _ (at-loop .loop .inv ls d used r) _ _ _ (at-size .size .given .1) (at-step .step .ensures) _ (at-page-of .page-of .ensures) _
-    (at-data-of .data-of .ensures) (start .args .owners .now) r (at-compare-bytes .compare-bytes .result) (at-compare-bytes .compare-bytes .ensures)
+    answer-same _ _ (s .0) (at-loop .loop .inv ls d used r) (at-size .size .given .1) (at-step .step .ensures) (at-page-of .page-of .ensures)
+    (at-data-of .data-of .ensures) (start .args .table .now) r (at-compare-bytes .compare-bytes .result) (at-compare-bytes .compare-bytes .ensures)
     (at-enum-told2 .enum-told2 .given .1) (c .if1 .taken)
 
 loop-less : tie.Need-loop-less Inv-loop μ-loop
@@ -116,7 +118,7 @@ loop-less c =
     let at-loop = at-step .before in
     let start = at-loop .before .before .before .before in
     let s = start .pre in
-    let t = start .args .owners .now in
+    let t = start .args .table .now in
     let l = at-loop .loop .inv (s .1 .links) (s .1 .chain) (taken t) (represents-taken t) in
     let k = counts-up _ _ (s .0) _ _ _ (l .read .following) _ _ _ (at-size .size .given .1) (at-step .step .ensures) in
     omega (arith, l .read .following .steps, l .read .following .chain .some, s .1 .chain .few)
@@ -133,8 +135,8 @@ loop-again c =
     let start = at-loop .before .before .before .before in
     λ ls d used r.
     let s = start .pre in
-    compare-on _ _ (s .0) _ _ _ _ (at-loop .loop .inv ls d used r) _ _ _ (at-size .size .given .1) (at-step .step .ensures) _ (at-page-of .page-of .ensures) _
-    (at-data-of .data-of .ensures) (start .args .owners .now) r (at-compare-bytes .compare-bytes .result) (at-compare-bytes .compare-bytes .ensures)
+    compare-on _ _ (s .0) (at-loop .loop .inv ls d used r) (at-size .size .given .1) (at-step .step .ensures) (at-page-of .page-of .ensures)
+    (at-data-of .data-of .ensures) (start .args .table .now) r (at-compare-bytes .compare-bytes .result) (at-compare-bytes .compare-bytes .ensures)
     (at-enum-told2 .enum-told2 .given .1) (c .if1 .left) (d .few)
 
 pub compare-chain-spec : {M : Type 1} → statement M

@@ -1,11 +1,13 @@
+-- Any number but 0 asks for a local bitmap, as `asksLocal` says. Over the loaded numbers the call is `formatCall`: its image stays, its table is stored.
+-- A format is refused with 1 or 4 at page 0, which fits.
 use mathlib.Core.List.{List}
 use mathlib.Core.Path.{ap, _∙_}
 use Prim.Native.Nat.{ℕ}
 use native.Mathlib.Omega.{arith}
 use lib.ListN.{length}
 use Rattle.rules.specs.Calls.{formatCall}
-use Rattle.volume.specs.Told.{editTold}
-use Rattle.answers.specs.Answers.{asksLocal}
+use Rattle.rules.specs.Answers.{editResult}
+use Rattle.answers.specs.ExportedAnswers.{asksLocal}
 use Rattle.answers.proofs.SmallLaws.{format-small}
 use Rattle.answers.proofs.CallLaws.{formatted}
 use borrow.Author.Needs.{needs}
@@ -27,9 +29,9 @@ returns c =
     let at-slice-known3 = at-load .before .before .before in
     let start = at-slice-known3 .before .before .before in
     let a = start .args in
-    formatted (a .size) (a .pages) (a .image .now) (a .owners .now) (length (a .table .now)) (start .pre) (λ i. omega (arith, at-slice-known3 .slice-known3 .given i))
+    formatted (a .size) (a .pages) (a .image .now) (a .stored .now) (length (a .table .now)) (start .pre) (λ i. omega (arith, at-slice-known3 .slice-known3 .given i))
     (at-format .format .last .1 .1 .1 .0) _
-    (at-format .format .kept .1 .1 .1 .0 ∙ at-load .load .kept .1 .0) (at-store .store .ensures) (a .local) (at-format .format .last .0) (editTold (at-format .format .result)) _
+    (at-format .format .kept .1 .1 .1 .0 ∙ at-load .load .kept .1 .0) (at-store .store .ensures) (a .local) (at-format .format .last .0) (editResult (at-format .format .result)) _
     (at-format .format .ensures .0 ∙ ap (λ (t : List ℕ). formatCall (a .size) (a .pages) (a .image .now) t (asksLocal (a .local))) (at-load .load .ensures)) (c .tell-answer .ensures)
 
 pub format-over-spec : {M : Type 1} → statement M

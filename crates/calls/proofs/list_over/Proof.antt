@@ -1,10 +1,12 @@
+-- The image is only read, so the answer is the line of `listCall` at the position, over the loaded numbers, and what is stored is the check's table.
+-- A line of an accepted image tells numbers that fit 32 bits.
 use mathlib.Core.List.{List}
 use mathlib.Core.Path.{ap, _∙_}
 use Prim.Native.Nat.{ℕ}
 use native.Mathlib.Omega.{arith}
 use lib.ListN.{length}
 use Rattle.rules.specs.Calls.{listCall}
-use Rattle.query.specs.Told.{lineTold}
+use Rattle.rules.specs.Answers.{lineResult}
 use Rattle.answers.proofs.SmallLaws.{list-small}
 use Rattle.answers.proofs.CallLaws.{listed}
 use borrow.Author.Needs.{needs}
@@ -25,8 +27,8 @@ returns c =
     let at-slice-known2 = at-load .before .before .before in
     let start = at-slice-known2 .before .before .before in
     let a = start .args in
-    listed (a .size) (a .pages) (a .image .now) (a .owners .now) (length (a .table .now)) (start .pre) (λ i. omega (arith, at-slice-known2 .slice-known2 .given i)) (at-list .list .last .1 .1 .1 .0) _
-    (at-list .list .kept .1 .1 .1 .0 ∙ at-load .load .kept .1 .0) (at-store .store .ensures) (a .position) (lineTold (at-list .list .result)) _
+    listed (a .size) (a .pages) (a .image .now) (a .stored .now) (length (a .table .now)) (start .pre) (λ i. omega (arith, at-slice-known2 .slice-known2 .given i)) (at-list .list .last .1 .1 .1 .0) _
+    (at-list .list .kept .1 .1 .1 .0 ∙ at-load .load .kept .1 .0) (at-store .store .ensures) (a .position) (lineResult (at-list .list .result)) _
     (at-list .list .ensures .0 ∙ ap (λ (t : List ℕ). listCall (a .size) (a .pages) (a .image .now) t (a .position)) (at-load .load .ensures)) (c .tell-entry .ensures)
 
 pub list-over-spec : {M : Type 1} → statement M

@@ -1,10 +1,12 @@
+-- Two things are lent, the output and the table: `readCall` over the loaded numbers decides both, and the table is stored.
+-- The length told is a file's, fewer bytes than an image has, so it fits 32 bits.
 use mathlib.Core.List.{List}
 use mathlib.Core.Path.{ap, _∙_}
 use Prim.Native.Nat.{ℕ}
 use native.Mathlib.Omega.{arith}
 use lib.ListN.{length}
 use Rattle.rules.specs.Calls.{readCall}
-use Rattle.query.specs.Told.{lengthTold}
+use Rattle.rules.specs.Answers.{lengthResult}
 use Rattle.answers.proofs.SmallLaws.{read-small}
 use Rattle.answers.proofs.CallLaws.{read}
 use borrow.Author.Needs.{needs}
@@ -26,10 +28,10 @@ returns c =
     let at-slice-known3 = at-load .before .before .before in
     let start = at-slice-known3 .before .before .before .before .before in
     let a = start .args in
-    read (a .size) (a .pages) (a .image .now) (a .owners .now) (length (a .table .now)) (start .pre) (λ i. omega (arith, at-slice-known3 .slice-known3 .given i))
+    read (a .size) (a .pages) (a .image .now) (a .stored .now) (length (a .table .now)) (start .pre) (λ i. omega (arith, at-slice-known3 .slice-known3 .given i))
     (at-read .read .last .1 .1 .1 .1 .1 .0) _
     (at-read .read .kept .1 .1 .1 .1 .1 .0 ∙ at-load .load .kept .1 .0) (at-store .store .ensures) (a .path .now) (a .out .now) (at-read .read .last .1 .1 .1 .1 .0)
-    (lengthTold (at-read .read .result)) _
+    (lengthResult (at-read .read .result)) _
     (at-read .read .ensures .0 ∙ ap (λ (t : List ℕ). readCall (a .size) (a .pages) (a .image .now) t (a .path .now) (a .out .now)) (at-load .load .ensures)) (c .tell-length .ensures)
 
 pub read-over-spec : {M : Type 1} → statement M

@@ -1,3 +1,5 @@
+-- A page of the image is long enough to be judged. Of a page that is known to hold a right packet, length and pointer say all that the packet says;
+-- of any other the check is computed.
 use mathlib.Core.Path.{ap}
 use native.Mathlib.Omega.{arith}
 use lib.ListN.{length}
@@ -11,8 +13,7 @@ frame-requires : tie.Need-frame-requires
 frame-requires c κs =
     let at-page-of = c .before in
     let start = at-page-of .before .before in
-    let s = start in
-    omega (arith, ap length (at-page-of .page-of .ensures), page-length (s .args .g) (s .args .image .now) (s .args .page) (s .pre .0) (s .pre .1 .0))
+    omega (arith, ap length (at-page-of .page-of .ensures), page-length (start .args .g) (start .args .image .now) (start .args .page) (start .pre .0) (start .pre .1 .0))
 
 returns : tie.Need-returns
 returns c =
@@ -25,8 +26,7 @@ judge-requires : tie.Need-judge-requires
 judge-requires c κs =
     let at-page-of = c .before in
     let start = at-page-of .before .before in
-    let s = start in
-    omega (arith, ap length (at-page-of .page-of .ensures), page-length (s .args .g) (s .args .image .now) (s .args .page) (s .pre .0) (s .pre .1 .0))
+    omega (arith, ap length (at-page-of .page-of .ensures), page-length (start .args .g) (start .args .image .now) (start .args .page) (start .pre .0) (start .pre .1 .0))
 
 returns-2 : tie.Need-returns-2
 returns-2 c = judged-there _ _ _ _ (c .before .before .page-of .ensures) _ (c .judge .ensures)

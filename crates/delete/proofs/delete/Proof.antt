@@ -1,8 +1,10 @@
+-- Refusal 1 leaves image and table as they are. Else `delete_in` works on the first N numbers of the table, and what is behind them stays: that is `deleteCall`.
+-- `Deletes`, what the call promises of its image, holds of every answer of `deleteCall`.
 use mathlib.Core.Path.{sym, _∙_}
 use lib.Seq.{length-take-le}
 use Rattle.geometry.specs.ShapeLaws.{sized-of, fit-of}
-use Rattle.rules.specs.CallLaws.{delete-wrong}
-use Rattle.volume.specs.declared.Edited.the-variants as edited
+use Rattle.rules.specs.CallLaws.{delete-invalid}
+use Rattle.rules.specs.declared.Edited.the-variants as edited
 use Rattle.delete.proofs.Calling.{deleted, delete-is}
 use borrow.Author.Needs.{needs}
 use Rattle.delete.proofs.delete.Statement.{statement}
@@ -31,7 +33,7 @@ delete-in-requires c κs =
     let start = at-new .before .before .before .before in
     let a = start .args in
     let e = sym (at-new .new .ensures) ∙ at-g .g .given .1 in
-    (fit-of (a .size) (a .pages) (a .image .now) (a .owners .now) _ e, length-take-le _ (a .owners .now) (sized-of (a .size) (a .pages) _ _ _ e .room))
+    (fit-of (a .size) (a .pages) (a .image .now) (a .table .now) _ e, length-take-le _ (a .table .now) (sized-of (a .size) (a .pages) _ _ _ e .room))
 
 returns : tie.Need-returns
 returns c =
@@ -39,8 +41,8 @@ returns c =
     let at-slice-known = at-new .before .before .before in
     let start = at-slice-known .before in
     let a = start .args in
-    let e = sym (delete-wrong (a .size) (a .pages) (a .image .now) (a .owners .now) (sym (at-new .new .ensures) ∙ c .enum-told .given .1) (a .path .now)) in
-    (e, delete-is (a .size) (a .pages) (a .image .now) (a .owners .now) (a .path .now) (λ i. at-slice-known .slice-known .given i .fits) (edited.Refused 1 0) (a .image .now) (a .owners .now) e)
+    let e = sym (delete-invalid (a .size) (a .pages) (a .image .now) (a .table .now) (sym (at-new .new .ensures) ∙ c .enum-told .given .1) (a .path .now)) in
+    (e, delete-is (a .size) (a .pages) (a .image .now) (a .table .now) (a .path .now) (λ i. at-slice-known .slice-known .given i .fits) (edited.Refused 1 0) (a .image .now) (a .table .now) e)
 
 returns-2 : tie.Need-returns-2
 returns-2 c =
@@ -50,9 +52,9 @@ returns-2 c =
     let at-slice-known = at-new .before .before .before in
     let start = at-slice-known .before in
     let a = start .args in
-    let e = deleted (a .size) (a .pages) (a .image .now) (a .owners .now) (a .path .now) _ (sym (at-new .new .ensures) ∙ at-g .g .given .1) (at-delete-in .delete-in .result) _ _
+    let e = deleted (a .size) (a .pages) (a .image .now) (a .table .now) (a .path .now) _ (sym (at-new .new .ensures) ∙ at-g .g .given .1) (at-delete-in .delete-in .result) _ _
     (at-delete-in .delete-in .ensures) in
-    (e, delete-is (a .size) (a .pages) (a .image .now) (a .owners .now) (a .path .now) (λ i. at-slice-known .slice-known .given i .fits) (at-delete-in .delete-in .result) _ _ e)
+    (e, delete-is (a .size) (a .pages) (a .image .now) (a .table .now) (a .path .now) (λ i. at-slice-known .slice-known .given i .fits) (at-delete-in .delete-in .result) _ _ e)
 
 pub delete-spec : {M : Type 1} → statement M
 delete-spec =

@@ -1,6 +1,6 @@
--- Each refusal in its place; the file that is found can be deleted.
-use Rattle.delete.proofs.PathDelete.{malformed, nowhere, absent, read-only, has-file, done}
+-- Each refusal in its place; the file that is found is unlinked.
 use Rattle.directory.proofs.ExtensionLaws.{top-set, top-clear}
+use Rattle.delete.proofs.PathDelete.{malformed, nowhere, absent, read-only, can-delete, done}
 use borrow.Author.Needs.{needs}
 use Rattle.delete.proofs.delete_path.Statement.{statement}
 use Rattle.delete.proofs.delete_path.Tie as tie
@@ -8,7 +8,8 @@ use Rattle.delete.proofs.delete_path.Tie as tie
 find-file-requires : tie.Need-find-file-requires
 find-file-requires c κs =
     let start = c .before .before .before .before in
-    let T = start .pre .1 .1 in (start .pre .0, record { image = T .tree; accepted = T .accepted })
+    let T = start .pre .1 .1 in
+    (start .pre .0, record { image = T .tree; accepted = T .accepted })
 
 returns : tie.Need-returns
 returns c =
@@ -17,60 +18,53 @@ returns c =
     let at-find-file = at-slot .before .before in
     let start = at-find-file .before .before .before .before .before in
     let a = start .args in
-    read-only (a .g) (a .image .now) (a .owners .now) (a .path .now) (start .pre .1 .1) (at-find-file .find-file .result) (at-find-file .find-file .ensures) _ _ (at-slot .slot .given .1) (top-set _ _
-    (at-extension-of .extension-of .ensures) (c .if1 .taken))
+    let x = top-set _ _ (at-extension-of .extension-of .ensures) (c .if1 .taken) in
+    read-only (a .g) (a .image .now) (a .table .now) (a .path .now) (start .pre .1 .1) _ (at-find-file .find-file .ensures) (a .budget) _ _ (at-slot .slot .given .1) x
 
 unlink-requires : tie.Need-unlink-requires
 unlink-requires c κs =
     let at-slot = c .before .before .before .before .before .before in
-    let at-slot = at-slot in
     let at-find-file = at-slot .before .before in
     let start = at-find-file .before .before .before .before .before in
-    let a = start .args in (
-      start .pre .0,
-      (
-        start .pre .1 .0,
-        has-file (a .g) (a .image .now) (a .owners .now) (a .path .now) (start .pre .1 .1) (at-find-file .find-file .result) (at-find-file .find-file .ensures) _ _
-            (at-slot .slot .given .1),
-      ),
-    )
+    let a = start .args in
+    let p = start .pre in
+    (p .0, (p .1 .0, can-delete (a .g) (a .image .now) (a .table .now) (a .path .now) (p .1 .1) _ (at-find-file .find-file .ensures) (a .budget) _ _ (at-slot .slot .given .1), p .1 .2))
 
 returns-2 : tie.Need-returns-2
 returns-2 c =
     let at-find-file = c .before .before in
     let start = at-find-file .before .before .before .before .before in
     let a = start .args in
-    malformed (a .g) (a .image .now) (a .owners .now) (a .path .now) (start .pre .1 .1) (at-find-file .find-file .result) (at-find-file .find-file .ensures) (c .enum-told .given .1)
+    malformed (a .g) (a .image .now) (a .table .now) (a .path .now) (start .pre .1 .1) _ (at-find-file .find-file .ensures) (a .budget) (c .enum-told .given .1)
 
 returns-3 : tie.Need-returns-3
 returns-3 c =
     let at-find-file = c .before .before in
     let start = at-find-file .before .before .before .before .before in
     let a = start .args in
-    nowhere (a .g) (a .image .now) (a .owners .now) (a .path .now) (start .pre .1 .1) (at-find-file .find-file .result) (at-find-file .find-file .ensures) (c .enum-told2 .given .1)
+    nowhere (a .g) (a .image .now) (a .table .now) (a .path .now) (start .pre .1 .1) _ (at-find-file .find-file .ensures) (a .budget) (c .enum-told2 .given .1)
 
 returns-4 : tie.Need-returns-4
 returns-4 c =
     let at-find-file = c .before .before in
     let start = at-find-file .before .before .before .before .before in
     let a = start .args in
-    absent (a .g) (a .image .now) (a .owners .now) (a .path .now) (start .pre .1 .1) (at-find-file .find-file .result) (at-find-file .find-file .ensures) _ _ _ (c .enum-told3 .given .1)
+    absent (a .g) (a .image .now) (a .table .now) (a .path .now) (start .pre .1 .1) _ (at-find-file .find-file .ensures) (a .budget) _ _ _ (c .enum-told3 .given .1)
 
 returns-5 : tie.Need-returns-5
 returns-5 c =
     let at-unlink = c .before .before .before .before in
-    let at-unlink = at-unlink in
     let at-if1 = at-unlink .before .before .before in
     let at-extension-of = at-if1 .before .before in
     let at-slot = at-extension-of .before .before in
     let at-find-file = at-slot .before .before in
     let start = at-find-file .before .before .before .before .before in
     let a = start .args in
-    done (a .g) (a .image .now) (a .owners .now) (a .path .now) (start .pre .1 .1) (at-find-file .find-file .result) (at-find-file .find-file .ensures) _ _ (at-slot .slot .given .1) (top-clear _ _
-    (at-extension-of .extension-of .ensures) (at-if1 .if1 .left)) _ (at-unlink .unlink .ensures)
+    let x = top-clear _ _ (at-extension-of .extension-of .ensures) (at-if1 .if1 .left) in
+    done (a .g) (a .image .now) (a .table .now) (a .path .now) (start .pre .1 .1) _ (at-find-file .find-file .ensures) (a .budget) _ _ (at-slot .slot .given .1) x _ _ (at-unlink .unlink .ensures)
 
 pub delete-path-spec : {M : Type 1} → statement M
 delete-path-spec =
     tie.close
-    (tie.spec find-file-requires (λ c. search needs) (λ c. search needs) (λ c. search needs) (λ c. search needs) (λ c κs. search needs) (λ c. search needs) returns unlink-requires
-    (λ c. search needs) returns-2 (λ c. search needs) returns-3 (λ c. search needs) returns-4 (λ c. search needs) (λ c. search needs) returns-5)
+    (tie.spec find-file-requires (λ c. search needs) (λ c. search needs) (λ c. search needs) (λ c. search needs) (λ c κs. search needs) (λ c. search needs) returns
+    unlink-requires (λ c. search needs) returns-2 (λ c. search needs) returns-3 (λ c. search needs) returns-4 (λ c. search needs) (λ c. search needs) returns-5)

@@ -1,44 +1,33 @@
--- The three steps, each on what the one before leaves.
+-- The file's pages are free again; then its entry is taken out.
 use Rattle.delete.specs.Deletes.{Unlinks}
-use Rattle.stages.specs.OneEdit.{fit₂, has-root}
-use Rattle.delete.proofs.Unlinking.{removal, known-chain, has-entry, staged, unlinked}
+use Rattle.delete.proofs.Unlinking.{known-chain, plan, unlinked}
 use borrow.Author.Needs.{needs}
 use Rattle.delete.proofs.unlink.Statement.{statement}
 use Rattle.delete.proofs.unlink.Tie as tie
 
-release-requires : tie.Need-release-requires
-release-requires c κs =
+release-chain-requires : tie.Need-release-chain-requires
+release-chain-requires c κs =
     let start = c .before .before .before .before in
-    let s = start .pre in (s .0, (known-chain _ _ _ (s .0) _ _ (s .1 .1), s .1 .0))
+    let s = start .pre in
+    (s .0, (known-chain (s .0) (s .1 .1), s .1 .0))
 
-exchange-requires : tie.Need-exchange-requires
-exchange-requires c κs =
-    let at-release = c .before .before .before .before .before in
-    let start = at-release .before .before .before .before .before in
-    let s = start .pre in let d = s .1 .1 in (s .0, (d .file .at .fits .inside, has-entry _ _ _ (s .0) _ _ d))
-
-write-map-requires : tie.Need-write-map-requires
-write-map-requires c κs =
-    let at-exchange = c .before .before .before .before in
-    let at-release = at-exchange .before .before .before .before .before .before in
-    let start = at-release .before .before .before .before .before in
+remove-entry-requires : tie.Need-remove-entry-requires
+remove-entry-requires c κs =
+    let at-release-chain = c .before .before .before .before in
+    let start = at-release-chain .before .before .before .before .before in
     let s = start .pre in
     let d = s .1 .1 in
-    let b = staged _ _ _ (s .0) _ _ d _ (at-exchange .exchange .ensures) in
-    (fit₂ _ _ (removal _ _ _ (s .0) _ _ d) _ b, has-root _ _ (removal _ _ _ (s .0) _ _ d) _ b)
+    (s .0, (plan (s .0) d _ (at-release-chain .release-chain .ensures), d .file .at .under, s .1 .2))
 
 returns : tie.Need-returns
 unfolding Unlinks
 returns c =
-    let at-write-map = c .before .before in
-    let at-exchange = at-write-map .before .before .before .before .before in
-    let at-release = at-exchange .before .before .before .before .before .before in
-    let start = at-release .before .before .before .before .before in
-    λ d.
-    let s = start .pre in
-    unlinked _ _ _ (s .0) _ _ d _ _ _ (at-release .release .ensures) (staged _ _ _ (s .0) _ _ d _ (at-exchange .exchange .ensures)) (at-write-map .write-map .ensures)
+    let at-remove-entry = c .before .before in
+    let at-release-chain = at-remove-entry .before .before .before .before .before in
+    let start = at-release-chain .before .before .before .before .before in
+    λ d. unlinked (start .pre .0) d _ (at-release-chain .release-chain .ensures) _ _ _ (at-remove-entry .remove-entry .ensures)
 
 pub unlink-spec : {M : Type 1} → statement M
 unlink-spec =
     tie.close
-    (tie.spec release-requires (λ c. search needs) (λ c. search needs) exchange-requires write-map-requires (λ c. search needs) (λ c. search needs) returns)
+    (tie.spec release-chain-requires remove-entry-requires (λ c. search needs) (λ c. search needs) returns)

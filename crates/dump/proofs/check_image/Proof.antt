@@ -1,12 +1,14 @@
+-- An image whose geometry fits has at most 65,535 pages, so that many zeros have room for its owner table. The answer is the check's: its refusal, or its totals.
+-- A geometry that does not fit is 1.
 use mathlib.Core.Path.{sym, _∙_}
 use Rattle.packet.proofs.Fronts.{zeros-front}
-use Rattle.dump.proofs.Judging.{checks-wrong, fits, few, checks-refused, checks-done}
+use Rattle.dump.proofs.Judging.{checks-invalid, fits, few, checks-refused, checks-done}
 use borrow.Author.Needs.{needs}
 use Rattle.dump.proofs.check_image.Statement.{statement}
 use Rattle.dump.proofs.check_image.Tie as tie
 
-array-borrow-prefix-owners : tie.Need-array-borrow-prefix-owners
-array-borrow-prefix-owners c =
+array-borrow-prefix-table : tie.Need-array-borrow-prefix-table
+array-borrow-prefix-table c =
     let at-g = c .before in
     let at-new = at-g .before .before in
     let start = at-new .before .before in
@@ -35,7 +37,7 @@ returns c =
     let at-new = c .before .before in
     let start = at-new .before .before in
     let a = start .args in
-    checks-wrong (a .size) (a .pages) (a .image .now) (sym (at-new .new .ensures) ∙ c .enum-told .given .1)
+    checks-invalid (a .size) (a .pages) (a .image .now) (sym (at-new .new .ensures) ∙ c .enum-told .given .1)
 
 returns-2 : tie.Need-returns-2
 returns-2 c =
@@ -60,5 +62,5 @@ returns-3 c =
 pub check-image-spec : {M : Type 1} → statement M
 check-image-spec =
     tie.close
-    (tie.spec (λ c κs. search needs) (λ c. search needs) (λ c. search needs) array-borrow-prefix-owners slice-aggregate-check-table check-table-requires (λ c. search needs)
+    (tie.spec (λ c κs. search needs) (λ c. search needs) (λ c. search needs) array-borrow-prefix-table slice-aggregate-check-table check-table-requires (λ c. search needs)
     (λ c. search needs) returns returns-2 returns-3)

@@ -1,3 +1,5 @@
+-- A malformed dump prints the line of refusal 19. A dump that is placed has its header and its image inside, so page length, page count and image are those of the rule,
+-- and the text printed is that of the image's check.
 use mathlib.Core.Path.{sym, _∙_}
 use native.Mathlib.Omega.{arith}
 use Rattle.dump.proofs.Judging.{malformed, well-placed, well-sized, image-is}

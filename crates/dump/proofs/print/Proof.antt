@@ -1,3 +1,4 @@
+-- A text written to an output of no bytes leaves nothing and still tells its length: so the text is counted first, and written where it fits.
 use Rattle.dump.proofs.Laying.{prints-short, prints-whole}
 use borrow.Author.Needs.{needs}
 use Rattle.dump.proofs.print.Statement.{statement}

@@ -1,3 +1,5 @@
+-- The invariant: the output has the lines of the first k entries from `at` on, and they end at `next`. The measure: the lines still to come.
+-- Where there is no line at k, the first k lines are all.
 use Prim.Native.Nat.{_-_}
 use mathlib.Core.Path.{_≡_}
 use native.Mathlib.Omega.{arith}
@@ -27,20 +29,20 @@ returns c =
     let at-line-at = c .before .before in
     let at-loop = at-line-at .before in
     let start = at-loop .before .before .before in
-    laid-all _ _ _ _ _ _ _ (at-loop .loop .inv .1) (start .pre .1 .0) _ (at-line-at .line-at .ensures) _ (c .enum-told .given .1)
+    laid-all (at-loop .loop .inv .1) (start .pre .1 .0) _ (at-line-at .line-at .ensures) _ (c .enum-told .given .1)
 
 put-line-requires : tie.Need-put-line-requires Inv-loop μ-loop
 put-line-requires c κs =
     let at-loop = c .before .before .before .before .before in
     let start = at-loop .before .before .before in
-    laid-room _ _ _ _ _ _ _ (at-loop .loop .inv .1) (start .pre .0 .valid) (start .pre .1 .1)
+    laid-room (at-loop .loop .inv .1) (start .pre .0 .valid) (start .pre .1 .1)
 
 add-k : tie.Need-add-k Inv-loop μ-loop
 add-k c =
     let at-match = c .before .before .before .before .before .before in
     let at-loop = at-match .before .before in
     let start = at-loop .before .before .before in
-    omega (arith, laid-few _ _ _ _ _ _ _ (at-loop .loop .inv .1) (start .pre .0 .valid))
+    omega (arith, laid-few (at-loop .loop .inv .1) (start .pre .0 .valid))
 
 loop-less : tie.Need-loop-less Inv-loop μ-loop
 loop-less c =
@@ -48,7 +50,7 @@ loop-less c =
     let at-line-at = at-line .before .before in
     let at-loop = at-line-at .before in
     let start = at-loop .before .before .before in
-    omega (arith, laid-less _ _ _ _ _ _ _ (at-loop .loop .inv .1) (start .pre .1 .0) _ (at-line-at .line-at .ensures) _ (at-line .line .given .1))
+    omega (arith, laid-less (at-loop .loop .inv .1) (start .pre .1 .0) _ (at-line-at .line-at .ensures) _ (at-line .line .given .1))
 
 loop-again : tie.Need-loop-again Inv-loop μ-loop
 loop-again c =
@@ -57,7 +59,7 @@ loop-again c =
     let at-line-at = at-line .before .before in
     let at-loop = at-line-at .before in
     let start = at-loop .before .before .before in
-    (search needs, laid-more _ _ _ _ _ _ _ (at-loop .loop .inv .1) (start .pre .1 .0) _ (at-line-at .line-at .ensures) _ _ _ (at-line .line .given .1) (at-put-line .put-line .ensures))
+    (search needs, laid-more (at-loop .loop .inv .1) (start .pre .1 .0) _ (at-line-at .line-at .ensures) _ _ _ (at-line .line .given .1) (at-put-line .put-line .ensures))
 
 pub put-lines-spec : {M : Type 1} → statement M
 put-lines-spec =

@@ -1,3 +1,4 @@
+-- A refusal is one line. Else the line of totals, of at most 200 bytes, and behind it the lines of the entries, which an image that passed its check has.
 use native.Mathlib.Omega.{arith}
 use Rattle.text.specs.TextLaws.{totals-short}
 use Rattle.dump.proofs.Laying.{text-refused, text-done, known, accepted}

@@ -1,3 +1,4 @@
+-- The key is made of the name and the extension that are read at the place.
 use mathlib.Core.Path.{ap, _∙_}
 use Prim.Native.Nat.{ℕ}
 use lib.Dec.{eqb}

@@ -50,14 +50,14 @@ unfolding entrySize
 loop-again c =
     let at-if1 = c .before in
     let at-has-key = at-if1 .before in
-    let at-loop-test = at-has-key .before in
-    let in-loop = at-loop-test in
-    let l = in-loop .before .loop in
-    let start = in-loop .before .before .before in
+    let in-loop = at-has-key .before in
+    let at-loop = in-loop .before in
+    let start = at-loop .before .before in
     let a = start .args in
-    let t = in-loop .loop-test .taken in
+    let l = at-loop .loop in
     let e : c .after-entry .result ≡ l .at + entrySize (a .g) = c .after-entry .ensures in
-    let k = key-passed _ (a .page .now) _ (a .m) (l .i) (l .at) t _ (at-has-key .has-key .ensures) (at-if1 .if1 .left) in
+    let k : mem (a .key) (keysFrom (a .g) (a .m - l .i) (drop (l .at) (a .page .now))) ≡ mem (a .key) (keysFrom (a .g) (a .m - (l .i + 1)) (drop (l .at + entrySize (a .g)) (a .page .now))) =
+    key-passed _ (a .page .now) _ (a .m) (l .i) (l .at) (in-loop .loop-test .taken) _ (at-has-key .has-key .ensures) (at-if1 .if1 .left) in
     (omega arith, omega arith, l .inv .2 ∙ k ∙ ap (λ (x : ℕ). mem (a .key) (keysFrom (a .g) (a .m - (l .i + 1)) (drop x (a .page .now)))) (sym e))
 
 returns-2 : tie.Need-returns-2 Inv-loop μ-loop

@@ -1,3 +1,4 @@
+-- Marker, map address, bitmap control and the four bytes, one directly behind the other: 1 + n + 1 + 4 bytes are all of the field, whatever stood there.
 use Rattle.format.proofs.Fields.{control-filled}
 use borrow.Author.Needs.{needs}
 use Rattle.format.proofs.fill_control.Statement.{statement}

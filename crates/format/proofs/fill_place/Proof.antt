@@ -1,3 +1,4 @@
+-- Zeros, the start page 1 and the count, of 4 - 2n, n and n bytes, are all of the four bytes.
 use Rattle.format.proofs.Fields.{place-filled}
 use borrow.Author.Needs.{needs}
 use Rattle.format.proofs.fill_place.Statement.{statement}

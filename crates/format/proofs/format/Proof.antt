@@ -1,8 +1,10 @@
+-- Refusal 1 changes nothing. Else the image and the first N numbers of the table are left by `format_in`, the numbers behind them stay: that is `formatCall`.
+-- `Formats` holds of whatever `formatCall` answers, as the image has bytes only.
 use mathlib.Core.Path.{sym, _∙_}
 use lib.Seq.{length-take-le}
 use Rattle.geometry.specs.ShapeLaws.{sized-of, fit-of}
-use Rattle.rules.specs.CallLaws.{format-wrong}
-use Rattle.volume.specs.declared.Edited.the-variants as edited
+use Rattle.rules.specs.CallLaws.{format-invalid}
+use Rattle.rules.specs.declared.Edited.the-variants as edited
 use Rattle.format.proofs.Calling.{format-leaves, format-is}
 use borrow.Author.Needs.{needs}
 use Rattle.format.proofs.format.Statement.{statement}
@@ -31,7 +33,7 @@ format-in-requires c κs =
     let start = at-new .before .before .before in
     let a = start .args in
     let e = sym (at-new .new .ensures) ∙ at-g .g .given .1 in
-    (fit-of (a .size) (a .pages) (a .image .now) (a .owners .now) _ e, length-take-le _ (a .owners .now) (sized-of (a .size) (a .pages) _ _ _ e .room))
+    (fit-of (a .size) (a .pages) (a .image .now) (a .table .now) _ e, length-take-le _ (a .table .now) (sized-of (a .size) (a .pages) _ _ _ e .room))
 
 returns : tie.Need-returns
 returns c =
@@ -39,8 +41,8 @@ returns c =
     let at-slice-known = at-new .before .before in
     let start = at-slice-known .before in
     let a = start .args in
-    let e = sym (format-wrong (a .size) (a .pages) (a .image .now) (a .owners .now) (sym (at-new .new .ensures) ∙ c .enum-told .given .1) (a .local)) in
-    (e, format-is (a .size) (a .pages) (a .image .now) (a .owners .now) (λ i. at-slice-known .slice-known .given i .fits) (a .local) (edited.Refused 1 0) (a .image .now) (a .owners .now) e)
+    let e = sym (format-invalid (a .size) (a .pages) (a .image .now) (a .table .now) (sym (at-new .new .ensures) ∙ c .enum-told .given .1) (a .local)) in
+    (e, format-is (a .size) (a .pages) (a .image .now) (a .table .now) (λ i. at-slice-known .slice-known .given i .fits) (a .local) (edited.Refused 1 0) (a .image .now) (a .table .now) e)
 
 returns-2 : tie.Need-returns-2
 returns-2 c =
@@ -50,10 +52,10 @@ returns-2 c =
     let at-slice-known = at-new .before .before in
     let start = at-slice-known .before in
     let a = start .args in
-    let e = format-leaves (a .size) (a .pages) (a .image .now) (a .owners .now) _ (sym (at-new .new .ensures) ∙ at-g .g .given .1) (a .local) (at-format-in .format-in .result)
+    let e = format-leaves (a .size) (a .pages) (a .image .now) (a .table .now) _ (sym (at-new .new .ensures) ∙ at-g .g .given .1) (a .local) (at-format-in .format-in .result)
     (at-format-in .format-in .last .0) (at-format-in .format-in .last .1 .1 .0) (at-format-in .format-in .ensures) in (
       e,
-      format-is (a .size) (a .pages) (a .image .now) (a .owners .now) (λ i. at-slice-known .slice-known .given i .fits) (a .local) (at-format-in .format-in .result)
+      format-is (a .size) (a .pages) (a .image .now) (a .table .now) (λ i. at-slice-known .slice-known .given i .fits) (a .local) (at-format-in .format-in .result)
           (at-format-in .format-in .last .0) _ e,
     )
 

@@ -1,3 +1,5 @@
+-- Where the bitmap may stand as asked, the empty image is written and the edit is done; where not, 4, and the image is as it was.
+-- Either way the last check leaves the table of the image that then stands.
 use Rattle.format.proofs.Emptying.{leaves-done, leaves-refused}
 use borrow.Author.Needs.{needs}
 use Rattle.format.proofs.format_in.Statement.{statement}

@@ -1,3 +1,4 @@
+-- A local bitmap has 32 bits, so it is allowed for N up to 32; a bitmap file is allowed always.
 use Rattle.format.proofs.Emptying.{allowed-local, allowed-file}
 use Rattle.format.proofs.is_allowed.Statement.{statement}
 use Rattle.format.proofs.is_allowed.Tie as tie

@@ -1,4 +1,4 @@
--- What is left to write from here gives the whole.
+-- The invariant: the pages and bytes of the bitmap file that are left to write, written to the image as it is, give the whole. The measure: the bytes left.
 use mathlib.Core.Path.{_≡_, refl, _∙_}
 use native.Mathlib.Omega.{arith}
 use lib.ListN.{length}
@@ -8,10 +8,10 @@ use Rattle.format.proofs.write_bits.Statement.{statement}
 use Rattle.format.proofs.write_bits.Tie as tie
 
 abbrev Inv-loop : tie.InvT-loop
-Inv-loop image₀ g owners capacity left₀ page₀ done₀ image left page done = (length image ≡ length image₀) × Held g owners image₀ image capacity page done left
+Inv-loop image₀ g table below capacity left₀ page₀ done₀ image left page done = (length image ≡ length image₀) × Held g table below image₀ image capacity page done left
 
 abbrev μ-loop : tie.MeasureT-loop
-μ-loop image₀ g owners capacity left₀ page₀ done₀ image left page done = left
+μ-loop image₀ g table below capacity left₀ page₀ done₀ image left page done = left
 
 data-capacity-requires : tie.Need-data-capacity-requires Inv-loop μ-loop
 data-capacity-requires c κs = c .before .before .pre .valid
@@ -24,10 +24,9 @@ bitmap-size-requires c κs =
 loop-holds : tie.Need-loop-holds Inv-loop μ-loop
 loop-holds c =
     let at-data-capacity = c .before in
-    let start = at-data-capacity .before .before .before in
-    let s = start in (
+    let start = at-data-capacity .before .before .before in (
       refl,
-      held-first (s .args .g) (s .args .owners .now) (s .args .image .now) (at-data-capacity .data-capacity .result) (c .bitmap-size .result) (s .pre)
+      held-first (start .args .g) (start .args .table .now) (start .args .below) (start .args .image .now) (at-data-capacity .data-capacity .result) (c .bitmap-size .result) (start .pre)
           (at-data-capacity .data-capacity .ensures) (c .bitmap-size .ensures),
     )
 
@@ -37,7 +36,7 @@ add-write-bytes c = let h = c .before .before .loop .inv .1 in omega (arith, h .
 write-bytes-requires : tie.Need-write-bytes-requires Inv-loop μ-loop
 write-bytes-requires c κs =
     let l = c .before .before .loop in
-    (l .inv .1 .fit, held-asks _ _ _ _ _ _ _ _ (l .inv .1) _ (omega (arith, c .before .loop-test .taken)) (omega arith))
+    (l .inv .1 .fit, held-asks (l .inv .1) _ (omega (arith, c .before .loop-test .taken)) (omega arith))
 
 add-page : tie.Need-add-page Inv-loop μ-loop
 add-page c =
@@ -54,7 +53,7 @@ loop-less : tie.Need-loop-less Inv-loop μ-loop
 loop-less c =
     let at-loop-test = c .before .before .before .before in
     let at-loop = at-loop-test .before in
-    omega (arith, at-loop-test .loop-test .taken, some-capacity _ _ _ _ _ _ _ _ (at-loop .loop .inv .1))
+    omega (arith, at-loop-test .loop-test .taken, some-capacity (at-loop .loop .inv .1))
 
 loop-again : tie.Need-loop-again Inv-loop μ-loop
 loop-again c =
@@ -63,14 +62,14 @@ loop-again c =
     let at-loop = at-loop-test .before in
     let l = at-loop .loop in (
       at-write-bytes .write-bytes .kept .0 ∙ l .inv .0,
-      held-on _ _ _ _ _ _ _ _ (l .inv .1) _ (at-loop-test .loop-test .taken) (at-write-bytes .write-bytes .kept .0)
+      held-on (l .inv .1) _ (at-loop-test .loop-test .taken) (at-write-bytes .write-bytes .kept .0)
           (at-write-bytes .write-bytes .ensures),
     )
 
 write-bytes-requires-2 : tie.Need-write-bytes-requires-2 Inv-loop μ-loop
 write-bytes-requires-2 c κs =
     let l = c .before .before .loop in
-    (l .inv .1 .fit, held-asks _ _ _ _ _ _ _ _ (l .inv .1) _ (omega arith) (omega (arith, c .before .loop-test .left)))
+    (l .inv .1 .fit, held-asks (l .inv .1) _ (omega arith) (omega (arith, c .before .loop-test .left)))
 
 same-length : tie.Need-same-length Inv-loop μ-loop
 same-length c =
@@ -83,7 +82,7 @@ returns c =
     let at-write-bytes2 = c .before .before in
     let at-loop-test = at-write-bytes2 .before .before in
     let at-loop = at-loop-test .before in
-    held-last _ _ _ _ _ _ _ _ (at-loop .loop .inv .1) _ (at-loop-test .loop-test .left) (at-write-bytes2 .write-bytes2 .ensures)
+    held-last (at-loop .loop .inv .1) _ (at-loop-test .loop-test .left) (at-write-bytes2 .write-bytes2 .ensures)
 
 pub write-bits-spec : {M : Type 1} → statement M
 write-bits-spec =

@@ -1,3 +1,4 @@
+-- A page of the bitmap file has at most the data capacity of bytes, no more than the array's 252; the marks fill the array's front, and that front is what the page gets.
 use mathlib.Core.Path.{sym}
 use native.Mathlib.Omega.{arith}
 use Rattle.marks.specs.MarkLaws.{length-marks}
@@ -13,42 +14,38 @@ array-borrow-prefix-bytes c = let s = c .before .before in capacity-most (s .arg
 slice-aggregate-fill : tie.Need-slice-aggregate-fill
 slice-aggregate-fill c =
     let start = c .before .before .before in
-    let s = start in sym (zeros-front (s .args .size) 252 (capacity-most (s .args .g) (s .pre .0 .valid) _ (s .pre .1 .1)))
+    sym (zeros-front (start .args .size) 252 (capacity-most (start .args .g) (start .pre .0 .valid) _ (start .pre .1 .1)))
 
 fill-requires : tie.Need-fill-requires
 fill-requires c κs =
     let start = c .before .before .before in
-    let s = start in
-    let z = zeros-front (s .args .size) 252 (capacity-most (s .args .g) (s .pre .0 .valid) _ (s .pre .1 .1)) in
-    omega (arith, z, s .pre .1 .2)
+    let z = zeros-front (start .args .size) 252 (capacity-most (start .args .g) (start .pre .0 .valid) _ (start .pre .1 .1)) in
+    omega (arith, z, start .pre .1 .2)
 
 array-share-prefix-bytes : tie.Need-array-share-prefix-bytes
 array-share-prefix-bytes c =
     let at-fill = c .before .before in
     let start = at-fill .before .before .before .before in
-    let s = start in
-    let h = capacity-most (s .args .g) (s .pre .0 .valid) _ (s .pre .1 .1) in
-    front-room _ _ _ _ (marks-front (s .args .owners .now) _ _ (s .args .size) 252 h (at-fill .fill .ensures)) (length-marks (s .args .owners .now) _ _)
+    let h = capacity-most (start .args .g) (start .pre .0 .valid) _ (start .pre .1 .1) in
+    front-room _ _ _ _ (marks-front (start .args .table .now) _ _ _ (start .args .size) 252 h (at-fill .fill .ensures)) (length-marks (start .args .table .now) _ _ _)
 
 slice-aggregate-write-page : tie.Need-slice-aggregate-write-page
 slice-aggregate-write-page c =
     let at-fill = c .before .before .before in
     let start = at-fill .before .before .before .before in
-    let s = start in
-    let h = capacity-most (s .args .g) (s .pre .0 .valid) _ (s .pre .1 .1) in
-    front-size _ _ _ _ (marks-front (s .args .owners .now) _ _ (s .args .size) 252 h (at-fill .fill .ensures)) (length-marks (s .args .owners .now) _ _)
+    let h = capacity-most (start .args .g) (start .pre .0 .valid) _ (start .pre .1 .1) in
+    front-size _ _ _ _ (marks-front (start .args .table .now) _ _ _ (start .args .size) 252 h (at-fill .fill .ensures)) (length-marks (start .args .table .now) _ _ _)
 
 write-page-requires : tie.Need-write-page-requires
 write-page-requires c κs =
     let at-fill = c .before .before .before in
     let start = at-fill .before .before .before .before in
-    let s = start in
-    let h = capacity-most (s .args .g) (s .pre .0 .valid) _ (s .pre .1 .1) in (
-      s .pre .0,
+    let h = capacity-most (start .args .g) (start .pre .0 .valid) _ (start .pre .1 .1) in (
+      start .pre .0,
       (
-        s .pre .1 .0,
-        front-fits _ _ _ _ (marks-front (s .args .owners .now) _ _ (s .args .size) 252 h (at-fill .fill .ensures)) (length-marks (s .args .owners .now) _ _)
-            (s .args .g) (s .pre .0 .valid) (s .pre .1 .1),
+        start .pre .1 .0,
+        front-fits _ _ _ _ (marks-front (start .args .table .now) _ _ _ (start .args .size) 252 h (at-fill .fill .ensures)) (length-marks (start .args .table .now) _ _ _)
+            (start .args .g) (start .pre .0 .valid) (start .pre .1 .1),
       ),
     )
 
@@ -57,9 +54,8 @@ returns c =
     let at-write-page = c .before .before in
     let at-fill = at-write-page .before .before .before .before in
     let start = at-fill .before .before .before .before in
-    let s = start in
-    let h = capacity-most (s .args .g) (s .pre .0 .valid) _ (s .pre .1 .1) in
-    front-written _ _ _ _ (marks-front (s .args .owners .now) _ _ (s .args .size) 252 h (at-fill .fill .ensures)) (length-marks (s .args .owners .now) _ _) (s .args .g) _ _ _ _
+    let h = capacity-most (start .args .g) (start .pre .0 .valid) _ (start .pre .1 .1) in
+    front-written _ _ _ _ (marks-front (start .args .table .now) _ _ _ (start .args .size) 252 h (at-fill .fill .ensures)) (length-marks (start .args .table .now) _ _ _) (start .args .g) _ _ _ _
     (at-write-page .write-page .ensures)
 
 pub write-bytes-spec : {M : Type 1} → statement M

@@ -1,3 +1,4 @@
+-- `emptied` has two cases, by where the bitmap is to stand; each is what one of the two writers leaves.
 use mathlib.Core.Bool.{true, false}
 use Rattle.format.proofs.Emptying.{emptied-as}
 use borrow.Author.Needs.{needs}

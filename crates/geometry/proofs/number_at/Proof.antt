@@ -1,3 +1,5 @@
+-- One byte, two, four as two pairs, and any other count through the loop: each way gives the number of the n bytes from the place on, below 256^n.
+-- The loop: the bytes passed, from the last on, are the number so far; the bytes left fall.
 use Rattle.geometry.proofs.Parts.{one-byte, two-are, four-bytes, number-read}
 use borrow.Author.Needs.{needs}
 use Rattle.geometry.proofs.number_at.Statement.{statement}

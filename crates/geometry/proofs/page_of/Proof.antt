@@ -1,3 +1,4 @@
+-- The image has N pages of P bytes, so that a page below N ends inside it; the bytes cut out are P from page times P on.
 use native.Mathlib.Nat.{add-sub-cancel-left}
 use native.Mathlib.Omega.{arith}
 use Rattle.geometry.specs.Page.{pageOf}

@@ -1,3 +1,4 @@
+-- The two bytes from the place on, the first low: the first plus 256 times the second.
 use Rattle.geometry.proofs.Parts.{two-bytes}
 use borrow.Author.Needs.{needs}
 use Rattle.geometry.proofs.pair_at.Statement.{statement}

@@ -1,3 +1,4 @@
+-- The part lent has as many bytes as are copied into it; given back, the target has them from the place on and is else as before.
 use Rattle.geometry.proofs.Parts.{bytes-put}
 use borrow.Author.Needs.{needs}
 use Rattle.geometry.proofs.put_bytes.Statement.{statement}

@@ -1,3 +1,4 @@
+-- The part of n bytes that is lent is filled with the number; before and behind it the target stays.
 use Rattle.geometry.proofs.Parts.{number-put}
 use borrow.Author.Needs.{needs}
 use Rattle.geometry.proofs.put_number.Statement.{statement}

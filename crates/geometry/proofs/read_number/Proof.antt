@@ -1,4 +1,4 @@
--- The value is the number in the bytes that were passed, from the last one down.
+-- From the last byte down. The invariant: the value is the number of the bytes from `left` on, and below 256 to the power of how many those are. The measure: `left`.
 use mathlib.Core.Path.{_≡_, refl, ap, _∙_}
 use mathlib.Core.List.{List}
 use Prim.Native.Nat.{ℕ, _+_, _-_, _*_, _^_, _≤_, _<_}

@@ -1,4 +1,4 @@
--- The bytes written so far, and the bytes of what is left of the number, are the whole number's.
+-- The invariant: the i bytes written, followed by the bytes of what is left of the number, are the whole number's. The measure: the bytes still to be written.
 use mathlib.Core.Path.{_≡_, refl, sym, _∙_}
 use mathlib.Core.List.{List, _++_}
 use Prim.Native.Nat.{ℕ, _-_, _≤_}

@@ -15,8 +15,7 @@ slice-aggregate-list-text c =
 -- too short: never
 returns : tie.Need-returns
 returns c =
-    let at-list-text = c .before .before .before .before in
-    let at-text = at-list-text in
+    let at-text = c .before .before .before .before in
     let start = at-text .before .before .before .before .before in
     never-short _ _ _ (at-text .list-text .result) (start .pre .2) (at-text .list-text .ensures) (c .enum-told .given .1)
 

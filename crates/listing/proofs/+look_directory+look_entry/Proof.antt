@@ -1,14 +1,15 @@
--- Whatever answers what is ahead in a directory answers the whole; a subdirectory has a level less.
+-- The loop's invariant: whatever answers what is ahead in a directory answers the whole. Its measure: the entries ahead, pages to come counted as full.
+-- Of the two functions that call each other, a subdirectory has a level less.
 use mathlib.Core.Path.{sym, _∙_}
-use Prim.Native.Nat.{_<_, ℕ, _+_, _-_, _*_}
+use Prim.Native.Nat.{_<_, ℕ, _+_, _*_}
 use native.Mathlib.Omega.{arith}
-use Rattle.packet.specs.Packet.{viewOf}
+use Rattle.rules.specs.Chain.{viewsOf}
 use Rattle.rules.specs.Tree.{Items}
-use Rattle.entries.proofs.Places.{slot-few, past-less, page-less}
-use Rattle.entries.proofs.AtSlot.{counts-on}
-use Rattle.listing.specs.Standing.{Stands}
+use Rattle.entries.specs.TokensAt.{entriesAhead}
+use Rattle.entries.proofs.Stepping.{entry-answer, end-answer, entry-in, past-less}
+use Rattle.listing.specs.KnownTree.{DirectoryAt}
 use Rattle.listing.proofs.Lines.{looks-head, looks-file, some-level, has-directory, looks-below}
-use Rattle.listing.proofs.Ahead.{Ahead, ahead-first, ahead-part, ahead-found, ahead-past, ahead-done, ahead-next, ahead-page}
+use Rattle.listing.proofs.Ahead.{Ahead, ahead-first, ahead-in, ahead-part, ahead-found, ahead-past, ahead-done}
 use borrow.Author.Needs.{needs}
 use borrow.Fn.Kinds.{In}
 use borrow.Fn.PlainCycle.{Measures, is, falls, and}
@@ -18,8 +19,8 @@ use Rattle.listing.proofs.+look_directory+look_entry.Lts-look_directory
 use Rattle.listing.proofs.look_entry.Reads as look-entry
 use Rattle.listing.proofs.look_entry.Kinds as look-entry-kinds
 use Rattle.listing.proofs.+look_directory+look_entry.Lts-look_entry as look-entry-lts
-use Rattle.entries.proofs.Slot.begin.Reads as begin-reads
 use Rattle.entries.proofs.Slot.first.Reads as first-reads
+use Rattle.entries.proofs.Slot.next_entry.Reads as next-entry-reads
 use Rattle.entries.proofs.Slot.entry.Reads as entry-reads
 use Rattle.entries.proofs.Slot.past.Reads as past-reads
 use Rattle.directory.proofs.extensions.is_directory.Reads as is-directory-reads
@@ -59,23 +60,23 @@ look-entry-below t =
 
 abbrev look-directory-Inv-loop : look-directory-lts.InvT-loop
 look-directory-Inv-loop image g levels level start k slot₀ left₀ slot left =
-    (t : Items) → Stands g (viewOf g image) levels start t → Ahead g (viewOf g image) levels level k t slot left
+    (t : Items) → DirectoryAt g (viewsOf g image) levels start t → Ahead g (viewsOf g image) levels level k t slot left
 
 abbrev look-directory-μ-loop : look-directory-lts.MeasureT-loop
-look-directory-μ-loop image g levels level start k slot₀ left₀ slot left = (g .pages - slot .next .count) * 256 + (slot .count - slot .at)
+look-directory-μ-loop image g levels level start k slot₀ left₀ slot left = entriesAhead g slot
 
 abbrev look-directory-calls : ℕ → look-directory-lts.Claims
 look-directory-calls t = (
   first-reads.Asked,
   first-reads.Learnt,
+  next-entry-reads.Asked,
+  next-entry-reads.Learnt,
   entry-reads.Asked,
   entry-reads.Learnt,
   look-entry-below t,
   look-entry.Post,
   past-reads.Asked,
   past-reads.Learnt,
-  begin-reads.Asked,
-  begin-reads.Learnt,
 )
 
 abbrev look-entry-calls : ℕ → look-entry-lts.Claims
@@ -84,115 +85,79 @@ look-entry-calls t = (entry-line-reads.Asked, entry-line-reads.Learnt, is-direct
 look-directory-first-requires : (t : ℕ) → look-directory-lts.Need-first-requires (look-directory-calls t) (look-directory-at t) look-directory.Post look-directory-Inv-loop look-directory-μ-loop
 look-directory-first-requires t c κs =
     let s = c .before .pre .1 in
-    (s .0, record { links = s .1 .1 .stands .chained .links; chain = s .1 .1 .stands .chained .chain })
+    let d = s .1 .1 .stands .chained in
+    (s .0, record { links = d .links; chain = d .chain })
 
 look-directory-loop-holds : (t : ℕ) → look-directory-lts.Need-loop-holds (look-directory-calls t) (look-directory-at t) look-directory.Post look-directory-Inv-loop look-directory-μ-loop
-look-directory-loop-holds t c =
-    let start = c .before .before in
-    λ tree st.
-    ahead-first _ _ (start .pre .1 .0) _ _ _ tree _ _ st (c .first .ensures)
+look-directory-loop-holds t c = λ tree st. ahead-first _ _ (c .first .ensures) st
 
-look-directory-entry-requires : (t : ℕ) → look-directory-lts.Need-entry-requires (look-directory-calls t) (look-directory-at t) look-directory.Post look-directory-Inv-loop look-directory-μ-loop
-look-directory-entry-requires t c κs =
-    let at-loop = c .before .before in
-    let start = at-loop .before .before .before in
+look-directory-next-entry-requires : (t : ℕ) → look-directory-lts.Need-next-entry-requires (look-directory-calls t) (look-directory-at t) look-directory.Post look-directory-Inv-loop look-directory-μ-loop
+look-directory-next-entry-requires t c κs =
+    let start = c .before .before .before in
     let s = start .pre .1 in
-    let l = at-loop .loop .inv (s .1 .1 .tree) (s .1 .1 .stands) in
-    (s .0, (l .ahead .at-slot .fits, c .if1 .taken))
-
-look-directory-look-entry-requires : (t : ℕ) → look-directory-lts.Need-look-entry-requires (look-directory-calls t) (look-directory-at t) look-directory.Post
-    look-directory-Inv-loop look-directory-μ-loop
-look-directory-look-entry-requires t c κs =
-    let at-if1 = c .before in
-    let at-loop = at-if1 .before .before in
-    let at-loop = at-loop in
-    let start = at-loop .before .before .before in
-    let s = start .pre .1 in
-    let l = at-loop .loop .inv (s .1 .1 .tree) (s .1 .1 .stands) in
-    (omega (arith, start .pre .0), (s .0, (s .1 .0, ahead-part _ _ (s .0) _ _ _ _ _ _ l (at-if1 .if1 .taken) _ (c .entry .ensures .0))))
-
-look-directory-enum-known-x : (t : ℕ) → look-directory-lts.Need-enum-known-x (look-directory-calls t) (look-directory-at t) look-directory.Post look-directory-Inv-loop look-directory-μ-loop
-look-directory-enum-known-x t c = search needs
+    (s .0, ahead-in (c .loop .inv (s .1 .1 .tree) (s .1 .1 .stands)))
 
 look-directory-returns : (t : ℕ) → look-directory-lts.Need-returns (look-directory-calls t) (look-directory-at t) look-directory.Post look-directory-Inv-loop look-directory-μ-loop
 look-directory-returns t c =
+    let at-next = c .before .before in
+    let at-loop = at-next .before in
+    λ tree st. ahead-done (at-loop .loop .inv tree st) (end-answer _ _ _ _ (at-next .next-entry .ensures) (c .enum-told .given .1))
+
+look-directory-entry-requires : (t : ℕ) → look-directory-lts.Need-entry-requires (look-directory-calls t) (look-directory-at t) look-directory.Post look-directory-Inv-loop look-directory-μ-loop
+look-directory-entry-requires t c κs =
+    let at-at = c .before in
+    let at-next = at-at .before .before in
+    let at-loop = at-next .before in
+    let start = at-loop .before .before .before in
+    let s = start .pre .1 in
+    let n = entry-answer _ _ _ _ (at-next .next-entry .ensures) _ (at-at .at .given .1) in
+    (s .0, (entry-in n (ahead-in (at-loop .loop .inv (s .1 .1 .tree) (s .1 .1 .stands))), n .under))
+
+look-directory-look-entry-requires : (t : ℕ) → look-directory-lts.Need-look-entry-requires (look-directory-calls t) (look-directory-at t) look-directory.Post look-directory-Inv-loop look-directory-μ-loop
+look-directory-look-entry-requires t c κs =
+    let at-at = c .before .before in
+    let at-next = at-at .before .before in
+    let at-loop = at-next .before in
+    let start = at-loop .before .before .before in
+    let s = start .pre .1 in
+    let n = entry-answer _ _ _ _ (at-next .next-entry .ensures) _ (at-at .at .given .1) in
+    (omega (arith, start .pre .0), (s .0, (s .1 .0, ahead-part (at-loop .loop .inv (s .1 .1 .tree) (s .1 .1 .stands)) n (c .entry .ensures))))
+
+look-directory-returns-2 : (t : ℕ) → look-directory-lts.Need-returns-2 (look-directory-calls t) (look-directory-at t) look-directory.Post look-directory-Inv-loop look-directory-μ-loop
+look-directory-returns-2 t c =
     let at-x = c .before in
     let at-look-entry = at-x .before .before in
-    let at-look-entry = at-look-entry in
     let at-entry = at-look-entry .before in
-    let at-if1 = at-entry .before in
-    let at-loop = at-if1 .before .before in
-    let start = at-loop .before .before .before in
-    λ tree st.
-    ahead-found _ _ (start .pre .1 .0) _ _ _ tree _ _ (at-loop .loop .inv tree st) (at-if1 .if1 .taken) _ (at-entry .entry .ensures .0) _ (at-look-entry .look-entry .ensures) _ (at-x .x .given .1)
-
-look-directory-enum-known-j : (t : ℕ) → look-directory-lts.Need-enum-known-j (look-directory-calls t) (look-directory-at t) look-directory.Post look-directory-Inv-loop look-directory-μ-loop
-look-directory-enum-known-j t c = search needs
+    let at-at = at-entry .before .before in
+    let at-next = at-at .before .before in
+    let at-loop = at-next .before in
+    let n = entry-answer _ _ _ _ (at-next .next-entry .ensures) _ (at-at .at .given .1) in
+    λ tree st. ahead-found (at-loop .loop .inv tree st) n (at-entry .entry .ensures) _ (at-look-entry .look-entry .ensures) _ (at-x .x .given .1)
 
 look-directory-past-requires : (t : ℕ) → look-directory-lts.Need-past-requires (look-directory-calls t) (look-directory-at t) look-directory.Post look-directory-Inv-loop look-directory-μ-loop
-look-directory-past-requires t c κs = search needs
+look-directory-past-requires t c κs =
+    let at-entry = c .before .before .before .before in
+    let at-at = at-entry .before .before in
+    let at-next = at-at .before .before in
+    entry-answer _ _ _ _ (at-next .next-entry .ensures) _ (at-at .at .given .1) .under
 
 look-directory-loop-less : (t : ℕ) → look-directory-lts.Need-loop-less (look-directory-calls t) (look-directory-at t) look-directory.Post look-directory-Inv-loop look-directory-μ-loop
 look-directory-loop-less t c =
-    let at-if1 = c .before .before .before .before .before .before in
-    let at-if1 = at-if1 in
-    let start = at-if1 .before .before .before .before .before in
-    past-less (start .args .g .pages) _ _ (c .past .ensures) (at-if1 .if1 .taken)
+    let at-entry = c .before .before .before .before .before in
+    let at-at = at-entry .before .before in
+    let at-next = at-at .before .before in
+    past-less (entry-answer _ _ _ _ (at-next .next-entry .ensures) _ (at-at .at .given .1)) _ (c .past .ensures)
 
 look-directory-loop-again : (t : ℕ) → look-directory-lts.Need-loop-again (look-directory-calls t) (look-directory-at t) look-directory.Post look-directory-Inv-loop look-directory-μ-loop
 look-directory-loop-again t c =
     let at-j = c .before .before in
     let at-look-entry = at-j .before .before in
     let at-entry = at-look-entry .before in
-    let at-if1 = at-entry .before in
-    let at-loop = at-if1 .before .before in
-    let start = at-loop .before .before .before in
-    λ tree st.
-    ahead-past _ _ (start .pre .1 .0) _ _ _ tree _ _ (at-loop .loop .inv tree st) (at-if1 .if1 .taken) _ (at-entry .entry .ensures .0) _ (at-look-entry .look-entry .ensures) _
-    (at-j .j .given .1) _ (c .past .ensures)
-
-look-directory-returns-2 : (t : ℕ) → look-directory-lts.Need-returns-2 (look-directory-calls t) (look-directory-at t) look-directory.Post look-directory-Inv-loop look-directory-μ-loop
-look-directory-returns-2 t c =
-    let at-if1 = c .before .before .before in
-    let at-if1 = at-if1 in
-    let at-loop = at-if1 .before .before in
-    let start = at-loop .before .before .before in
-    λ tree st. ahead-done _ _ (start .pre .1 .0) _ _ _ tree _ _ (at-loop .loop .inv tree st) (at-if1 .if1 .left) (c .if2 .taken)
-
-look-directory-begin-requires : (t : ℕ) → look-directory-lts.Need-begin-requires (look-directory-calls t) (look-directory-at t) look-directory.Post look-directory-Inv-loop look-directory-μ-loop
-look-directory-begin-requires t c κs =
-    let at-if1 = c .before .before .before in
-    let at-if1 = at-if1 in
-    let at-loop = at-if1 .before .before in
-    let start = at-loop .before .before .before in
-    let s = start .pre .1 in
-    let l = at-loop .loop .inv (s .1 .1 .tree) (s .1 .1 .stands) in
-    let k = ahead-next _ _ (s .0) _ _ _ _ _ _ l (at-if1 .if1 .left) (c .if2 .left) in
-    (s .0, (k .0, k .1, k .2, omega arith))
-
-look-directory-loop-less-2 : (t : ℕ) → look-directory-lts.Need-loop-less-2 (look-directory-calls t) (look-directory-at t) look-directory.Post look-directory-Inv-loop look-directory-μ-loop
-look-directory-loop-less-2 t c =
-    let at-if2 = c .before in
-    let at-if1 = at-if2 .before .before .before in
-    let at-if1 = at-if1 in
-    let at-loop = at-if1 .before .before in
-    let start = at-loop .before .before .before in
-    let s = start .pre .1 in
-    let l = at-loop .loop .inv (s .1 .1 .tree) (s .1 .1 .stands) in
-    let k = ahead-next _ _ (s .0) _ _ _ _ _ _ l (at-if1 .if1 .left) (at-if2 .if2 .left) in
-    let n = ahead-page _ _ (s .0) _ _ _ _ _ _ l (at-if1 .if1 .left) (at-if2 .if2 .left) _ (c .begin .ensures) in
-    let f = l .ahead .few in
-    page-less (start .args .g .pages) _ _ _ _ _ (counts-on _ _ (s .0) _ _ _ (c .begin .ensures) (k .2)) (omega (arith, k .3)) (slot-few _ _ (s .0 .valid) (n .ahead .at-slot .fits))
-
-look-directory-loop-again-2 : (t : ℕ) → look-directory-lts.Need-loop-again-2 (look-directory-calls t) (look-directory-at t) look-directory.Post look-directory-Inv-loop look-directory-μ-loop
-look-directory-loop-again-2 t c =
-    let at-if2 = c .before in
-    let at-if1 = at-if2 .before .before .before in
-    let at-if1 = at-if1 in
-    let at-loop = at-if1 .before .before in
-    let start = at-loop .before .before .before in
-    λ tree st.
-    ahead-page _ _ (start .pre .1 .0) _ _ _ tree _ _ (at-loop .loop .inv tree st) (at-if1 .if1 .left) (at-if2 .if2 .left) _ (c .begin .ensures)
+    let at-at = at-entry .before .before in
+    let at-next = at-at .before .before in
+    let at-loop = at-next .before in
+    let n = entry-answer _ _ _ _ (at-next .next-entry .ensures) _ (at-at .at .given .1) in
+    λ tree st. ahead-past (at-loop .loop .inv tree st) n (at-entry .entry .ensures) _ (at-look-entry .look-entry .ensures) _ (at-j .j .given .1) _ (c .past .ensures)
 
 look-entry-entry-line-requires : (t : ℕ) → look-entry-lts.Need-entry-line-requires (look-entry-calls t) (look-entry-at t) look-entry.Post
 look-entry-entry-line-requires t c κs =
@@ -253,18 +218,18 @@ pub +look-directory+look-entry-spec : {M : Type 1} → statement M
     look-directory-μ-loop
     (look-directory-first-requires t)
     (look-directory-loop-holds t)
+    (look-directory-next-entry-requires t)
+    (λ c. search needs)
+    (λ c. search needs)
+    (look-directory-returns t)
     (look-directory-entry-requires t)
     (look-directory-look-entry-requires t)
-    (look-directory-enum-known-x t)
-    (look-directory-returns t)
-    (look-directory-enum-known-j t)
+    (λ c. search needs)
+    (look-directory-returns-2 t)
+    (λ c. search needs)
     (look-directory-past-requires t)
     (look-directory-loop-less t)
-    (look-directory-loop-again t)
-    (look-directory-returns-2 t)
-    (look-directory-begin-requires t)
-    (look-directory-loop-less-2 t)
-    (look-directory-loop-again-2 t))
+    (look-directory-loop-again t))
     λ t. look-entry-lts.spec
     (look-entry-calls t)
     (look-entry-at t)

@@ -2,7 +2,8 @@
 use mathlib.Core.Path.{sym, _∙_}
 use native.Mathlib.Omega.{arith}
 use Prim.Native.Nat.{_<_, ℕ}
-use Rattle.packet.specs.Packet.{viewOf}
+use Rattle.rules.specs.Chain.{viewsOf}
+use Rattle.rules.specs.Paths.{stepDown}
 use Rattle.lookup.proofs.Resolving.{lead-here, lead-absent, lead-next, lead-on}
 use borrow.Author.Needs.{needs}
 use borrow.Fn.Kinds.{In}
@@ -31,9 +32,9 @@ resolve-calls t = (number-at-reads.Asked, number-at-reads.Learnt, key-of-reads.A
 resolve-returns : (t : ℕ) → resolve-lts.Need-returns (resolve-calls t) (resolve-at t) resolve.Post
 resolve-returns t c =
     let start = c .before .before .before in
-    λ tree T site here.
+    λ p T.
     let a = start .args in
-    lead-here (a .g) (viewOf (a .g) (a .image .now)) (a .start) (a .path .now) (a .at) (a .names) (c .if1 .taken) tree T site here
+    lead-here (a .g) (viewsOf (a .g) (a .image .now)) (a .start) (a .path .now) (a .at) (a .names) (c .if1 .taken) p T
 
 resolve-find-entry-requires : (t : ℕ) → resolve-lts.Need-find-entry-requires (resolve-calls t) (resolve-at t) resolve.Post
 resolve-find-entry-requires t c κs =
@@ -51,7 +52,7 @@ resolve-resolve-requires t c κs =
     let s = start .pre .1 in
     let h = s .1 .0 in
     let a = start .args in
-    let n = lead-next (a .g) (viewOf (a .g) (a .image .now)) (a .start) (a .path .now) (a .at) (a .names) (at-if1 .if1 .left) _ _ (at-number-at .number-at .ensures .0)
+    let n = lead-next (a .g) (viewsOf (a .g) (a .image .now)) (a .start) (a .path .now) (a .at) (a .names) (at-if1 .if1 .left) _ _ (at-number-at .number-at .ensures .0)
     (at-key-of .key-of .ensures) (h .tree) (h .at) _ (sym (at-e .e .given .1) ∙ at-find-entry .find-entry .ensures (h .tree) (h .at)) in
     (omega (arith, start .pre .0, at-if1 .if1 .left), (s .0, (record { tree = n .items; at = n .tree }, omega (arith, s .1 .1))))
 
@@ -62,10 +63,10 @@ resolve-returns-2 t c =
     let at-number-at = at-key-of .before in
     let at-if1 = at-number-at .before in
     let start = at-if1 .before .before .before in
-    λ tree T site here.
+    λ p T.
     let a = start .args in
-    lead-absent (a .g) (viewOf (a .g) (a .image .now)) (a .start) (a .path .now) (a .at) (a .names) (at-if1 .if1 .left) _ _ (at-number-at .number-at .ensures .0)
-    (at-key-of .key-of .ensures) tree (sym (c .enum-told .given .1) ∙ at-find-entry .find-entry .ensures tree T) site here
+    lead-absent (a .g) (viewsOf (a .g) (a .image .now)) (a .start) (a .path .now) (a .at) (a .names) (at-if1 .if1 .left) _ _ (at-number-at .number-at .ensures .0)
+    (at-key-of .key-of .ensures) p (sym (c .enum-told .given .1) ∙ at-find-entry .find-entry .ensures (p .items) T)
 
 resolve-returns-3 : (t : ℕ) → resolve-lts.Need-returns-3 (resolve-calls t) (resolve-at t) resolve.Post
 resolve-returns-3 t c =
@@ -75,12 +76,12 @@ resolve-returns-3 t c =
     let at-number-at = at-key-of .before in
     let at-if1 = at-number-at .before in
     let start = at-if1 .before .before .before in
-    λ tree T site here.
+    λ p T.
     let a = start .args in
-    let n = lead-next (a .g) (viewOf (a .g) (a .image .now)) (a .start) (a .path .now) (a .at) (a .names) (at-if1 .if1 .left) _ _ (at-number-at .number-at .ensures .0)
-    (at-key-of .key-of .ensures) tree T _ (sym (at-e .e .given .1) ∙ at-find-entry .find-entry .ensures tree T) in
-    lead-on (a .g) (viewOf (a .g) (a .image .now)) (a .start) (a .path .now) (a .at) (a .names) (at-if1 .if1 .left) _ _ (at-number-at .number-at .ensures .0)
-    (at-key-of .key-of .ensures) tree _ n site here (c .resolve .result) (c .resolve .ensures (n .items) (n .tree))
+    let n = lead-next (a .g) (viewsOf (a .g) (a .image .now)) (a .start) (a .path .now) (a .at) (a .names) (at-if1 .if1 .left) _ _ (at-number-at .number-at .ensures .0)
+    (at-key-of .key-of .ensures) (p .items) T _ (sym (at-e .e .given .1) ∙ at-find-entry .find-entry .ensures (p .items) T) in
+    lead-on (a .g) (viewsOf (a .g) (a .image .now)) (a .start) (a .path .now) (a .at) (a .names) (at-if1 .if1 .left) _ _ (at-number-at .number-at .ensures .0)
+    (at-key-of .key-of .ensures) p _ n (c .resolve .result) (c .resolve .ensures (stepDown p _ (n .label) (n .items)) (n .tree))
 
 pub +resolve-spec : {M : Type 1} → statement M
 +resolve-spec = close μ-resolve λ t. resolve-lts.spec (resolve-calls t) (resolve-at t)

@@ -1,3 +1,4 @@
+-- The entry at the place that is found.
 use mathlib.Core.Path.{subst}
 use Rattle.packet.specs.Packet.{viewOf}
 use Rattle.lookup.specs.Searches.{IsPlace}

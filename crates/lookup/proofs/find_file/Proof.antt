@@ -1,10 +1,9 @@
--- Each answer in its place.
+-- The path is judged, its directories are followed, then the file is looked for: each answer is the rule's at the first of these that fails, or the entry's place.
 use native.Mathlib.Omega.{arith}
-use Rattle.packet.specs.Packet.{viewOf}
-use Rattle.rules.specs.Control.{theRoot}
-use Rattle.rules.specs.Paths.{atRoot}
+use Rattle.rules.specs.Chain.{viewsOf}
+use Rattle.rules.specs.Paths.{rootPlace}
 use Rattle.rules.specs.TargetLaws.{target-malformed}
-use Rattle.path.proofs.Parts.{malformed, well-formed}
+use Rattle.lookup.proofs.Parts.{malformed, well-formed}
 use Rattle.lookup.proofs.PathPlace.{root-tree, has-tree, nowhere, file-absent, file-at}
 use borrow.Author.Needs.{needs}
 use Rattle.lookup.proofs.find_file.Statement.{statement}
@@ -30,8 +29,8 @@ find-place-requires c κs =
     let a = start′ .args in
     let P = well-formed _ _ _ _ _ (at-parse .parse .ensures) (at-names .names .given .1) in (
       s .0,
-      has-tree (a .g) (viewOf (a .g) (a .image .now)) (a .path .now) (s .1 .image) _ _ _ P (at-resolve .resolve .result)
-          (at-resolve .resolve .ensures (s .1 .image .tree) (root-tree _ _ (s .1 .image) (s .1 .accepted)) atRoot theRoot) _ (start .start .given .1),
+      has-tree (a .g) (viewsOf (a .g) (a .image .now)) (a .path .now) (s .1 .image) _ _ _ P (at-resolve .resolve .result)
+          (at-resolve .resolve .ensures (rootPlace (s .1 .image .tree)) (root-tree _ _ (s .1 .image) (s .1 .accepted))) _ (start .start .given .1),
     )
 
 returns : tie.Need-returns
@@ -46,8 +45,8 @@ returns-2 c =
     λ i h.
     let a = start .args in
     let P = well-formed _ _ _ _ _ (at-parse .parse .ensures) (at-names .names .given .1) in
-    nowhere (a .g) (viewOf (a .g) (a .image .now)) (a .path .now) i _ _ _ P (at-resolve .resolve .result)
-    (at-resolve .resolve .ensures (i .tree) (root-tree _ _ i h) atRoot theRoot) (c .enum-told2 .given .1)
+    nowhere (a .g) (viewsOf (a .g) (a .image .now)) (a .path .now) i _ _ _ P (at-resolve .resolve .result)
+    (at-resolve .resolve .ensures (rootPlace (i .tree)) (root-tree _ _ i h)) (c .enum-told2 .given .1)
 
 returns-3 : tie.Need-returns-3
 returns-3 c =
@@ -61,8 +60,8 @@ returns-3 c =
     λ i h.
     let a = start′ .args in
     let P = well-formed _ _ _ _ _ (at-parse .parse .ensures) (at-names .names .given .1) in
-    file-absent (a .g) (viewOf (a .g) (a .image .now)) (a .path .now) i _ _ _ P (at-resolve .resolve .result)
-    (at-resolve .resolve .ensures (i .tree) (root-tree _ _ i h) atRoot theRoot) _ (start .start .given .1) _ (at-key-of .key-of .ensures) (at-find-place .find-place .result)
+    file-absent (a .g) (viewsOf (a .g) (a .image .now)) (a .path .now) i _ _ _ P (at-resolve .resolve .result)
+    (at-resolve .resolve .ensures (rootPlace (i .tree)) (root-tree _ _ i h)) _ (start .start .given .1) _ (at-key-of .key-of .ensures) (at-find-place .find-place .result)
     (at-find-place .find-place .ensures) (c .enum-told3 .given .1)
 
 returns-4 : tie.Need-returns-4
@@ -78,8 +77,8 @@ returns-4 c =
     λ i h.
     let a = start′ .args in
     let P = well-formed _ _ _ _ _ (at-parse .parse .ensures) (at-names .names .given .1) in
-    file-at (a .g) (viewOf (a .g) (a .image .now)) (a .path .now) i _ _ _ P (at-resolve .resolve .result)
-    (at-resolve .resolve .ensures (i .tree) (root-tree _ _ i h) atRoot theRoot) _ (start .start .given .1) _ (at-key-of .key-of .ensures) (at-find-place .find-place .result)
+    file-at (a .g) (viewsOf (a .g) (a .image .now)) (a .path .now) i _ _ _ P (at-resolve .resolve .result)
+    (at-resolve .resolve .ensures (rootPlace (i .tree)) (root-tree _ _ i h)) _ (start .start .given .1) _ (at-key-of .key-of .ensures) (at-find-place .find-place .result)
     (at-find-place .find-place .ensures) _ _ (at-slot .slot .given .1)
 
 pub find-file-spec : {M : Type 1} → statement M

@@ -1,3 +1,4 @@
+-- Page 0 is known to hold a right packet, so its frame is the packet and never bad. Its data bytes are inside the page and go to the front of the 256 bytes.
 use mathlib.Core.Path.{ap}
 use native.Mathlib.Omega.{arith}
 use lib.ListN.{length}

@@ -1,3 +1,4 @@
+-- Each bit is at most 1, so that the sum of the four by their weights is the rule's number of them, below 16.
 use mathlib.Core.Path.{refl}
 use Rattle.marks.proofs.Filling.{four}
 use borrow.Author.Needs.{needs}
@@ -6,11 +7,12 @@ use Rattle.marks.proofs.four_bits.Tie as tie
 
 returns : tie.Need-returns
 returns c =
-    let at-in-use3 = c .before in
-    let at-in-use2 = at-in-use3 .before in
-    let at-in-use = at-in-use2 .before in
-    let start = at-in-use .before .before in
-    let a = start .args in four (a .owners .now) (a .k) _ _ _ _ _ (at-in-use .in-use .ensures .0) (at-in-use2 .in-use2 .ensures .0) (at-in-use3 .in-use3 .ensures .0) (c .in-use4 .ensures .0) refl
+    let at-bit3 = c .before in
+    let at-bit2 = at-bit3 .before in
+    let at-bit = at-bit2 .before in
+    let start = at-bit .before .before in
+    let a = start .args in
+    four (a .table .now) (a .below) (a .k) _ _ _ _ _ (at-bit .bit .ensures .0) (at-bit2 .bit2 .ensures .0) (at-bit3 .bit3 .ensures .0) (c .bit4 .ensures .0) refl
 
 pub four-bits-spec : {M : Type 1} → statement M
 four-bits-spec =

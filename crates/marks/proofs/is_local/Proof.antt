@@ -1,3 +1,4 @@
+-- Bitmap control is byte n + 2 of page 0, inside every page; it is 128 or more exactly when bit 7 is set.
 use mathlib.Core.Path.{ap}
 use native.Mathlib.Omega.{arith}
 use lib.ListN.{length}
@@ -18,7 +19,7 @@ returns : tie.Need-returns
 returns c =
     let at-page-of = c .before in
     let start = at-page-of .before .before .before in
-    tells-local _ _ (start .pre) _ (at-page-of .page-of .ensures)
+    tells-local (start .pre) (at-page-of .page-of .ensures)
 
 pub is-local-spec : {M : Type 1} → statement M
 is-local-spec =

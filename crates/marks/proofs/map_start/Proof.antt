@@ -1,3 +1,4 @@
+-- The start page stands in the n bytes of page 0 that end before byte 7, in front of the page count; every page is long enough to read it.
 use mathlib.Core.Path.{ap}
 use native.Mathlib.Omega.{arith}
 use lib.ListN.{length}
@@ -27,7 +28,7 @@ returns : tie.Need-returns
 returns c =
     let at-page-of = c .before .before in
     let start = at-page-of .before .before in
-    tells-start _ _ (start .pre) _ (at-page-of .page-of .ensures) _ (c .number-at .ensures .0)
+    tells-start (start .pre) (at-page-of .page-of .ensures) _ (c .number-at .ensures .0)
 
 pub map-start-spec : {M : Type 1} → statement M
 map-start-spec =

@@ -1,3 +1,5 @@
+-- The array of zeros has room for the numbers of the owner bytes, at most 65,535 of them, and `check_over` gives `checkAnswer`.
+-- Its number is 0 exactly when the image is accepted, so `Accepts` holds of the answer as a C program sees it.
 use Rattle.geometry.specs.NumberLaws.{bytes-from}
 use mathlib.Core.Path.{sym, _∙_}
 use native.Mathlib.Omega.{arith}

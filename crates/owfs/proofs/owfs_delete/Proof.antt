@@ -1,3 +1,5 @@
+-- As many numbers of the array are lent as the owner bytes have; `delete_over` gives `deleteAnswer`.
+-- `Deletes` holds of the call over an image of bytes, and the answer's number is 0 exactly when the call is done.
 use Rattle.geometry.specs.NumberLaws.{bytes-from}
 use mathlib.Core.Path.{sym, _∙_}
 use native.Mathlib.Omega.{arith}

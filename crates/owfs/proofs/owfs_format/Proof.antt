@@ -1,3 +1,5 @@
+-- `format_over` over the front of the array, which has the length of the owner table in numbers, gives `formatAnswer`.
+-- `Formats` goes over from the call to the answer: the answer is the call's result told, and 0 is told of a done format alone.
 use mathlib.Core.Path.{sym, _∙_}
 use Rattle.geometry.specs.NumberLaws.{bytes-from}
 use native.Mathlib.Omega.{arith}

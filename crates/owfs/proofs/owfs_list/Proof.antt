@@ -1,3 +1,5 @@
+-- Zeros for as many pages as the owner bytes tell are lent to `list_over`, which gives `listAnswer`.
+-- What is stated of the tree's line at the position is stated of the call's result; the entry told is that result, 0 exactly for a line.
 use Rattle.geometry.specs.NumberLaws.{bytes-from}
 use mathlib.Core.Path.{sym, _∙_}
 use native.Mathlib.Omega.{arith}

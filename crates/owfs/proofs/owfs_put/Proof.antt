@@ -1,3 +1,5 @@
+-- `put_over` takes the front of the array for its table and gives `putAnswer`.
+-- `Puts`, demand 3 among it, is about the call for an image, a path and bytes below 256 each; done is the number 0.
 use Rattle.geometry.specs.NumberLaws.{bytes-from}
 use mathlib.Core.Path.{sym, _∙_}
 use native.Mathlib.Omega.{arith}

@@ -1,3 +1,5 @@
+-- With the table in the front of the array `read_over` gives `readAnswer`, the output included.
+-- That length and output are those of the tree's file is carried over from the call, whose length is told unchanged.
 use Rattle.geometry.specs.NumberLaws.{bytes-from}
 use mathlib.Core.Path.{sym, _∙_}
 use native.Mathlib.Omega.{arith}

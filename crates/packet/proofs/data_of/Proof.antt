@@ -1,3 +1,4 @@
+-- The data follows the length byte: from byte 1 to byte size + 1 there are `size` bytes.
 use native.Mathlib.Nat.{add-sub-cancel}
 use borrow.Author.Needs.{needs}
 use Rattle.packet.proofs.data_of.Statement.{statement}

@@ -1,3 +1,5 @@
+-- A length byte below n leaves no room for the pointer, one above the page's length less 3 is not inside the page: both are bad.
+-- Else n of the bytes counted are the pointer, the last ones, and the others data.
 use Rattle.packet.proofs.Cases.{too-small, too-long, framed}
 use borrow.Author.Needs.{needs}
 use Rattle.packet.proofs.frame.Statement.{statement}

@@ -1,3 +1,5 @@
+-- What has no frame is bad. A frame is inside the page together with its check, which is right exactly when it is the inverted register
+-- over length byte, data and pointer, begun with the page's number.
 use native.Mathlib.Omega.{arith}
 use lib.ListN.{length-take}
 use Rattle.packet.proofs.Cases.{frame-fits, no-frame, wrong-check, right-check}

@@ -1,3 +1,5 @@
+-- Length byte, data, pointer: each written directly behind the one before. The sum is taken over these as they now stand, and the check goes behind them.
+-- So the page's front is the packet; the rest is not touched.
 use native.Mathlib.Omega.{arith}
 use lib.ListN.{length-take}
 use Rattle.packet.proofs.Fronts.{packet-is}

@@ -1,8 +1,10 @@
+-- Refusal 1 leaves image and table. Else what `put_in` leaves in the first N numbers of the table, with those behind them, is `putCall`.
+-- `Puts` is a theorem about `putCall` for an image, a path and a content that are bytes, as slices are.
 use mathlib.Core.Path.{sym, _∙_}
 use lib.Seq.{length-take-le}
 use Rattle.geometry.specs.ShapeLaws.{sized-of, fit-of}
-use Rattle.rules.specs.CallLaws.{put-wrong}
-use Rattle.volume.specs.declared.Edited.the-variants as edited
+use Rattle.rules.specs.CallLaws.{put-invalid}
+use Rattle.rules.specs.declared.Edited.the-variants as edited
 use Rattle.put.proofs.Calling.{putted, put-is}
 use borrow.Author.Needs.{needs}
 use Rattle.put.proofs.put.Statement.{statement}
@@ -31,7 +33,7 @@ put-in-requires c κs =
     let start = at-new .before .before .before .before .before in
     let a = start .args in
     let e = sym (at-new .new .ensures) ∙ at-g .g .given .1 in
-    (fit-of (a .size) (a .pages) (a .image .now) (a .owners .now) _ e, length-take-le _ (a .owners .now) (sized-of (a .size) (a .pages) _ _ _ e .room))
+    (fit-of (a .size) (a .pages) (a .image .now) (a .table .now) _ e, length-take-le _ (a .table .now) (sized-of (a .size) (a .pages) _ _ _ e .room))
 
 returns : tie.Need-returns
 returns c =
@@ -41,11 +43,11 @@ returns c =
     let at-slice-known = at-shared-slice-known .before in
     let start = at-slice-known .before in
     let a = start .args in
-    let e = sym (put-wrong (a .size) (a .pages) (a .image .now) (a .owners .now) (sym (at-new .new .ensures) ∙ c .enum-told .given .1) (a .path .now) (a .bytes .now)) in (
+    let e = sym (put-invalid (a .size) (a .pages) (a .image .now) (a .table .now) (sym (at-new .new .ensures) ∙ c .enum-told .given .1) (a .path .now) (a .bytes .now)) in (
       e,
-      put-is (a .size) (a .pages) (a .image .now) (a .owners .now) (a .path .now) (a .bytes .now) (λ i. at-slice-known .slice-known .given i .fits)
+      put-is (a .size) (a .pages) (a .image .now) (a .table .now) (a .path .now) (a .bytes .now) (λ i. at-slice-known .slice-known .given i .fits)
           (λ i. at-shared-slice-known .shared-slice-known .given i .fits) (λ i. at-shared-slice-known2 .shared-slice-known2 .given i .fits) (edited.Refused 1 0) (a .image .now)
-          (a .owners .now) e,
+          (a .table .now) e,
     )
 
 returns-2 : tie.Need-returns-2
@@ -58,10 +60,10 @@ returns-2 c =
     let at-slice-known = at-shared-slice-known .before in
     let start = at-slice-known .before in
     let a = start .args in
-    let e = putted (a .size) (a .pages) (a .image .now) (a .owners .now) (a .path .now) (a .bytes .now) _ (sym (at-new .new .ensures) ∙ at-g .g .given .1)
+    let e = putted (a .size) (a .pages) (a .image .now) (a .table .now) (a .path .now) (a .bytes .now) _ (sym (at-new .new .ensures) ∙ at-g .g .given .1)
     (at-put-in .put-in .result) _ _ (at-put-in .put-in .ensures) in (
       e,
-      put-is (a .size) (a .pages) (a .image .now) (a .owners .now) (a .path .now) (a .bytes .now) (λ i. at-slice-known .slice-known .given i .fits)
+      put-is (a .size) (a .pages) (a .image .now) (a .table .now) (a .path .now) (a .bytes .now) (λ i. at-slice-known .slice-known .given i .fits)
           (λ i. at-shared-slice-known .shared-slice-known .given i .fits) (λ i. at-shared-slice-known2 .shared-slice-known2 .given i .fits) (at-put-in .put-in .result) _ _ e,
     )
 

@@ -1,31 +1,29 @@
-use mathlib.Core.Path.{_∙_}
+-- The check's fault first; else the put, and then the table of the image as it stands.
+use mathlib.Core.Path.{ap, _∙_}
+use Rattle.packet.specs.declared.Budget.{Budget}
 use Rattle.volume.proofs.EditLaws.{fit-same, fault-leaves, table-of}
 use Rattle.put.proofs.Calling.{put-fault}
+use Rattle.put.proofs.PathPuts.{answer-done, answer-refused}
 use borrow.Author.Needs.{needs}
 use Rattle.put.proofs.put_in.Statement.{statement}
 use Rattle.put.proofs.put_in.Tie as tie
 
 put-path-requires : tie.Need-put-path-requires
 put-path-requires c κs =
-    let at-enum-told = c .before .before in
+    let at-enum-told = c .before .before .before in
     let at-check-table = at-enum-told .before .before .before .before in
     let at-slice-known = at-check-table .before .before .before .before .before .before in
     let start = at-slice-known .before in
-    let s = start in
-    let a = s .args in (
-      s .pre .0,
-      (
-        at-check-table .check-table .kept .1 .1 .0 ∙ s .pre .1,
-        table-of (a .g) (a .image .now) (at-check-table .check-table .result)
-            (at-check-table .check-table .last .1 .1 .0) (at-check-table .check-table .ensures) (λ i. at-slice-known .slice-known .given i .fits) _ (at-enum-told .enum-told .given .1),
-      ),
-    )
+    let a = start .args in
+    let T = table-of (a .g) (a .image .now) (at-check-table .check-table .result) (at-check-table .check-table .last .1 .1 .0) (at-check-table .check-table .ensures)
+    (λ i. at-slice-known .slice-known .given i .fits) _ (at-enum-told .enum-told .given .1) in
+    (start .pre .0, (at-check-table .check-table .kept .1 .1 .0 ∙ start .pre .1, T, ap (λ (x : Budget). x .stopped) (c .unlimited .ensures)))
 
 check-table-requires-2 : tie.Need-check-table-requires-2
 check-table-requires-2 c κs =
     let at-put-path = c .before .before .before .before .before .before in
-    let at-owners = at-put-path .before .before .before .before .before .before in
-    let at-check-table = at-owners .before in
+    let at-slice-known3 = at-put-path .before .before .before .before .before .before in
+    let at-check-table = at-slice-known3 .before .before in
     let at-slice-known = at-check-table .before .before .before .before .before .before in
     let start = at-slice-known .before in
     let s = start .pre in
@@ -43,13 +41,54 @@ returns c =
 
 returns-2 : tie.Need-returns-2
 returns-2 c =
-    let at-check-table2 = c .before .before in
+    let at-check-table2 = c .before .before .before .before in
     let at-image = at-check-table2 .before .before .before .before .before .before in
     let at-put-path = at-image .before in
-    record { answers = at-put-path .put-path .ensures; check = at-check-table2 .check-table2 .result; checked = at-check-table2 .check-table2 .ensures }
+    let at-unlimited = at-put-path .before in
+    let at-enum-told = at-unlimited .before .before .before in
+    let at-check-table = at-enum-told .before .before .before .before in
+    let at-shared-slice-known2 = at-check-table .before .before .before .before in
+    let at-shared-slice-known = at-shared-slice-known2 .before in
+    let at-slice-known = at-shared-slice-known .before in
+    let start = at-slice-known .before in
+    let a = start .args in
+    let T = table-of (a .g) (a .image .now) (at-check-table .check-table .result) (at-check-table .check-table .last .1 .1 .0) (at-check-table .check-table .ensures)
+    (λ i. at-slice-known .slice-known .given i .fits) _ (at-enum-told .enum-told .given .1) in
+    record {
+      answers = answer-done (a .g) (a .image .now) _ (a .path .now) (a .bytes .now) (start .pre .0) T
+          (λ i. at-shared-slice-known .shared-slice-known .given i .fits) (λ i. at-shared-slice-known2 .shared-slice-known2 .given i .fits)
+          _ (at-unlimited .unlimited .ensures) _ _ (at-put-path .put-path .ensures) _ (c .enum-told2 .given .1);
+      check = at-check-table2 .check-table2 .result;
+      checked = at-check-table2 .check-table2 .ensures;
+    }
+
+returns-3 : tie.Need-returns-3
+returns-3 c =
+    let at-outcome = c .before in
+    let at-check-table2 = at-outcome .before .before .before .before in
+    let at-image = at-check-table2 .before .before .before .before .before .before in
+    let at-put-path = at-image .before in
+    let at-unlimited = at-put-path .before in
+    let at-enum-told = at-unlimited .before .before .before in
+    let at-check-table = at-enum-told .before .before .before .before in
+    let at-shared-slice-known2 = at-check-table .before .before .before .before in
+    let at-shared-slice-known = at-shared-slice-known2 .before in
+    let at-slice-known = at-shared-slice-known .before in
+    let start = at-slice-known .before in
+    let a = start .args in
+    let T = table-of (a .g) (a .image .now) (at-check-table .check-table .result) (at-check-table .check-table .last .1 .1 .0) (at-check-table .check-table .ensures)
+    (λ i. at-slice-known .slice-known .given i .fits) _ (at-enum-told .enum-told .given .1) in
+    record {
+      answers = answer-refused (a .g) (a .image .now) _ (a .path .now) (a .bytes .now) (start .pre .0) T
+          (λ i. at-shared-slice-known .shared-slice-known .given i .fits) (λ i. at-shared-slice-known2 .shared-slice-known2 .given i .fits)
+          _ (at-unlimited .unlimited .ensures) _ _ (at-put-path .put-path .ensures) _ _ (at-outcome .outcome .given .1);
+      check = at-check-table2 .check-table2 .result;
+      checked = at-check-table2 .check-table2 .ensures;
+    }
 
 pub put-in-spec : {M : Type 1} → statement M
 put-in-spec =
     tie.close
-    (tie.spec (λ c κs. search needs) (λ c. search needs) (λ c. search needs) put-path-requires check-table-requires-2 (λ c. search needs) (λ c. search needs) returns
-    (λ c. search needs) (λ c. search needs) returns-2)
+    (tie.spec (λ c κs. search needs) (λ c. search needs) (λ c. search needs) (λ c κs. search needs) put-path-requires check-table-requires-2 (λ c. search needs)
+    (λ c. search needs) (λ c. search needs) (λ c. search needs) returns (λ c. search needs) (λ c. search needs) returns-2 (λ c. search needs) (λ c. search needs)
+    returns-3)

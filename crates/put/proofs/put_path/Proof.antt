@@ -1,121 +1,103 @@
--- Each refusal in its place; the file is inserted or replaced.
-use native.Mathlib.Omega.{arith}
-use Rattle.put.proofs.PathPut.{malformed, nowhere, to-insert, insert-answer, read-only, to-replace, replace-answer}
-use Rattle.directory.proofs.ExtensionLaws.{top-set, top-clear}
+-- The file put where it goes; a chain that is replaced is free first.
+use mathlib.Core.Path.{_∙_}
+use Rattle.put.proofs.PathPuts.{refused, to-put, new-put, known-chain, to-put-over, put-over}
 use borrow.Author.Needs.{needs}
 use Rattle.put.proofs.put_path.Statement.{statement}
 use Rattle.put.proofs.put_path.Tie as tie
 
-find-file-requires : tie.Need-find-file-requires
-find-file-requires c κs =
+place-file-requires : tie.Need-place-file-requires
+place-file-requires c κs =
     let start = c .before .before .before .before .before in
-    let T = start .pre .1 .1 in (start .pre .0, record { image = T .tree; accepted = T .accepted })
+    let T = start .pre .1 .1 in
+    (start .pre .0, record { image = T .tree; accepted = T .accepted })
 
-insert-file-requires : tie.Need-insert-file-requires
-insert-file-requires c κs =
-    let start = c .before .before .before in
-    let at-start = start in
-    let at-find-file = at-start .before .before in
-    let at-shared-slice-known2 = at-find-file .before .before .before in
+put-file-requires : tie.Need-put-file-requires
+put-file-requires c κs =
+    let at-file = c .before .before .before in
+    let at-place-file = at-file .before .before in
+    let at-shared-slice-known2 = at-place-file .before .before .before in
     let at-shared-slice-known = at-shared-slice-known2 .before in
     let start = at-shared-slice-known .before .before in
-    let a = start .args in (
-      start .pre .0,
-      (
-        start .pre .1 .0,
-        to-insert (a .g) (a .image .now) (a .owners .now) (a .path .now) (a .bytes .now) (start .pre .0) (start .pre .1 .1) (λ i.
-            at-shared-slice-known .shared-slice-known .given i .fits) (λ i. at-shared-slice-known2 .shared-slice-known2 .given i .fits) (at-find-file .find-file .result)
-            (at-find-file .find-file .ensures) _
-            _ _ (at-start .start .given .1),
-      ),
-    )
+    let a = start .args in
+    let p = start .pre in
+    let new = to-put (a .g) (a .image .now) (a .table .now) (a .path .now) (a .bytes .now) (p .0) (p .1 .1)
+    (λ i. at-shared-slice-known .shared-slice-known .given i .fits) (λ i. at-shared-slice-known2 .shared-slice-known2 .given i .fits)
+    _ (at-place-file .place-file .ensures) (a .budget) _ (at-file .file .given .1) in
+    (p .0, (p .1 .0, new, p .1 .2))
+
+release-chain-requires : tie.Need-release-chain-requires
+release-chain-requires c κs =
+    let at-file2 = c .before .before .before in
+    let at-place-file = at-file2 .before .before in
+    let at-shared-slice-known2 = at-place-file .before .before .before in
+    let at-shared-slice-known = at-shared-slice-known2 .before in
+    let start = at-shared-slice-known .before .before in
+    let a = start .args in
+    let p = start .pre in
+    let old = known-chain (a .g) (a .image .now) (a .table .now) (a .path .now) (a .bytes .now) (p .0) (p .1 .1)
+    (λ i. at-shared-slice-known .shared-slice-known .given i .fits) (λ i. at-shared-slice-known2 .shared-slice-known2 .given i .fits)
+    _ (at-place-file .place-file .ensures) (a .budget) _ _ (at-file2 .file2 .given .1) in
+    (p .0, (old, p .1 .0))
+
+put-file-requires-2 : tie.Need-put-file-requires-2
+put-file-requires-2 c κs =
+    let at-release-chain = c .before .before .before .before in
+    let at-file2 = at-release-chain .before .before .before .before in
+    let at-place-file = at-file2 .before .before in
+    let at-shared-slice-known2 = at-place-file .before .before .before in
+    let at-shared-slice-known = at-shared-slice-known2 .before in
+    let start = at-shared-slice-known .before .before in
+    let a = start .args in
+    let p = start .pre in
+    let over = to-put-over (a .g) (a .image .now) (a .table .now) (a .path .now) (a .bytes .now) (p .0) (p .1 .1)
+    (λ i. at-shared-slice-known .shared-slice-known .given i .fits) (λ i. at-shared-slice-known2 .shared-slice-known2 .given i .fits)
+    _ (at-place-file .place-file .ensures) (a .budget) _ _ (at-file2 .file2 .given .1) _ (at-release-chain .release-chain .ensures) in
+    (p .0, (at-release-chain .release-chain .kept .1 .1 .1 .0 ∙ p .1 .0, over, p .1 .2))
 
 returns : tie.Need-returns
 returns c =
-    let at-extension-of = c .before .before in
-    let at-slot = at-extension-of .before .before in
-    let at-find-file = at-slot .before .before in
-    let at-shared-slice-known2 = at-find-file .before .before .before in
+    let at-number = c .before in
+    let at-place-file = at-number .before .before in
+    let at-shared-slice-known2 = at-place-file .before .before .before in
     let at-shared-slice-known = at-shared-slice-known2 .before in
     let start = at-shared-slice-known .before .before in
     let a = start .args in
-    read-only (a .g) (a .image .now) (a .owners .now) (a .path .now) (a .bytes .now) (start .pre .0) (start .pre .1 .1) (λ i. at-shared-slice-known .shared-slice-known .given i .fits) (λ i.
-    at-shared-slice-known2 .shared-slice-known2 .given i .fits) (at-find-file .find-file .result) (at-find-file .find-file .ensures) _ _ (at-slot .slot .given .1) (top-set _ _
-    (at-extension-of .extension-of .ensures) (c .if1 .taken))
-
-replace-file-requires : tie.Need-replace-file-requires
-replace-file-requires c κs =
-    let at-if1 = c .before .before in
-    let at-extension-of = at-if1 .before .before in
-    let at-slot = at-extension-of .before .before in
-    let at-find-file = at-slot .before .before in
-    let at-shared-slice-known2 = at-find-file .before .before .before in
-    let at-shared-slice-known = at-shared-slice-known2 .before in
-    let start = at-shared-slice-known .before .before in
-    let a = start .args in (
-      start .pre .0,
-      (
-        start .pre .1 .0,
-        to-replace (a .g) (a .image .now) (a .owners .now) (a .path .now) (a .bytes .now) (start .pre .0) (start .pre .1 .1) (λ i.
-            at-shared-slice-known .shared-slice-known .given i .fits) (λ i. at-shared-slice-known2 .shared-slice-known2 .given i .fits) (at-find-file .find-file .result)
-            (at-find-file .find-file .ensures) _
-            _ (at-slot .slot .given .1) (top-clear _ _ (at-extension-of .extension-of .ensures) (at-if1 .if1 .left)),
-      ),
-    )
+    let p = start .pre in
+    refused (a .g) (a .image .now) (a .table .now) (a .path .now) (a .bytes .now) (p .0) (p .1 .1)
+    (λ i. at-shared-slice-known .shared-slice-known .given i .fits) (λ i. at-shared-slice-known2 .shared-slice-known2 .given i .fits)
+    _ (at-place-file .place-file .ensures) (a .budget) _ _ (at-number .number .given .1)
 
 returns-2 : tie.Need-returns-2
 returns-2 c =
-    let at-find-file = c .before .before in
-    let at-shared-slice-known2 = at-find-file .before .before .before in
+    let at-put-file = c .before .before in
+    let at-file = at-put-file .before .before .before .before in
+    let at-place-file = at-file .before .before in
+    let at-shared-slice-known2 = at-place-file .before .before .before in
     let at-shared-slice-known = at-shared-slice-known2 .before in
     let start = at-shared-slice-known .before .before in
     let a = start .args in
-    malformed (a .g) (a .image .now) (a .owners .now) (a .path .now) (a .bytes .now) (start .pre .0) (start .pre .1 .1) (λ i. at-shared-slice-known .shared-slice-known .given i .fits) (λ i.
-    at-shared-slice-known2 .shared-slice-known2 .given i .fits) (at-find-file .find-file .result) (at-find-file .find-file .ensures) (c .enum-told .given .1)
+    let p = start .pre in
+    new-put (a .g) (a .image .now) (a .table .now) (a .path .now) (a .bytes .now) (p .0) (p .1 .1)
+    (λ i. at-shared-slice-known .shared-slice-known .given i .fits) (λ i. at-shared-slice-known2 .shared-slice-known2 .given i .fits)
+    _ (at-place-file .place-file .ensures) (a .budget) _ (at-file .file .given .1) _ (at-put-file .put-file .result) (at-put-file .put-file .ensures)
 
 returns-3 : tie.Need-returns-3
 returns-3 c =
-    let at-find-file = c .before .before in
-    let at-shared-slice-known2 = at-find-file .before .before .before in
+    let at-put-file2 = c .before .before in
+    let at-release-chain = at-put-file2 .before .before .before .before .before in
+    let at-file2 = at-release-chain .before .before .before .before in
+    let at-place-file = at-file2 .before .before in
+    let at-shared-slice-known2 = at-place-file .before .before .before in
     let at-shared-slice-known = at-shared-slice-known2 .before in
     let start = at-shared-slice-known .before .before in
     let a = start .args in
-    nowhere (a .g) (a .image .now) (a .owners .now) (a .path .now) (a .bytes .now) (start .pre .0) (start .pre .1 .1) (λ i. at-shared-slice-known .shared-slice-known .given i .fits) (λ i.
-    at-shared-slice-known2 .shared-slice-known2 .given i .fits) (at-find-file .find-file .result) (at-find-file .find-file .ensures) (c .enum-told2 .given .1)
-
-returns-4 : tie.Need-returns-4
-returns-4 c =
-    let at-insert-file = c .before .before .before .before in
-    let at-insert-file = at-insert-file in
-    let at-start = at-insert-file .before .before .before .before in
-    let at-find-file = at-start .before .before in
-    let at-shared-slice-known2 = at-find-file .before .before .before in
-    let at-shared-slice-known = at-shared-slice-known2 .before in
-    let start = at-shared-slice-known .before .before in
-    let a = start .args in
-    insert-answer (a .g) (a .image .now) (a .owners .now) (a .path .now) (a .bytes .now) (start .pre .0) (start .pre .1 .1) (λ i. at-shared-slice-known .shared-slice-known .given i .fits) (λ i.
-    at-shared-slice-known2 .shared-slice-known2 .given i .fits) (at-find-file .find-file .result) (at-find-file .find-file .ensures) _ _ _ (at-start .start .given .1)
-    (at-insert-file .insert-file .result) _ (at-insert-file .insert-file .ensures)
-
-returns-5 : tie.Need-returns-5
-returns-5 c =
-    let at-replace-file = c .before .before .before .before in
-    let at-replace-file = at-replace-file in
-    let at-if1 = at-replace-file .before .before .before in
-    let at-extension-of = at-if1 .before .before in
-    let at-slot = at-extension-of .before .before in
-    let at-find-file = at-slot .before .before in
-    let at-shared-slice-known2 = at-find-file .before .before .before in
-    let at-shared-slice-known = at-shared-slice-known2 .before in
-    let start = at-shared-slice-known .before .before in
-    let a = start .args in
-    replace-answer (a .g) (a .image .now) (a .owners .now) (a .path .now) (a .bytes .now) (start .pre .0) (start .pre .1 .1) (λ i. at-shared-slice-known .shared-slice-known .given i .fits) (λ i.
-    at-shared-slice-known2 .shared-slice-known2 .given i .fits) (at-find-file .find-file .result) (at-find-file .find-file .ensures) _ _ (at-slot .slot .given .1) (top-clear _ _
-    (at-extension-of .extension-of .ensures) (at-if1 .if1 .left)) (at-replace-file .replace-file .result) _ (at-replace-file .replace-file .ensures)
+    let p = start .pre in
+    put-over (a .g) (a .image .now) (a .table .now) (a .path .now) (a .bytes .now) (p .0) (p .1 .1)
+    (λ i. at-shared-slice-known .shared-slice-known .given i .fits) (λ i. at-shared-slice-known2 .shared-slice-known2 .given i .fits)
+    _ (at-place-file .place-file .ensures) (a .budget) _ _ (at-file2 .file2 .given .1) _ (at-release-chain .release-chain .ensures) _ (at-put-file2 .put-file2 .result) (at-put-file2 .put-file2 .ensures)
 
 pub put-path-spec : {M : Type 1} → statement M
 put-path-spec =
     tie.close
-    (tie.spec find-file-requires (λ c. search needs) (λ c. search needs) (λ c. search needs) insert-file-requires (λ c. search needs) (λ c κs. search needs) (λ c. search needs)
-    returns replace-file-requires (λ c. search needs) returns-2 (λ c. search needs) returns-3 (λ c. search needs) (λ c. search needs) returns-4 (λ c. search needs)
-    (λ c. search needs) returns-5)
+    (tie.spec place-file-requires (λ c. search needs) (λ c. search needs) put-file-requires (λ c. search needs) release-chain-requires put-file-requires-2
+    (λ c. search needs) returns (λ c. search needs) (λ c. search needs) returns-2 (λ c. search needs) (λ c. search needs) returns-3)

@@ -1,6 +1,7 @@
+-- Of the accepted image's tree the search tells the line at the position, or that the walk ends before it: the rule's answer, and its 15.
 use mathlib.Core.Path.{sym, subst}
 use Rattle.rules.specs.Listing.{linesOf}
-use Rattle.listing.specs.Standing.{Tells}
+use Rattle.listing.specs.KnownTree.{Tells}
 use borrow.Author.Needs.{needs}
 use Rattle.query.proofs.entry_of.Statement.{statement}
 use Rattle.query.proofs.entry_of.Tie as tie

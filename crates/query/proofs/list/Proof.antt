@@ -1,8 +1,10 @@
+-- Three ways out, each a case of `listCall`: a geometry that does not fit (1, the table untouched), the check's refusal, and the line of the image that the check accepted.
+-- The table is the check's. `TellsTree` follows from the equation.
 use mathlib.Core.Path.{sym, _∙_}
 use lib.Seq.{length-take-le}
 use Rattle.geometry.specs.ShapeLaws.{sized-of, fit-of}
-use Rattle.rules.specs.CallLaws.{list-wrong}
-use Rattle.query.specs.declared.Listed.the-variants as listed
+use Rattle.rules.specs.CallLaws.{list-invalid}
+use Rattle.rules.specs.declared.Listed.the-variants as listed
 use Rattle.query.proofs.Calling.{list-fault, is-accepted, list-done, lists-tree}
 use borrow.Author.Needs.{needs}
 use Rattle.query.proofs.list.Statement.{statement}
@@ -31,7 +33,7 @@ check-table-requires c κs =
     let start = at-new .before .before .before in
     let a = start .args in
     let e = sym (at-new .new .ensures) ∙ at-g .g .given .1 in
-    (fit-of (a .size) (a .pages) (a .image .now) (a .owners .now) _ e, length-take-le _ (a .owners .now) (sized-of (a .size) (a .pages) _ _ _ e .room))
+    (fit-of (a .size) (a .pages) (a .image .now) (a .table .now) _ e, length-take-le _ (a .table .now) (sized-of (a .size) (a .pages) _ _ _ e .room))
 
 entry-of-requires : tie.Need-entry-of-requires
 entry-of-requires c κs =
@@ -41,8 +43,8 @@ entry-of-requires c κs =
     let start = at-new .before .before .before in
     let a = start .args in
     let e = sym (at-new .new .ensures) ∙ at-g .g .given .1 in (
-      fit-of (a .size) (a .pages) (a .image .now) (a .owners .now) _ e,
-      is-accepted (a .size) (a .pages) (a .image .now) (a .owners .now) _ e (at-check-table .check-table .result)
+      fit-of (a .size) (a .pages) (a .image .now) (a .table .now) _ e,
+      is-accepted (a .size) (a .pages) (a .image .now) (a .table .now) _ e (at-check-table .check-table .result)
           (at-check-table .check-table .last .1 .1 .0) (at-check-table .check-table .ensures) _ (c .enum-told2 .given .1),
     )
 
@@ -52,8 +54,8 @@ returns c =
     let at-shared-slice-known = at-new .before .before in
     let start = at-shared-slice-known .before in
     let a = start .args in
-    let e = sym (list-wrong (a .size) (a .pages) (a .image .now) (a .owners .now) (sym (at-new .new .ensures) ∙ c .enum-told .given .1) (a .position)) in
-    (e, lists-tree (a .size) (a .pages) (a .image .now) (a .owners .now) (λ i. at-shared-slice-known .shared-slice-known .given i .fits) (a .position) (listed.Refused 1 0) (a .owners .now) e)
+    let e = sym (list-invalid (a .size) (a .pages) (a .image .now) (a .table .now) (sym (at-new .new .ensures) ∙ c .enum-told .given .1) (a .position)) in
+    (e, lists-tree (a .size) (a .pages) (a .image .now) (a .table .now) (λ i. at-shared-slice-known .shared-slice-known .given i .fits) (a .position) (listed.Refused 1 0) (a .table .now) e)
 
 returns-2 : tie.Need-returns-2
 returns-2 c =
@@ -64,10 +66,10 @@ returns-2 c =
     let at-shared-slice-known = at-new .before .before in
     let start = at-shared-slice-known .before in
     let a = start .args in
-    let e = list-fault (a .size) (a .pages) (a .image .now) (a .owners .now) _ (sym (at-new .new .ensures) ∙ at-g .g .given .1) (at-check-table .check-table .result)
+    let e = list-fault (a .size) (a .pages) (a .image .now) (a .table .now) _ (sym (at-new .new .ensures) ∙ at-g .g .given .1) (at-check-table .check-table .result)
     (at-check-table .check-table .last .1 .1 .0) (at-check-table .check-table .ensures) _ _ (at-number .number .given .1) (a .position) in (
       e,
-      lists-tree (a .size) (a .pages) (a .image .now) (a .owners .now) (λ i. at-shared-slice-known .shared-slice-known .given i .fits) (a .position)
+      lists-tree (a .size) (a .pages) (a .image .now) (a .table .now) (λ i. at-shared-slice-known .shared-slice-known .given i .fits) (a .position)
           (listed.Refused (at-number .number .given .0 .0) (at-number .number .given .0 .1 .0)) _ e,
     )
 
@@ -80,10 +82,10 @@ returns-3 c =
     let at-shared-slice-known = at-new .before .before in
     let start = at-shared-slice-known .before in
     let a = start .args in
-    let e = list-done (a .size) (a .pages) (a .image .now) (a .owners .now) _ (sym (at-new .new .ensures) ∙ at-g .g .given .1) (at-check-table .check-table .result)
+    let e = list-done (a .size) (a .pages) (a .image .now) (a .table .now) _ (sym (at-new .new .ensures) ∙ at-g .g .given .1) (at-check-table .check-table .result)
     (at-check-table .check-table .last .1 .1 .0) (at-check-table .check-table .ensures) _ (at-enum-told2 .enum-told2 .given .1) (a .position) (c .entry-of .result)
     (c .entry-of .ensures) in
-    (e, lists-tree (a .size) (a .pages) (a .image .now) (a .owners .now) (λ i. at-shared-slice-known .shared-slice-known .given i .fits) (a .position) (c .entry-of .result) _ e)
+    (e, lists-tree (a .size) (a .pages) (a .image .now) (a .table .now) (λ i. at-shared-slice-known .shared-slice-known .given i .fits) (a .position) (c .entry-of .result) _ e)
 
 pub list-spec : {M : Type 1} → statement M
 list-spec =

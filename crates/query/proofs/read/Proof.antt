@@ -1,8 +1,10 @@
+-- Refusal 1 touches neither output nor table, the check's refusal not the output; an image that is accepted has its path read. Each is a case of `readCall`.
+-- That answer and output are those of the tree, `TellsTree`, is a theorem about `readCall`.
 use mathlib.Core.Path.{sym, _∙_}
 use lib.Seq.{length-take-le}
 use Rattle.geometry.specs.ShapeLaws.{sized-of, fit-of}
-use Rattle.rules.specs.CallLaws.{read-wrong}
-use Rattle.query.specs.declared.Length.the-variants as length′
+use Rattle.rules.specs.CallLaws.{read-invalid}
+use Rattle.rules.specs.declared.Length.the-variants as length′
 use Rattle.query.proofs.Calling.{read-fault, is-accepted, read-done, reads-tree}
 use borrow.Author.Needs.{needs}
 use Rattle.query.proofs.read.Statement.{statement}
@@ -31,7 +33,7 @@ check-table-requires c κs =
     let start = at-new .before .before .before .before .before in
     let a = start .args in
     let e = sym (at-new .new .ensures) ∙ at-g .g .given .1 in
-    (fit-of (a .size) (a .pages) (a .image .now) (a .owners .now) _ e, length-take-le _ (a .owners .now) (sized-of (a .size) (a .pages) _ _ _ e .room))
+    (fit-of (a .size) (a .pages) (a .image .now) (a .table .now) _ e, length-take-le _ (a .table .now) (sized-of (a .size) (a .pages) _ _ _ e .room))
 
 read-path-requires : tie.Need-read-path-requires
 read-path-requires c κs =
@@ -42,8 +44,8 @@ read-path-requires c κs =
     let start = at-new .before .before .before .before .before in
     let a = start .args in
     let e = sym (at-new .new .ensures) ∙ at-g .g .given .1 in (
-      fit-of (a .size) (a .pages) (a .image .now) (a .owners .now) _ e,
-      is-accepted (a .size) (a .pages) (a .image .now) (a .owners .now) _ e (at-check-table .check-table .result)
+      fit-of (a .size) (a .pages) (a .image .now) (a .table .now) _ e,
+      is-accepted (a .size) (a .pages) (a .image .now) (a .table .now) _ e (at-check-table .check-table .result)
           (at-check-table .check-table .last .1 .1 .0) (at-check-table .check-table .ensures) _ (at-enum-told2 .enum-told2 .given .1),
     )
 
@@ -53,10 +55,10 @@ returns c =
     let at-shared-slice-known = at-new .before .before .before .before in
     let start = at-shared-slice-known .before in
     let a = start .args in
-    let e = sym (read-wrong (a .size) (a .pages) (a .image .now) (a .owners .now) (sym (at-new .new .ensures) ∙ c .enum-told .given .1) (a .path .now) (a .out .now)) in (
+    let e = sym (read-invalid (a .size) (a .pages) (a .image .now) (a .table .now) (sym (at-new .new .ensures) ∙ c .enum-told .given .1) (a .path .now) (a .out .now)) in (
       e,
-      reads-tree (a .size) (a .pages) (a .image .now) (a .owners .now) (λ i. at-shared-slice-known .shared-slice-known .given i .fits) (a .path .now) (a .out .now)
-          (length′.Refused 1 0) (a .out .now) (a .owners .now) e,
+      reads-tree (a .size) (a .pages) (a .image .now) (a .table .now) (λ i. at-shared-slice-known .shared-slice-known .given i .fits) (a .path .now) (a .out .now)
+          (length′.Refused 1 0) (a .out .now) (a .table .now) e,
     )
 
 returns-2 : tie.Need-returns-2
@@ -68,10 +70,10 @@ returns-2 c =
     let at-shared-slice-known = at-new .before .before .before .before in
     let start = at-shared-slice-known .before in
     let a = start .args in
-    let e = read-fault (a .size) (a .pages) (a .image .now) (a .owners .now) _ (sym (at-new .new .ensures) ∙ at-g .g .given .1) (at-check-table .check-table .result)
+    let e = read-fault (a .size) (a .pages) (a .image .now) (a .table .now) _ (sym (at-new .new .ensures) ∙ at-g .g .given .1) (at-check-table .check-table .result)
     (at-check-table .check-table .last .1 .1 .0) (at-check-table .check-table .ensures) _ _ (at-number .number .given .1) (a .path .now) (a .out .now) in (
       e,
-      reads-tree (a .size) (a .pages) (a .image .now) (a .owners .now) (λ i. at-shared-slice-known .shared-slice-known .given i .fits) (a .path .now) (a .out .now)
+      reads-tree (a .size) (a .pages) (a .image .now) (a .table .now) (λ i. at-shared-slice-known .shared-slice-known .given i .fits) (a .path .now) (a .out .now)
           (length′.Refused (at-number .number .given .0 .0) (at-number .number .given .0 .1 .0)) _ _ e,
     )
 
@@ -85,11 +87,11 @@ returns-3 c =
     let at-shared-slice-known = at-new .before .before .before .before in
     let start = at-shared-slice-known .before in
     let a = start .args in
-    let e = read-done (a .size) (a .pages) (a .image .now) (a .owners .now) _ (sym (at-new .new .ensures) ∙ at-g .g .given .1) (at-check-table .check-table .result)
+    let e = read-done (a .size) (a .pages) (a .image .now) (a .table .now) _ (sym (at-new .new .ensures) ∙ at-g .g .given .1) (at-check-table .check-table .result)
     (at-check-table .check-table .last .1 .1 .0) (at-check-table .check-table .ensures) _ (at-enum-told2 .enum-told2 .given .1) (a .path .now) (a .out .now)
     (at-read-path .read-path .result) _ (at-read-path .read-path .ensures) in (
       e,
-      reads-tree (a .size) (a .pages) (a .image .now) (a .owners .now) (λ i. at-shared-slice-known .shared-slice-known .given i .fits) (a .path .now) (a .out .now)
+      reads-tree (a .size) (a .pages) (a .image .now) (a .table .now) (λ i. at-shared-slice-known .shared-slice-known .given i .fits) (a .path .now) (a .out .now)
           (at-read-path .read-path .result) _ _ e,
     )
 

@@ -1,3 +1,4 @@
+-- The bytes counted are the chain's content: an output with fewer is refused with 18 and stays, any other gets them at its front.
 use native.Mathlib.Omega.{arith}
 use Rattle.rules.specs.Chain.{content}
 use Rattle.query.proofs.FileRead.{too-short, long-enough}

@@ -1,5 +1,5 @@
 -- Each refusal in its place; else the bytes of the chain.
-use Rattle.packet.specs.Packet.{viewOf}
+use Rattle.rules.specs.Chain.{viewsOf}
 use Rattle.query.proofs.FileRead.{malformed, nowhere, absent, there, read-file}
 use borrow.Author.Needs.{needs}
 use Rattle.query.proofs.read_path.Statement.{statement}
@@ -10,11 +10,10 @@ read-chain-requires c κs =
     let at-e = c .before .before in
     let at-find-file = at-e .before .before in
     let start = at-find-file .before .before .before .before in
-    let s = start in
-    let a = s .args in
-    let F = there (a .g) (viewOf (a .g) (a .image .now)) (a .path .now) (a .out .now) (at-find-file .find-file .result) (at-find-file .find-file .ensures) (s .pre .1 .image)
-    (s .pre .1 .accepted) _ _ (at-e .e .given .1) in
-    (s .pre .0, record { links = F .links; chain = F .chain })
+    let a = start .args in
+    let F = there (a .g) (viewsOf (a .g) (a .image .now)) (a .path .now) (a .out .now) (at-find-file .find-file .result) (at-find-file .find-file .ensures) (start .pre .1 .image)
+    (start .pre .1 .accepted) _ _ (at-e .e .given .1) in
+    (start .pre .0, record { links = F .links; chain = F .chain })
 
 returns : tie.Need-returns
 returns c =
@@ -22,7 +21,7 @@ returns c =
     let start = at-find-file .before .before .before .before in
     λ i h.
     let a = start .args in
-    malformed (a .g) (viewOf (a .g) (a .image .now)) (a .path .now) (a .out .now) (at-find-file .find-file .result) (at-find-file .find-file .ensures) i h (c .enum-told .given .1)
+    malformed (a .g) (viewsOf (a .g) (a .image .now)) (a .path .now) (a .out .now) (at-find-file .find-file .result) (at-find-file .find-file .ensures) i h (c .enum-told .given .1)
 
 returns-2 : tie.Need-returns-2
 returns-2 c =
@@ -30,7 +29,7 @@ returns-2 c =
     let start = at-find-file .before .before .before .before in
     λ i h.
     let a = start .args in
-    nowhere (a .g) (viewOf (a .g) (a .image .now)) (a .path .now) (a .out .now) (at-find-file .find-file .result) (at-find-file .find-file .ensures) i h (c .enum-told2 .given .1)
+    nowhere (a .g) (viewsOf (a .g) (a .image .now)) (a .path .now) (a .out .now) (at-find-file .find-file .result) (at-find-file .find-file .ensures) i h (c .enum-told2 .given .1)
 
 returns-3 : tie.Need-returns-3
 returns-3 c =
@@ -38,7 +37,7 @@ returns-3 c =
     let start = at-find-file .before .before .before .before in
     λ i h.
     let a = start .args in
-    absent (a .g) (viewOf (a .g) (a .image .now)) (a .path .now) (a .out .now) (at-find-file .find-file .result) (at-find-file .find-file .ensures) i h _ _ _ (c .enum-told3 .given .1)
+    absent (a .g) (viewsOf (a .g) (a .image .now)) (a .path .now) (a .out .now) (at-find-file .find-file .result) (at-find-file .find-file .ensures) i h _ _ _ (c .enum-told3 .given .1)
 
 returns-4 : tie.Need-returns-4
 returns-4 c =
@@ -48,7 +47,7 @@ returns-4 c =
     let start = at-find-file .before .before .before .before in
     λ i h.
     let a = start .args in
-    read-file (a .g) (viewOf (a .g) (a .image .now)) (a .path .now) (a .out .now) (at-find-file .find-file .result) (at-find-file .find-file .ensures) i h _ _ (at-e .e .given .1)
+    read-file (a .g) (viewsOf (a .g) (a .image .now)) (a .path .now) (a .out .now) (at-find-file .find-file .result) (at-find-file .find-file .ensures) i h _ _ (at-e .e .given .1)
     (at-read-chain .read-chain .result) _ (at-read-chain .read-chain .ensures)
 
 pub read-path-spec : {M : Type 1} → statement M

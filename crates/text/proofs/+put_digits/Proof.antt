@@ -1,3 +1,5 @@
+-- The digits of x are those of x / 10, which the function writes by calling itself, and x % 10 behind them; below 10 there is one digit.
+-- The measure: the digits still allowed, one less in each call.
 use Prim.Native.Nat.{_<_, ℕ}
 use Rattle.text.proofs.Steps.{nothing, and-then, no-digit, one-digit, one-digit-more}
 use borrow.Author.Needs.{needs}
@@ -26,11 +28,11 @@ put-digits-returns : (t : ℕ) → put-digits-lts.Need-returns (put-digits-calls
 put-digits-returns t c = (rw (no-digit _ _ (c .if1 .taken)) nothing, search needs)
 
 put-digits-returns-2 : (t : ℕ) → put-digits-lts.Need-returns-2 (put-digits-calls t) (put-digits-at t) put-digits.Post
-put-digits-returns-2 t c = (
-  rw (one-digit _ _ (c .before .before .before .before .before .if1 .left) (c .before .before .before .before .if2 .taken))
-      (c .before .before .put-byte .ensures),
-  search needs,
-)
+put-digits-returns-2 t c =
+    let at-put-byte = c .before .before in
+    let at-if2 = at-put-byte .before .before in
+    let at-if1 = at-if2 .before in
+    (rw (one-digit _ _ (at-if1 .if1 .left) (at-if2 .if2 .taken)) (at-put-byte .put-byte .ensures), search needs)
 
 put-digits-returns-3 : (t : ℕ) → put-digits-lts.Need-returns-3 (put-digits-calls t) (put-digits-at t) put-digits.Post
 put-digits-returns-3 t c =

@@ -1,3 +1,4 @@
+-- Attribute 0 is `-`; set, it is `h` for the extension 127 of a subdirectory and `r` for a file's: the rule's own two tests.
 use borrow.Author.Tests.{eq-eqb, ne-eqb}
 use Rattle.geometry.specs.ChooseLaws.{choose-true, choose-false}
 use Rattle.text.proofs.letter_of.Statement.{statement}

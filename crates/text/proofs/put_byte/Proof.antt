@@ -1,3 +1,4 @@
+-- A byte inside the output is set there, a byte past its end is dropped; the position goes on by one in both cases.
 use Rattle.text.proofs.Steps.{inside, outside}
 use borrow.Author.Needs.{needs}
 use Rattle.text.proofs.put_byte.Statement.{statement}

@@ -1,3 +1,4 @@
+-- The invariant: placing the bytes from i on at `at` + i in the output as it is gives what placing all at `at` in the first output gives. The measure: the bytes left.
 use Prim.Native.Nat.{_+_, _-_, _≤_}
 use mathlib.Core.Path.{_≡_}
 use lib.ListN.{length, drop}
@@ -17,12 +18,11 @@ loop-holds : tie.Need-loop-holds Inv-loop μ-loop
 loop-holds c = (search needs, search needs, bytes-none _ _ _)
 
 loop-again : tie.Need-loop-again Inv-loop μ-loop
-loop-again c = (
-  search needs,
-  search needs,
-  byte-more _ _ _ _ _ _ _ (c .before .before .before .before .before .loop-test .taken)
-      (c .before .before .before .before .before .before .loop .inv .2) (c .before .before .put-byte .ensures),
-)
+loop-again c =
+    let at-put-byte = c .before .before in
+    let at-loop-test = at-put-byte .before .before .before in
+    let at-loop = at-loop-test .before in
+    (search needs, search needs, byte-more _ _ _ _ _ _ _ (at-loop-test .loop-test .taken) (at-loop .loop .inv .2) (at-put-byte .put-byte .ensures))
 
 returns : tie.Need-returns Inv-loop μ-loop
 returns c = bytes-all _ _ _ _ _ (c .loop-test .left) (c .before .loop .inv .0) (c .before .loop .inv .2)

@@ -1,3 +1,4 @@
+-- The six bytes of the array are blank, three digits, blank and the letter that `letter_of` gives, in the order of the rule; they are written as one text.
 use borrow.Author.Needs.{needs}
 use Rattle.text.proofs.put_kind.Statement.{statement}
 use Rattle.text.proofs.put_kind.Tie as tie

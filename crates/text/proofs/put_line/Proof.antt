@@ -1,3 +1,4 @@
+-- Level, blank, name, kind and sizes joined are `lineText`. They have at most 20 + 1 + 4 + 6 + 64 bytes, so that every position stays in its bound.
 use Rattle.rules.specs.ListText.{lineText}
 use Rattle.text.proofs.Steps.{and-then}
 use borrow.Author.Needs.{needs}

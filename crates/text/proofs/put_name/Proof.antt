@@ -1,3 +1,4 @@
+-- The name's four bytes, the lowest first, one after the other without blanks: what is left out of each is what is left out of the whole.
 use Rattle.text.proofs.Steps.{name-more}
 use borrow.Author.Needs.{needs}
 use Rattle.text.proofs.put_name.Statement.{statement}

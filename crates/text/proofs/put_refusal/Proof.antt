@@ -1,3 +1,4 @@
+-- The number behind `refused`, the page behind `page`, the line's end: joined they are `refusalText`.
 use Rattle.rules.specs.ListText.{refusalText}
 use Rattle.text.proofs.Steps.{and-then}
 use borrow.Author.Needs.{needs}

@@ -1,3 +1,4 @@
+-- Three fields, each a blank and at most 20 digits, and the line's end: joined in this order they are the end of an entry's line, of at most 64 bytes.
 use Rattle.text.proofs.Steps.{and-then}
 use borrow.Author.Needs.{needs}
 use Rattle.text.proofs.put_sizes.Statement.{statement}

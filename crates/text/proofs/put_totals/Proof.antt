@@ -1,3 +1,4 @@
+-- Five words, each with its number, and the line's end: joined they are `totalsText`, of fewer than 200 bytes.
 use Rattle.rules.specs.ListText.{totalsText}
 use Rattle.text.proofs.Steps.{and-then}
 use borrow.Author.Needs.{needs}

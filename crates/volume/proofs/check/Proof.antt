@@ -1,8 +1,10 @@
+-- Refusal 1 leaves the table. Else the check fills the first N numbers, or leaves them 0, and those behind them stay: that is `checkCall`.
+-- That it answers 0 exactly for a well-formed image, `Accepts`, is a theorem about `checkCall`.
 use mathlib.Core.Path.{sym, _∙_}
 use lib.Seq.{length-take-le}
 use Rattle.geometry.specs.ShapeLaws.{sized-of, fit-of}
-use Rattle.rules.specs.CallLaws.{check-wrong}
-use Rattle.walk.specs.declared.Walk.the-variants as w
+use Rattle.rules.specs.CallLaws.{check-invalid}
+use Rattle.rules.specs.declared.Checked.the-variants as w
 use Rattle.volume.proofs.CheckLaws.{checked, accepts}
 use borrow.Author.Needs.{needs}
 use Rattle.volume.proofs.check.Statement.{statement}
@@ -28,7 +30,7 @@ check-table-requires c κs =
     let start = at-new .before .before .before in
     let a = start .args in
     let e = sym (at-new .new .ensures) ∙ at-g .g .given .1 in
-    (fit-of _ _ (a .image .now) (a .owners .now) _ e, length-take-le _ (a .owners .now) (sized-of _ _ _ _ _ e .room))
+    (fit-of _ _ (a .image .now) (a .table .now) _ e, length-take-le _ (a .table .now) (sized-of _ _ _ _ _ e .room))
 
 returns : tie.Need-returns
 returns c =
@@ -36,8 +38,8 @@ returns c =
     let at-shared-slice-known = at-new .before .before in
     let start = at-shared-slice-known .before in
     let a = start .args in
-    let e = sym (check-wrong (a .size) (a .pages) (a .image .now) (a .owners .now) (sym (at-new .new .ensures) ∙ c .enum-told .given .1)) in
-    (e, accepts (a .size) (a .pages) (a .image .now) (a .owners .now) (λ i. at-shared-slice-known .shared-slice-known .given i .fits) (w.Refused 1 0) (a .owners .now) e)
+    let e = sym (check-invalid (a .size) (a .pages) (a .image .now) (a .table .now) (sym (at-new .new .ensures) ∙ c .enum-told .given .1)) in
+    (e, accepts (a .size) (a .pages) (a .image .now) (a .table .now) (λ i. at-shared-slice-known .shared-slice-known .given i .fits) (w.Refused 1 0) (a .table .now) e)
 
 returns-2 : tie.Need-returns-2
 returns-2 c =
@@ -47,9 +49,9 @@ returns-2 c =
     let at-shared-slice-known = at-new .before .before in
     let start = at-shared-slice-known .before in
     let a = start .args in
-    let e = checked (a .size) (a .pages) (a .image .now) (a .owners .now) _ (sym (at-new .new .ensures) ∙ at-g .g .given .1) (at-check-table .check-table .result)
+    let e = checked (a .size) (a .pages) (a .image .now) (a .table .now) _ (sym (at-new .new .ensures) ∙ at-g .g .given .1) (at-check-table .check-table .result)
     (at-check-table .check-table .last .1 .1 .0) (at-check-table .check-table .ensures) in
-    (e, accepts (a .size) (a .pages) (a .image .now) (a .owners .now) (λ i. at-shared-slice-known .shared-slice-known .given i .fits) (at-check-table .check-table .result) _ e)
+    (e, accepts (a .size) (a .pages) (a .image .now) (a .table .now) (λ i. at-shared-slice-known .shared-slice-known .given i .fits) (at-check-table .check-table .result) _ e)
 
 pub check-spec : {M : Type 1} → statement M
 check-spec =

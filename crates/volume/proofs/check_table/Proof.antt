@@ -1,3 +1,5 @@
+-- The scan begins with an empty table and page 0's control field. Done, its table has the owners of the tree's pages, with which the bitmap is compared: 13 for the lowest bit that differs.
+-- After a fault of either half the table is cleared again; its length never changed.
 use mathlib.Core.Path.{ap, _∙_}
 use Prim.Native.Nat.{ℕ}
 use lib.ListN.{replicate}

@@ -1,3 +1,5 @@
+-- In the order of the check: start page 0 is 6, then the faults of the chain, then a page count (8) or a length (8) that is not the bitmap's.
+-- The table was empty, so it has the bitmap file's pages alone, and as many are in use.
 use native.Mathlib.Omega.{arith}
 use Rattle.volume.specs.Scans.{MapClaimed}
 use Rattle.volume.proofs.MapLaws.{empty-table, map-none, map-refused, map-counted, map-short, map-done}

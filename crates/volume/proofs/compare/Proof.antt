@@ -1,3 +1,5 @@
+-- The bytes compared are those that the scan found: the four bytes in page 0, which lie inside every page, or the content of the bitmap file's chain.
+-- A root that was refused was never scanned.
 use native.Mathlib.Omega.{arith}
 use Rattle.volume.proofs.CheckLaws.{on-raw, never, field-inside, local-raw, remote-raw, remote-known}
 use borrow.Author.Needs.{needs}

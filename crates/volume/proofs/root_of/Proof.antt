@@ -1,3 +1,4 @@
+-- Page 0 judged: a wrong packet is 2; the data of a right one lies inside the page, and its control field is the root's.
 use mathlib.Core.Path.{sym, ap, _∙_}
 use native.Mathlib.Omega.{arith}
 use lib.ListN.{length}

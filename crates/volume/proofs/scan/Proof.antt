@@ -1,7 +1,9 @@
+-- Page 0 decides: its refusal is the answer; a local bitmap takes no page and has N up to 32; a bitmap file is claimed first, and its refusal is the answer.
+-- Then the root is walked over what is claimed so far, and the walk's answer is the scan's.
 use mathlib.Core.Path.{refl, sym}
 use mathlib.Core.List.{[]}
 use native.Mathlib.Omega.{arith}
-use Rattle.packet.specs.Packet.{viewOf}
+use Rattle.rules.specs.Chain.{viewsOf}
 use Rattle.rules.specs.Tree.{inRoot}
 use Rattle.volume.proofs.MapLaws.{empty-table}
 use Rattle.volume.proofs.ScanLaws.{scan-refused, scan-local, scan-remote, scan-from, mapped, file-mapped, map-refused-is, file-refused, file-scan}
@@ -16,7 +18,7 @@ walk-root-requires c κs =
     let s = start .pre in
     let a = start .args in
     let e = empty-table (a .g .pages) _ (s .1 .0) in
-    let k = scan-local (a .g) (viewOf (a .g) (a .image .now)) _ (s .1 .1) (at-enum-told .enum-told .given .1) in
+    let k = scan-local (a .g) (viewsOf (a .g) (a .image .now)) _ (s .1 .1) (at-enum-told .enum-told .given .1) in
     (s .0, (e .1, sym (e .2), λ h. omega (arith, k .few)))
 
 walk-root-requires-2 : tie.Need-walk-root-requires-2
@@ -45,7 +47,7 @@ returns-2 c =
     let s = start .pre in
     let a = start .args in
     let e = empty-table (a .g .pages) _ (s .1 .0) in
-    let k = scan-local (a .g) (viewOf (a .g) (a .image .now)) _ (s .1 .1) (at-enum-told .enum-told .given .1) in
+    let k = scan-local (a .g) (viewsOf (a .g) (a .image .now)) _ (s .1 .1) (at-enum-told .enum-told .given .1) in
     scan-from _ _ (k .head) inRoot (k .scan-is) 0 _ refl (s .1 .0) (at-walk-root .walk-root .result) (at-walk-root .walk-root .last .1 .1 .1 .0) (at-walk-root .walk-root .ensures [] (e .0))
 
 returns-3 : tie.Need-returns-3

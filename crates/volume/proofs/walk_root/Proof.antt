@@ -1,3 +1,5 @@
+-- The walk of a directory, begun at page 0 with eight levels below it and no entry met. The owner numbers suffice:
+-- with more than 65,532 pages the bitmap file has taken one.
 use native.Mathlib.Omega.{arith}
 use Rattle.directory.specs.Faults.{testOf}
 use borrow.Author.Needs.{needs}

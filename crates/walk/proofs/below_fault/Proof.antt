@@ -1,3 +1,4 @@
+-- The three tests of a subdirectory's entry, in their order.
 use Rattle.walk.proofs.Parts.{below-deep, below-counted, below-none, below-good}
 use Rattle.walk.proofs.below_fault.Statement.{statement}
 use Rattle.walk.proofs.below_fault.Tie as tie

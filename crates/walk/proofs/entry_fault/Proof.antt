@@ -1,3 +1,4 @@
+-- The entry's own fault first; then its key is looked for among the entries before it.
 use Rattle.walk.proofs.Parts.{met-before, first-label, first-met, first-new}
 use borrow.Author.Needs.{needs}
 use Rattle.walk.proofs.entry_fault.Statement.{statement}

@@ -1,3 +1,4 @@
+-- The answer for a file's chain, with its entry's page count; the owner's number fits.
 use mathlib.Core.Path.{refl}
 use native.Mathlib.Omega.{arith}
 use Rattle.walk.proofs.Parts.{totals-fit, owner-fits, claim-few, file-none, file-refused, file-counted, file-done}

@@ -1,3 +1,5 @@
+-- A refused step is the answer. A page that was passed is inside the image, so that its data bytes can be cut out;
+-- then the fault of its kind decides: a refusal at this page, or the next position.
 use mathlib.Core.Path.{sym, _∙_}
 use Rattle.chain.proofs.StepLaws.{taken, enter-refused, reaches, entered-fault, entered-on}
 use borrow.Author.Needs.{needs}

@@ -1,3 +1,5 @@
+-- In the order of the check: a number of N or more is 6 at the page that holds it, a wrong packet is 2 at the page itself, else the chain goes on.
+-- The bytes passed can be added up: each page adds fewer than 256, and the count of pages is bounded.
 use native.Mathlib.Omega.{arith}
 use Rattle.chain.proofs.StepLaws.{step-far, step-bad, step-page, data-small}
 use borrow.Author.Needs.{needs}

@@ -1,3 +1,5 @@
+-- By kind and by place in the chain: a file's page has no fault; a directory's first page is judged past its control field, a later page by its whole length.
+-- A root page shorter than its control field has no bytes of entries: 4 is told before its chain is walked.
 use Rattle.directory.proofs.ControlLaws.{of-kind, file-page, root-first, root-first-short, root-later, sub-first, sub-later}
 use borrow.Author.Needs.{needs}
 use Rattle.directory.proofs.control.page_fault.Statement.{statement}

@@ -1,3 +1,4 @@
+-- The four bytes are 4 - 2n zeros, the start page and the page count, each of n bytes: zeros that are none are 4, else the two numbers are the place.
 use Rattle.directory.proofs.ControlLaws.{no-place, a-place}
 use borrow.Author.Needs.{needs}
 use Rattle.directory.proofs.control.remote_map.Statement.{statement}

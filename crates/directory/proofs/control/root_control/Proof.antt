@@ -1,3 +1,5 @@
+-- Each test in the order of the rule: length (4), marker (3), work in progress (5), map address (4), the bits between (4); each return knows that the tests before it passed.
+-- Then bit 7 decides: clear, the four bytes place a bitmap file; set, they are the bitmap, which N above 32 forbids (4).
 use native.Mathlib.Omega.{arith}
 use Rattle.geometry.specs.Geometry.{controlSize}
 use Rattle.directory.proofs.ControlLaws.{root-short, root-marker, root-progress, root-address, root-bits, root-remote, root-local, root-large}
@@ -52,7 +54,7 @@ remote-map-requires c κs =
     let at-if2 = c .before .before .before .before .before .before in
     let at-control-size = at-if2 .before .before .before .before in
     let start = at-control-size .before .before in
-    let s = start in (s .pre .one, s .pre .two, omega (arith, at-control-size .control-size .ensures .0))
+    (start .pre .one, start .pre .two, omega (arith, at-control-size .control-size .ensures .0))
 
 returns-6 : tie.Need-returns-6
 returns-6 c =

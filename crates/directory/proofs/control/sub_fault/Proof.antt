@@ -1,3 +1,5 @@
+-- The control field part by part: its length (4), the marker (3), name, zero byte and start page of the directory above (each 4).
+-- Where all are right, what is behind the field must be whole entries (8).
 use native.Mathlib.Omega.{arith}
 use Rattle.geometry.specs.Geometry.{controlSize}
 use Rattle.directory.proofs.ControlLaws.{sub-short, sub-marker, sub-name, sub-zero, sub-start, sub-whole}

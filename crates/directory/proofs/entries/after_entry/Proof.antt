@@ -161,7 +161,8 @@ module _ {M : Type 1} (𝓤 : URA M) (H : Heap 𝓤) (A : Atoms 𝓤) (W : Given
         land ! (from ! (stop !)) (init ! 5 refl (laws.lawful (reader.the-type local) (reader′.the-laws local) 𝓤 H A W .typed s _ are′ .0)) $
         rewrite ! 5 (λ (w : Val). ‵ (fat fullShare (reader′.mir erased) l₄ 0 w)) (ap only (laws.tells (reader.the-type local) (reader′.the-laws local) s _ are′)) refl $ drop ! $
         -- [the token; what the page owns; _5; ..; _4; ..; _3; ..; _2; ..; _1; ..; room for _0; ..]
-        assigns ! (of-opd ! (load ! (from ! (fld ! refl (stop !))) (look-in ! 4 (sub ! 1 refl (whole !))))) (from ! (stop !)) (init ! 12 refl (tt, record { fits = laws.owed (reader.the-type local) (reader′.the-laws local) s _ are′ .1 .0 .1 })) $
+        assigns ! (of-opd ! (load ! (from ! (fld ! refl (stop !))) (look-in ! 4 (sub ! 1 refl (whole !))))) (from ! (stop !))
+        (init ! 12 refl (tt, record { fits = laws.owed (reader.the-type local) (reader′.the-laws local) s _ are′ .1 .0 .1 })) $
         returns ! (look ! 12 refl) $ forget ! 2 refl $ forget ! 4 refl $ forget ! 6 refl $ forget ! 8 refl $ forget ! 10 refl $ forget ! 12 refl $
         move ! (12 ∷ 13 ∷ []) $ free1 ! $ move ! (10 ∷ 11 ∷ []) $ free1 ! $ move ! (8 ∷ 9 ∷ []) $ free1 ! $ move ! (6 ∷ 7 ∷ []) $ free1 ! $ move ! (4 ∷ 5 ∷ []) $ free1 ! $ move ! (2 ∷ 3 ∷ []) $ free1 ! $ free0 ! $
         by ! (exits (s .at) (ended r s m t) (laws.owed (reader.the-type local) (reader′.the-laws local) s _ are′ .1 .0 .1))))))))))))))))

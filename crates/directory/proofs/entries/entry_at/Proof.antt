@@ -1,3 +1,4 @@
+-- Name, extension, start page and page count are read where they stand one behind the other; the two page numbers have n bytes, n at most 2, so they are below 65536.
 use mathlib.Core.Path.{refl}
 use Rattle.directory.proofs.EntryLaws.{narrow, entry-is}
 use borrow.Author.Needs.{needs}

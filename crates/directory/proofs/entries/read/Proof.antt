@@ -144,7 +144,8 @@ module _ {M : Type 1} (𝓤 : URA M) (H : Heap 𝓤) (A : Atoms 𝓤) (W : Given
         assigns ! (of-opd ! (load ! (from ! (fld ! refl (stop !))) (look-in ! 6 (sub ! 0 refl (whole !))))) (from ! (stop !)) (init ! 2 refl (tt, typed .1 .0)) $
         assigns ! (of-opd ! (load ! (from ! (fld ! refl (stop !))) (look-in ! 6 (sub ! 1 refl (whole !))))) (from ! (stop !)) (init ! 0 refl (tt, typed .1 .1 .0)) $
         move ! (10 ∷ []) $ use1 W (raw (Called 𝓤 H A mem run .pre passed) ⊛ ‵ Owned) (apart (typed .1 .1 .0 .fits) inside) $ split ! $
-        calls-at ! fm (Called 𝓤 H A mem run) known passed (and-then ! (load ! (from ! (stop !)) (look ! 4 refl)) (and-then ! (load ! (from ! (stop !)) (look ! 2 refl)) (and-then ! (load ! (from ! (stop !)) (look ! 6 refl)) (no-more !)))) (λ u.
+        calls-at ! fm (Called 𝓤 H A mem run) known passed
+        (and-then ! (load ! (from ! (stop !)) (look ! 4 refl)) (and-then ! (load ! (from ! (stop !)) (look ! 2 refl)) (and-then ! (load ! (from ! (stop !)) (look ! 6 refl)) (no-more !)))) (λ u.
         use1 W (later (some (λ (e : Entry). ((‵ (flft κ q) ⊛ ‵ ftrue) ⊛ ‵ (entry.the-row .own e (u ∷ []))) ⊛ raw (ensured 𝓤 H A callee.ended (callee.clauses 𝓤 H A mem run) (κ, tt) (d .page, (d .at, (n, tt))) tt e)))) (id⊢ 𝓤 _) $
         await ! tt $ pick ! (λ e. split ! $ move ! (1 ∷ []) $ use1 W (raw (fact 𝓤 (Tells d n e))) (told e) $ heard ! (Tells d n e) (λ t. split ! $ move ! (1 ∷ []) $
         -- [the entry; the token; what the reader owns; _4; ..; _3; ..; _2; ..; _1; ..; room for _0; ..]

@@ -1,3 +1,4 @@
+-- Bytes are whole entries exactly when an entry's size divides their number: no remainder is 0, any other is 8.
 use Rattle.directory.proofs.EntryLaws.{are-whole, not-whole}
 use borrow.Author.Needs.{needs}
 use Rattle.directory.proofs.entries.whole_fault.Statement.{statement}

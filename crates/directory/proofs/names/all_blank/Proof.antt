@@ -1,3 +1,4 @@
+-- The invariant: the bytes passed were blanks, so that the i bytes left are blanks exactly when all are. The measure: i.
 use mathlib.Core.Path.{_≡_, refl, sym, _∙_}
 use Rattle.geometry.specs.Number.{numberBytes}
 use Rattle.rules.specs.Names.{blanks}

@@ -1,4 +1,4 @@
--- What is still to be searched decides.
+-- The invariant: none of the first i signs is the byte, so that the others decide. The measure: 13 - i, the signs left.
 use mathlib.Core.Path.{_≡_, refl, sym, _∙_}
 use Prim.Native.Nat.{_-_, _≤_}
 use lib.ListN.{drop}

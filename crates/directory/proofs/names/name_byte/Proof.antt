@@ -1,3 +1,4 @@
+-- Five ranges of a byte: below the digits, digits, between, capitals, above. Digits and capitals are name bytes; in the other three a sign alone is one.
 use mathlib.Core.Path.{_∙_}
 use Rattle.directory.proofs.NameLaws.{below-digits, digit, between, capital, above-capitals}
 use borrow.Author.Needs.{needs}

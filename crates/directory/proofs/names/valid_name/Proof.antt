@@ -1,3 +1,4 @@
+-- The lowest byte must be a name byte, and the three bytes above it are the tail: the number divided by 256.
 use Rattle.directory.proofs.NameLaws.{name-begins, name-not}
 use borrow.Author.Needs.{needs}
 use Rattle.directory.proofs.names.valid_name.Statement.{statement}

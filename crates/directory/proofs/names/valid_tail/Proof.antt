@@ -1,3 +1,5 @@
+-- The invariant: the bytes passed were name bytes, so that the i bytes left are a tail exactly when all are. The measure: i.
+-- From the first byte that is no name byte on, all must be blanks.
 use mathlib.Core.Path.{_≡_, refl, sym, _∙_}
 use Rattle.geometry.specs.Number.{numberBytes}
 use Rattle.rules.specs.Names.{nameTail}

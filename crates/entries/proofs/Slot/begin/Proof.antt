@@ -1,3 +1,4 @@
+-- A page that holds a right packet is passed, and its data behind the bytes before them hold so many entries.
 use mathlib.Core.Path.{sym, _∙_}
 use Rattle.entries.proofs.SlotLaws.{open-is, none-left}
 use borrow.Author.Needs.{needs}

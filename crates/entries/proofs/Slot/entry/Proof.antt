@@ -1,20 +1,24 @@
+-- The bytes of the entry lie in its page, and are those of the tokens' first entry.
 use mathlib.Core.Path.{_∙_}
 use Rattle.entries.proofs.SlotLaws.{entry-inside, entry-from, entry-reads}
+use Rattle.entries.proofs.TokenLaws.{entry-at}
 use borrow.Author.Needs.{needs}
 use Rattle.entries.proofs.Slot.entry.Statement.{statement}
 use Rattle.entries.proofs.Slot.entry.Tie as tie
 
 mul-at : tie.Need-mul-at
 mul-at c =
-    let s = c .before .before .before .before .pre in
-    let i = entry-inside _ _ _ (c .before .entry-size .ensures .0) (s .1 .0) (s .1 .1) in
+    let start = c .before .before .before .before in
+    let s = start .pre in
+    let i = entry-inside _ _ _ (c .before .entry-size .ensures .0) (s .1 .0 .ahead .at-slot .fits) (s .1 .1) in
     let k = s .0 .valid .most in
     search needs
 
 add-at-2 : tie.Need-add-at-2
 add-at-2 c =
-    let s = c .before .before .before .before .pre in
-    let i = entry-inside _ _ _ (c .before .entry-size .ensures .0) (s .1 .0) (s .1 .1) in
+    let start = c .before .before .before .before in
+    let s = start .pre in
+    let i = entry-inside _ _ _ (c .before .entry-size .ensures .0) (s .1 .0 .ahead .at-slot .fits) (s .1 .1) in
     let k = s .0 .valid .most in
     search needs
 
@@ -23,14 +27,15 @@ read-entry-requires c κs =
     let at-entry-size = c .before .before in
     let start = at-entry-size .before .before .before in
     let s = start .pre in
-    (s .0 .valid .one, s .0 .valid .two, entry-reads _ _ _ _ _ (at-entry-size .entry-size .ensures .0) (c .page-of .ensures) (s .0) (s .1 .0) (s .1 .1))
+    (s .0 .valid .one, s .0 .valid .two, entry-reads _ _ _ _ _ (at-entry-size .entry-size .ensures .0) (c .page-of .ensures) (s .0) (s .1 .0 .ahead .at-slot .fits) (s .1 .1))
 
 returns : tie.Need-returns
 returns c =
     let at-page-of = c .before in
     let at-entry-size = at-page-of .before .before in
     let start = at-entry-size .before .before .before in
-    (c .read-entry .ensures .0 ∙ entry-from _ (start .args .self) _ _ _ (at-entry-size .entry-size .ensures .0) (at-page-of .page-of .ensures), c .read-entry .ensures .1, c .read-entry .ensures .2)
+    let s = start .pre in
+    entry-at (s .0) _ (s .1 .1) _ (c .read-entry .ensures .0 ∙ entry-from _ (start .args .self) _ _ _ (at-entry-size .entry-size .ensures .0) (at-page-of .page-of .ensures))
 
 pub entry-spec : {M : Type 1} → statement M
 entry-spec =

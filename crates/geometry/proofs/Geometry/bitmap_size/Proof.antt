@@ -1,3 +1,4 @@
+-- A bit a page, eight to a byte, rounded up: the code's sum is the definition's.
 use mathlib.Core.Path.{refl}
 use Rattle.geometry.specs.Geometry.{bitmapSize}
 use borrow.Author.Needs.{needs}

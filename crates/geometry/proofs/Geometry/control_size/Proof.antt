@@ -1,4 +1,4 @@
--- Straight-line arithmetic against the definition.
+-- Six bytes and a page number of one or two: 7 or 8.
 use native.Mathlib.Omega.{arith}
 use Rattle.geometry.specs.Geometry.{controlSize}
 use borrow.Author.Needs.{needs}

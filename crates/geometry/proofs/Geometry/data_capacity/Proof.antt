@@ -1,4 +1,4 @@
--- Straight-line arithmetic against the definition.
+-- A packet has three bytes besides data and pointer; P is at least 32, so the difference is exact.
 use mathlib.Core.Path.{refl}
 use native.Mathlib.Omega.{arith}
 use Rattle.geometry.specs.Geometry.{dataCapacity}

@@ -1,4 +1,4 @@
--- Straight-line arithmetic against the definition.
+-- Five bytes of name and extension, and two page numbers of one or two bytes each: 7 or 9.
 use native.Mathlib.Omega.{arith}
 use Rattle.geometry.specs.Geometry.{entrySize}
 use borrow.Author.Needs.{needs}

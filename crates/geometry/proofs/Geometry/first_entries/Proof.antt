@@ -1,3 +1,4 @@
+-- A packet's data has at least 27 bytes, more than a control field, so the difference is the room for entries; it is divided by an entry's size.
 use native.Mathlib.Omega.{arith}
 use Rattle.geometry.specs.Geometry.{dataCapacity}
 use Rattle.geometry.proofs.Shapes.{first-is}

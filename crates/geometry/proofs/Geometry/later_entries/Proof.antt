@@ -1,3 +1,4 @@
+-- A continuation page has no control field: all its data capacity is divided by an entry's size.
 use Rattle.geometry.proofs.Shapes.{later-is}
 use borrow.Author.Needs.{needs}
 use Rattle.geometry.proofs.Geometry.later_entries.Statement.{statement}

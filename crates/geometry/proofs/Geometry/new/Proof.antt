@@ -1,3 +1,4 @@
+-- Page length below 32 or above 256, page count below 2 or above 65535: each is invalid for any lengths. Within these bounds the two lengths decide.
 use Rattle.geometry.proofs.Shapes.{small-page, large-page, few-pages, many-pages}
 use borrow.Author.Needs.{needs}
 use Rattle.geometry.proofs.Geometry.new.Statement.{statement}

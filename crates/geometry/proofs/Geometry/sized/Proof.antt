@@ -1,3 +1,5 @@
+-- Within its bounds P times N is no more than 256 times 65535, so the product is exact. The image must have that length and the table at least N;
+-- page numbers take one byte up to 256 pages, else two.
 use Prim.Native.Nat.{_*_, _≤_}
 use native.Mathlib.Nat.{mul-le-mul}
 use native.Mathlib.Omega.{arith}

@@ -1,0 +1,65 @@
+-- What the exported calls answer: a call of the rules, its answer as plain numbers and its owner table as bytes.
+use mathlib.Core.Bool.{Bool, not}
+use mathlib.Core.List.{List}
+use Prim.Native.Nat.{ℕ}
+use lib.Dec.{eqb}
+use Rattle.rules.specs.declared.Totals.{Totals}
+use Rattle.rules.specs.declared.Line.{Line}
+use Rattle.rules.specs.Result.{Res, ok, err}
+use Rattle.rules.specs.Calls.{checkCall, listCall, readCall, formatCall, putCall, deleteCall}
+use Rattle.owners.specs.TableBytes.{numbersOf, bytesWith}
+use Rattle.answers.specs.declared.OwfsTotals.{OwfsTotals}
+use Rattle.answers.specs.declared.OwfsEntry.{OwfsEntry}
+use Rattle.answers.specs.declared.OwfsLength.{OwfsLength}
+use Rattle.answers.specs.declared.OwfsAnswer.{OwfsAnswer}
+
+-- 0 and what is told, or the number and page of a refusal; every other field is 0
+abbrev pub totalsFor : Res Totals → OwfsTotals
+totalsFor (ok t) = record { number = 0; page = 0; used = t .used; files = t .files; directories = t .directories }
+totalsFor (err n p) = record { number = n; page = p; used = 0; files = 0; directories = 0 }
+
+abbrev pub entryFor : Res Line → OwfsEntry
+entryFor (ok x) = record {
+  number = 0;
+  page = 0;
+  level = x .level;
+  name = x .name;
+  extension = x .extension;
+  attribute = x .attribute;
+  start = x .start;
+  pages = x .pages;
+  length = x .length;
+}
+entryFor (err n p) = record { number = n; page = p; level = 0; name = 0; extension = 0; attribute = 0; start = 0; pages = 0; length = 0 }
+
+abbrev pub lengthFor : Res ℕ → OwfsLength
+lengthFor (ok n) = record { number = 0; page = 0; length = n }
+lengthFor (err n p) = record { number = n; page = p; length = 0 }
+
+abbrev pub answerFor : Res (Unit {0}) → OwfsAnswer
+answerFor (ok u) = record { number = 0; page = 0 }
+answerFor (err n p) = record { number = n; page = p }
+
+-- any number but 0 asks for a local bitmap
+abbrev pub asksLocal : ℕ → Bool
+asksLocal n = not (eqb n 0)
+
+-- a call over an owner table of bytes: the answer, what is read, and every byte of the table
+module _ (P N : ℕ) (image owners : List ℕ) where
+  unfoldable pub checkAnswer : OwfsTotals × List ℕ
+  checkAnswer = let r = checkCall P N image (numbersOf owners) in (totalsFor (r .0), bytesWith (r .1) owners)
+
+  unfoldable pub listAnswer : ℕ → OwfsEntry × List ℕ
+  listAnswer k = let r = listCall P N image (numbersOf owners) k in (entryFor (r .0), bytesWith (r .1) owners)
+
+  unfoldable pub readAnswer : List ℕ → List ℕ → OwfsLength × List ℕ × List ℕ
+  readAnswer path out = let r = readCall P N image (numbersOf owners) path out in (lengthFor (r .0), r .1, bytesWith (r .2) owners)
+
+  unfoldable pub formatAnswer : ℕ → OwfsAnswer × List ℕ × List ℕ
+  formatAnswer local = let r = formatCall P N image (numbersOf owners) (asksLocal local) in (answerFor (r .0), r .1, bytesWith (r .2) owners)
+
+  unfoldable pub putAnswer : List ℕ → List ℕ → OwfsAnswer × List ℕ × List ℕ
+  putAnswer path bytes = let r = putCall P N image (numbersOf owners) path bytes in (answerFor (r .0), r .1, bytesWith (r .2) owners)
+
+  unfoldable pub deleteAnswer : List ℕ → OwfsAnswer × List ℕ × List ℕ
+  deleteAnswer path = let r = deleteCall P N image (numbersOf owners) path in (answerFor (r .0), r .1, bytesWith (r .2) owners)

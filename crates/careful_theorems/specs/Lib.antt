@@ -1,0 +1,11 @@
+pub mod HaltLaws
+pub mod MapStops
+pub mod MarkLaws
+pub mod MendLaws
+pub mod VisibleWrite
+pub mod Stops
+pub mod MadeStops
+pub mod Halts
+pub mod CarefulDeletes
+pub mod CarefulPuts
+pub mod CarefulCalls

@@ -1,0 +1,1 @@
+// The careful edits and the mend: the theorems are in specs/.

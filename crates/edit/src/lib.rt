@@ -1,0 +1,158 @@
+// The steps of an edit of one directory: free pages found; then, within a budget of page writes, a new chain's pages, the directory's pages and the bitmap's pages.
+use entries::Slot;
+use geometry::Geometry;
+use geometry::WIDE_ENTRY_BYTES;
+use owners::Room;
+use packet::Budget;
+use rules::Entry;
+use writes::Change;
+ghost use mathlib.Core.Path.{_≡_};
+ghost use Prim.Native.Nat.{_+_, _≤_, _<_};
+ghost use lib.ListN.{length};
+ghost use Rattle.geometry.specs.Geometry.{Fit};
+ghost use Rattle.packet.specs.Budgets.{Open};
+ghost use Rattle.edit.specs.Pages.{Takes};
+ghost use Rattle.edit.specs.Plans.{Plan, Carries, Removal, RemovesEntry, Putting, PutsFile};
+
+// The pages that an edit takes, all of them free: one that joins the directory, 0 if none does; the start page of a new chain; and a bound below which they lie.
+pub struct Pages {
+    pub joins: usize,
+    pub start: usize,
+    pub below: usize,
+}
+
+// Pages found, or too few are free.
+pub enum Taken {
+    At(Pages),
+    Full,
+}
+
+// What an edit within a budget answers: what is left of the budget, or the number of a refusal of document 01 and its page.
+pub enum Outcome {
+    Done(Budget),
+    Refused(u8, usize),
+}
+
+// A file to be put: name and extension, and where its entry goes. On the page of `slot` it replaces the entries `first` to `last`, `last` not among them;
+// or, if `extra` is 1, a page joins the directory after that page with the entry.
+pub struct NewFile {
+    pub name: u32,
+    pub extension: u8,
+    pub slot: Slot,
+    pub first: usize,
+    pub last: usize,
+    pub extra: usize,
+}
+
+// Finds the lowest free pages for a page that joins, if `extra` is 1, and then for a chain of so many pages.
+pub fn find_pages(table: &[u16], extra: usize, pages: usize) -> Taken
+    requires { ⌜ (extra ≤ 1) × (1 ≤ pages) × (extra + pages ≤ 18446744073709551615) ⌝ }
+    ensures { λ r. ⌜ Takes (now (table .entry)) extra pages r ⌝ }
+{
+    match owners::find_room(table, extra + pages) {
+        Room::Full => Taken::Full,
+        Room::Below(below) => {
+            let first = owners::next_free(table, 0);
+            if extra == 0 {
+                return Taken::At(Pages {
+                    joins: 0,
+                    start: first,
+                    below,
+                });
+            }
+            Taken::At(Pages {
+                joins: first,
+                start: owners::next_free(table, first + 1),
+                below,
+            })
+        }
+    }
+}
+
+// Stores bytes in free pages from the entry's start page on, then writes the entry in its directory's pages.
+pub fn put_chain(
+    image: &mut [u8],
+    g: Geometry,
+    change: Change,
+    e: Entry,
+    bytes: &[u8],
+    table: &[u16],
+    budget: Budget,
+) -> Budget
+    requires { ⌜ Fit g (now image) ⌝ }
+    requires { ⌜ (length (now table) ≡ g .pages) × Plan g (now image) (now table) (now bytes) change e × Open budget ⌝ }
+    ensures { λ r. ⌜ Carries g (now (image .entry)) (now (table .entry)) (now (bytes .entry)) change e budget (now (image .exit)) r ⌝ }
+{
+    let stored = writes::store_chain(image, g, table, e.start, bytes, budget);
+    if stored.stopped {
+        return stored;
+    }
+    let width = g.entry_size();
+    let mut entry = [0u8; WIDE_ENTRY_BYTES];
+    directory::entries::put_entry(&mut entry[..width], e, g.width);
+    writes::change_pages(image, g, change, &entry[..width], stored)
+}
+
+// Puts a file: its chain in the lowest free pages, its entry, the bitmap. The table has the pages that must not be taken. 17.
+pub fn put_file(
+    image: &mut [u8],
+    g: Geometry,
+    file: NewFile,
+    bytes: &[u8],
+    table: &[u16],
+    budget: Budget,
+) -> Outcome
+    requires { ⌜ Fit g (now image) ⌝ }
+    requires { ⌜ (length (now table) ≡ g .pages) × Putting g (now image) (now table) (now bytes) file × Open budget ⌝ }
+    ensures { λ r. ⌜ PutsFile g (now (image .entry)) (now (table .entry)) (now (bytes .entry)) file budget (now (image .exit)) r ⌝ }
+{
+    let pages = writes::pages_for(bytes.len(), g.data_capacity());
+    match find_pages(table, file.extra, pages) {
+        Taken::Full => Outcome::Refused(17, 0),
+        Taken::At(taken) => {
+            let slot = file.slot;
+            let change = Change {
+                slot,
+                first: file.first,
+                last: file.last,
+                joins: taken.joins,
+            };
+            let e = Entry {
+                name: file.name,
+                extension: file.extension,
+                start: taken.start,
+                pages,
+            };
+            let changed = put_chain(image, g, change, e, bytes, table, budget);
+            if changed.stopped {
+                return Outcome::Done(changed);
+            }
+            Outcome::Done(marks::write_map(image, g, table, taken.below, changed))
+        }
+    }
+}
+
+// Takes an entry out of its directory: its page is written without it, then the bitmap. The table has the pages that stay in use.
+pub fn remove_entry(
+    image: &mut [u8],
+    g: Geometry,
+    slot: Slot,
+    table: &[u16],
+    budget: Budget,
+) -> Budget
+    requires { ⌜ Fit g (now image) ⌝ }
+    requires { ⌜ Removal g (now image) (now table) slot × (slot .at < slot .count) × Open budget ⌝ }
+    ensures { λ r. ⌜ RemovesEntry g (now (image .entry)) (now (table .entry)) slot budget (now (image .exit)) r ⌝ }
+{
+    let change = Change {
+        slot,
+        first: slot.at,
+        last: slot.at + 1,
+        joins: 0,
+    };
+    let changed = writes::change_pages(image, g, change, b"", budget);
+    if changed.stopped {
+        return changed;
+    }
+    marks::write_map(image, g, table, 0, changed)
+}

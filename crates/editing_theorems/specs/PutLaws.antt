@@ -1,0 +1,254 @@
+-- Put: the image after it is accepted, the path reads the bytes, every other path shows what it showed; the pages in use, counted.
+use mathlib.Core.Path.{_≡_, refl, ap, sym, _∙_}
+use mathlib.Core.Bool.{true}
+use mathlib.Core.List.{List, [], _++_}
+use Prim.Native.Nat.{ℕ, _+_, _%_, _≤_}
+use native.Mathlib.Omega.{arith}
+use lib.Dec.{leb}
+use lib.ListN.{length, take, drop, getD, length-append, length-drop}
+use lib.Seq.{length-take-le}
+use borrow.Author.Tests.{le-leb}
+use Rattle.geometry.specs.declared.Geometry.{Geometry}
+use Rattle.geometry.specs.Geometry.{Valid, dataCapacity}
+use Rattle.geometry.specs.Number.{Bytes}
+use Rattle.rules.specs.Result.{ok, andAfter, refuse-unless}
+use Rattle.rules.specs.PageSets.{count, range, Within, freePages}
+use Rattle.rules.specs.PageSetLaws.{count-append, count-split, pigeon, free-law}
+use Rattle.rules.specs.Chain.{Link, pages, content, linked, chainOf, pagesFor}
+use Rattle.rules.specs.ChainLaws.{length-pages, pages-chain-of, length-chain-of, content-chain-of, pages-enough}
+use Rattle.rules.specs.Names.{fileNumber, attribute}
+use Rattle.rules.specs.Tree.{Label, Items, ownPages, innerPages, allPages, mapPages, Image, used}
+use Rattle.rules.specs.Control.{Parent}
+use Rattle.rules.specs.Bitmap.{bitmapOf}
+use Rattle.rules.specs.WellFormed.{Named, WellFormed}
+use Rattle.rules.specs.Paths.{Path, pathOf, fileKey, fileLabel, aFile, find, Place, rootPlace, directoryAt, changeAt}
+use Rattle.rules.specs.Writes.{Edit, edited, editWrites}
+use Rattle.rules.specs.Put.{replace, keptPages, putEdit, plainEdit, extraPages, itemsAfter}
+use Rattle.rules.specs.EditLaws.{replace-own}
+use Rattle.rules.specs.Candidate.{chainPages}
+use Rattle.rules.specs.Demand2.{EditDone}
+use Rattle.reading_theorems.specs.Directory.{all-split}
+use Rattle.editing_theorems.specs.Capacity.{capacity-least}
+use Rattle.editing_theorems.specs.AfterWrites.{WritesFit}
+use Rattle.editing_theorems.specs.NewChains.{chain-of-fits}
+use Rattle.editing_theorems.specs.Contexts.{Context, filledAll, aroundAll, contextPath, levelsAt, all-filled-all, Located, locate, used-at}
+use Rattle.editing_theorems.specs.ContextLaws.{Shaped, shaped-changed}
+use Rattle.editing_theorems.specs.EditedImage.{DirectoryOf, directory-of, OneEdit, place-shaped, tree-edited, used-edited, edit-done}
+use Rattle.editing_theorems.specs.PathLaws.{FileKey, no-below}
+use Rattle.editing_theorems.specs.PathChanges.{PathsChanged, paths-changed}
+use Rattle.editing_theorems.specs.FormedPaths.{Formed, formed}
+use Rattle.editing_theorems.specs.PutDirectory.{replaced-exact, extra-one, PutIn, put-in, take-first}
+
+-- two lists that count every number alike are of one length
+pub same-length : (xs ys : List ℕ) → ((x : ℕ) → count x xs ≡ count x ys) → length xs ≡ length ys
+same-length xs ys h = omega (arith, pigeon xs ys (λ x. omega (arith, h x)), pigeon ys xs (λ x. omega (arith, h x)))
+
+-- a put of bytes at a path into an accepted image, that nothing but room could refuse
+pub record Asked (g : Geometry) (image path bytes : List ℕ) : Type 0 where
+  pub tree : Image
+  pub well : WellFormed g image tree
+  pub imageBytes : Bytes image
+  pub pathBytes : Bytes path
+  pub areBytes : Bytes bytes
+  pub to : Path
+  pub formed : pathOf path ≡ ok to
+  pub place : Place
+  pub there : directoryAt (to .directories) (rootPlace (tree .tree)) ≡ ok place
+  pub writable : (l : Label) (ls : List Link) → find (fileKey to) (place .items) ≡ aFile l ls → attribute (l .extension) ≡ 0
+
+file-number : (x : ℕ) → x ≤ 99 → fileNumber x ≡ true
+unfolding fileNumber
+file-number x h = le-leb (x % 128) 99 (omega arith)
+
+module _ (g : Geometry) (image path bytes : List ℕ) (a : Asked g image path bytes) where
+  abbrev i : Image
+  i = a .tree
+
+  abbrev valid : Valid g
+  valid = a .well .fits .valid
+
+  abbrev d : Items
+  d = a .place .items
+
+  abbrev pub label : Label
+  label = fileLabel (a .to)
+
+  -- what stays in use, the free pages rising, the pages that the directory and the file take
+  abbrev pub kept : List ℕ
+  kept = keptPages (a .to) (a .tree)
+
+  abbrev pub free : List ℕ
+  free = freePages kept (g .pages)
+
+  abbrev pub extra : ℕ
+  extra = extraPages g label (a .place .items)
+
+  abbrev pub wanted : ℕ
+  wanted = pagesFor (dataCapacity g) (length bytes)
+
+  pub located : Located (a .to .directories) (rootPlace (a .tree .tree)) (a .place)
+  located = locate (a .to .directories) (rootPlace (a .tree .tree)) (a .place) (a .there)
+
+  abbrev pub cs : List Context
+  cs = located .contexts
+
+  well-path : Formed path (a .to)
+  well-path = formed path (a .to) (a .formed)
+
+  pub key-file : FileKey (fileKey (a .to))
+  key-file = omega (arith, well-path .extension)
+
+  pub root-shaped : Shaped 8 (filledAll cs (a .place .items))
+  root-shaped = rw (located .whole) (record { isDirectory = a .well .holds .isDirectory; names = a .well .holds .names; entries = a .well .holds .entries })
+
+  -- the levels left in the directory, and how it is known to those below it
+  abbrev pub levels : ℕ
+  levels = levelsAt cs 8
+
+  abbrev pub here : Parent
+  here = a .place .here
+
+  abbrev pub directory : DirectoryOf g image (bitmapOf g (used (a .tree)) (a .tree .map))
+  directory = directory-of g image (a .tree) (a .well) (a .imageBytes) (a .to .directories) (a .place) located
+
+  pub here-shaped : Shaped levels (a .place .items)
+  here-shaped = place-shaped directory
+
+  -- ---- pages
+  pub used-is : (x : ℕ) → count x (used (a .tree)) ≡ count x (aroundAll cs) + (count x (ownPages (a .place .items)) + count x (innerPages (a .place .items))) + count x (mapPages (a .tree .map))
+  used-is x = used-at x (a .to .directories) (a .tree) (a .place) located
+
+  pub kept-is : (x : ℕ) → count x kept ≡ count x (aroundAll cs) + (count x (ownPages (a .place .items)) + count x (innerPages (replace (fileKey (a .to)) [] (a .place .items)))) + count x (mapPages (a .tree .map))
+  unfolding keptPages
+  kept-is x =
+      let k = fileKey (a .to) in
+      let r = replace k [] d in
+      omega (
+        arith,
+        count-append x (allPages (changeAt (a .to .directories) (replace k []) (i .tree))) (mapPages (i .map)),
+        ap (λ (t : Items). count x (allPages t)) (located .change (replace k [])),
+        all-filled-all x cs r,
+        all-split x r,
+        ap (count x) (replace-own k [] d),
+      )
+
+  -- the replaced chain is free, all else in use is kept
+  pub kept-old : (x : ℕ) → count x kept + count x (chainPages (find (fileKey (a .to)) (a .place .items))) ≡ count x (used (a .tree))
+  kept-old x = omega (arith, kept-is x, used-is x, replaced-exact levels x (fileKey (a .to)) d (here-shaped .entries) key-file)
+
+  pub kept-within : Within (g .pages) kept
+  kept-within x = omega (arith, kept-old x, a .well .holds .apart x)
+
+  pub free-is : (x : ℕ) → count x free + count x kept ≡ count x (range (g .pages))
+  free-is x = free-law x kept (g .pages) kept-within
+
+  pub free-clear : (x : ℕ) → count x free + count x kept ≤ count x (range (g .pages))
+  free-clear x = omega (arith, free-is x)
+
+  -- ---- a put over any free pages, `spare`: the file's chain, the directory after, the edit
+  module _ (spare : List ℕ) where
+    abbrev pub chain : List Link
+    chain = chainOf (dataCapacity g) (take wanted (drop extra spare)) bytes
+
+    abbrev pub after : Items
+    after = itemsAfter g label (getD spare 0 0) chain (a .place .items)
+
+    abbrev pub theEdit : Edit
+    theEdit = record { site = a .place .site; before = a .place .items; after = after; chain = chain }
+
+    -- the rule's edit is this one
+    pub edit-is : putEdit g spare (a .to) bytes (a .place) ≡ andAfter (refuse-unless (leb (extra + wanted) (length spare)) 17 0) (ok theEdit)
+    unfolding putEdit extraPages itemsAfter
+    edit-is = refl
+
+  -- they are clear of what is kept, and there is room
+  module _ (spare : List ℕ) (clear : (x : ℕ) → count x spare + count x kept ≤ count x (range (g .pages))) (room : extra + wanted ≤ length spare) where
+    enough : wanted ≤ length (drop extra spare)
+    enough = simp length-drop (omega arith)
+
+    pub length-chain : length (chain spare) ≡ wanted
+    length-chain = length-chain-of (dataCapacity g) (take wanted (drop extra spare)) bytes ∙ length-take-le wanted (drop extra spare) enough
+
+    pages-chain : pages (chain spare) ≡ take wanted (drop extra spare)
+    pages-chain = pages-chain-of (dataCapacity g) (take wanted (drop extra spare)) bytes
+
+    -- the file reads the bytes
+    pub chain-reads : content (chain spare) ≡ bytes
+    chain-reads = content-chain-of (dataCapacity g) (take wanted (drop extra spare)) bytes
+        (rw (length-take-le wanted (drop extra spare) enough) (pages-enough (dataCapacity g) (length bytes) (omega (arith, capacity-least g valid))))
+
+    -- the pages taken are free ones
+    pub taken : (x : ℕ) → count x (take extra spare) + count x (pages (chain spare)) ≤ count x spare
+    taken x = omega (arith, ap (count x) pages-chain, count-split x extra spare, count-split x wanted (drop extra spare))
+
+    pub chain-fits : WritesFit g (linked (chain spare))
+    chain-fits = chain-of-fits g valid (take wanted (drop extra spare)) bytes (λ x. omega (arith, taken x, ap (count x) pages-chain, clear x)) (a .areBytes)
+
+    named : Named label
+    named = record { four = well-path .four (a .pathBytes); valid = well-path .valid; byte = omega (arith, well-path .extension) }
+
+    pub into : PutIn g levels here label (getD spare 0 0) (chain spare) extra (a .place .items) (after spare)
+    into = put-in g valid label named (file-number (a .to .extension) (well-path .extension)) (omega (arith, well-path .extension)) key-file (getD spare 0 0) (chain spare)
+        (omega (arith, length-chain)) levels here d here-shaped (a .writable)
+
+    pub own-then : (x : ℕ) → count x (ownPages (after spare)) ≡ count x (ownPages (a .place .items)) + count x (take extra spare)
+    own-then x = omega (arith, into .own-is x, take-first x extra spare (extra-one g label d) (omega arith))
+
+    -- the pages in use after the put
+    pub pages-then : (x : ℕ) → count x (allPages (changeAt (a .to .directories) (λ _. after spare) (a .tree .tree)) ++ mapPages (a .tree .map)) ≡ count x kept + count x (take extra spare) + count x (pages (chain spare))
+    pages-then x = rw (located .change (λ _. after spare)) (omega (
+      arith,
+      count-append x (allPages (filledAll cs (after spare))) (mapPages (i .map)),
+      all-filled-all x cs (after spare),
+      all-split x (after spare),
+      own-then x,
+      into .edit .inner x,
+      kept-is x,
+    ))
+
+    abbrev pub result : Image
+    result = edited g (a .to .directories) (theEdit spare) (a .tree)
+
+    abbrev pub one-edit : OneEdit directory
+    one-edit = record {
+      after = after spare;
+      chain = chain spare;
+      kept = innerPages (replace (fileKey (a .to)) [] (a .place .items));
+      edit = into .edit;
+      fits = chain-fits;
+      apart = λ x. omega (arith, pages-then x, taken x, clear x);
+    }
+
+    pub put-edited : EditDone g image (a .tree) result (editWrites g (bitmapOf g (used (a .tree)) (a .tree .map)) (theEdit spare) (a .tree) result) (plainEdit g (a .to .directories) (theEdit spare) (a .tree) image)
+    unfolding plainEdit
+    put-edited = edit-done one-edit
+
+    pub put-paths : PathsChanged g (contextPath cs) (fileKey (a .to)) (a .place .items) (after spare) (a .tree) result
+    put-paths = paths-changed g 8 cs d (after spare) (fileKey (a .to)) root-shaped (shaped-changed d (after spare) cs 8 (into .edit .shaped) root-shaped)
+        (no-below levels (fileKey (a .to)) d (here-shaped .entries) key-file) (no-below levels (fileKey (a .to)) (after spare) (into .edit .shaped here-shaped .entries) key-file) (into .elsewhere) i result
+        (sym (located .whole)) (tree-edited g (a .to .directories) (theEdit spare) i ∙ located .change (λ _. after spare))
+
+    -- pages in use then, and the chain replaced: as many as before, with those that the directory and the file take
+    pub put-total : length (used result) + length (chainPages (find (fileKey (a .to)) (a .place .items))) ≡ length (used (a .tree)) + extra + wanted
+    put-total =
+        let old = chainPages (find (fileKey (a .to)) d) in
+        let e = used-edited g (a .to .directories) (theEdit spare) i in
+        let s = same-length (used result ++ old) (used i ++ (take extra spare ++ pages (chain spare))) (λ x. omega (
+          arith,
+          count-append x (used result) old,
+          ap (count x) e,
+          pages-then x,
+          kept-old x,
+          count-append x (used i) (take extra spare ++ pages (chain spare)),
+          count-append x (take extra spare) (pages (chain spare)),
+        )) in
+        omega (
+          arith,
+          s,
+          length-append (used result) old,
+          length-append (used i) (take extra spare ++ pages (chain spare)),
+          length-append (take extra spare) (pages (chain spare)),
+          length-take-le extra spare (omega arith),
+          length-pages (chain spare),
+          length-chain,
+        )

@@ -1,0 +1,12 @@
+-- The answer of a path as the rule has it: document 01's number. The directory names are those that its bytes begin with.
+use mathlib.Core.List.{List}
+use Prim.Native.Nat.{ℕ}
+use Rattle.rules.specs.Result.{Res, ok, err}
+use Rattle.rules.specs.Paths as paths
+use Rattle.rules.specs.Paths.{namesIn}
+use Rattle.lookup.specs.declared.path.Parsed.{Parsed}
+use Rattle.lookup.specs.declared.path.Parsed.the-variants.{Path, Malformed}
+
+abbrev pub parsedPath : List ℕ → Parsed → Res paths.Path
+parsedPath bytes (Path names name extension) = ok (record { directories = namesIn names bytes; name = name; extension = extension })
+parsedPath bytes Malformed = err 14 0

@@ -1,0 +1,3 @@
+-- Laws of the owner table, for this crate alone: loaded and stored number by number, searched page by page.
+mod ByteSteps
+mod Finding

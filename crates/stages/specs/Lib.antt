@@ -1,3 +1,0 @@
-pub mod OneEdit
-pub mod PageStage
-pub mod GrownStage
