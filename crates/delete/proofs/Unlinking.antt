@@ -28,7 +28,8 @@ use Rattle.chain.specs.Claims.{Releases}
 use Rattle.chain.specs.KnownChain.{KnownChain}
 use Rattle.entries.specs.declared.Slot.{Slot}
 use Rattle.edit.specs.Plans.{Removal, RemovesEntry}
-use Rattle.edit.specs.Steps.{whole-is}
+use Rattle.edit.specs.ExchangeLaws.{pointer-is}
+use Rattle.edit.specs.StepLaws.{whole-is}
 use Rattle.lookup.specs.Targets.{FileAt}
 use Rattle.volume.specs.Edits.{TableOf}
 use Rattle.delete.specs.Deletes.{CanDelete}
@@ -79,7 +80,7 @@ module _ {g : Geometry} {image table : List ℕ} (fit : Fit g image) {s : Slot} 
         first-is = at .at-is;
         last-is = ap (λ (n : ℕ). n + 1) (at .at-is);
         skip-is = at .skip-is;
-        next-is = at .next-is;
+        next-is = pointer-is (directory g image bytes tree well (q .directories) place there k) (s .page) (s .next .page) (at .before) (at .entries) (e ∷ []) (at .later) (at .shape) (at .next-is);
       };
       joins = λ z. absurd (z refl);
     };

@@ -18,7 +18,7 @@ use Rattle.writes.specs.declared.Change.{Change}
 use Rattle.writes.specs.Stores.{HasRoom, Stores}
 use Rattle.writes.specs.Changes.{CanChange, Changes}
 use Rattle.edit.specs.Plans.{Plan}
-use Rattle.edit.specs.Steps.{step₁, step₂, stopped₁, open₁}
+use Rattle.edit.specs.StepLaws.{step₁, step₂, stopped₁, open₁}
 use Rattle.edit.specs.ChangeLaws.{can-change, changed-is}
 
 module _ (g : Geometry) (image table bytes : List ℕ) (c : Change) (e : Entry) (budget : Budget) (o : Open budget) (P : Plan g image table bytes c e) where

@@ -1,4 +1,4 @@
--- A file put: the pages found, its entry, and that the three steps are the rule's list of page writes.
+-- A plain put of a file: the three steps are the rule's list of page writes.
 use mathlib.Core.Path.{_≡_, refl, ap, sym, _∙_, subst}
 use mathlib.Core.Bool.{Bool, true, false, false≢true}
 use mathlib.Core.Logic.{inl, inr}
@@ -25,7 +25,7 @@ use Rattle.rules.specs.Paths.{fileKey, Found, nothing, find}
 use Rattle.rules.specs.Tree.{Label, Items, end, page, file, dir, Token, newPage, entry, tokens, fileEntry, ownPages, allPages, keys, mapPages, used}
 use Rattle.rules.specs.TreeLaws.{entryTokens}
 use Rattle.rules.specs.Bitmap.{bitmapOf}
-use Rattle.rules.specs.Writes.{edited, editWrites}
+use Rattle.rules.specs.Writes.{Edit, edited, editWrites}
 use Rattle.rules.specs.Put.{keptPages, itemsAfter, putEdit}
 use Rattle.rules.specs.Candidate.{chainPages}
 use Rattle.owners.specs.Owned.{Represents, Marks}
@@ -37,7 +37,7 @@ use Rattle.editing_theorems.specs.PutDirectory.{extra-one, extra-old}
 use Rattle.editing_theorems.specs.PutLaws as laws
 use Rattle.editing_theorems.specs.PutLaws.{Asked}
 use Rattle.editing_theorems.specs.EditedImage as es
-use Rattle.editing_theorems.specs.EditedImage.{OneEdit}
+use Rattle.editing_theorems.specs.EditedImage.{DirectoryOf, OneEdit}
 use Rattle.marks.specs.MapPages.{HasRoot, WritesMap}
 use Rattle.marks.specs.RootLaws.{zero-taken}
 use Rattle.writes.specs.declared.Change.{Change}
@@ -48,231 +48,80 @@ use Rattle.edit.specs.declared.Taken.the-variants as took
 use Rattle.edit.specs.declared.Outcome.the-variants as outcome
 use Rattle.edit.specs.Pages.{PagesTaken, TakenIs, Takes}
 use Rattle.edit.specs.Entering.{Exchanges, Joins, Entering}
-use Rattle.edit.specs.Steps.{step₁, step₂, step₃, whole-is, stopped₁, stopped₂, open₂, fit-then, has-root, map-is}
-use Rattle.edit.specs.Plans.{Plan, Putting, Outcomes, putWrites}
+use Rattle.edit.specs.FilePlans.{full, T′, theEdit, edit-is, plan-of, carried-is, left-then}
+use Rattle.edit.specs.StepLaws.{step₁, step₂, step₃, whole-is, stopped₁, stopped₂, open₂, fit-then, has-root, map-is}
+use Rattle.edit.specs.Plans.{Plan, Putting, PlainPutting, Outcomes, putWrites}
 
--- ---- the pages of a directory by its tokens
-abbrev tokenPages : List Token → List ℕ
-tokenPages [] = []
-tokenPages (newPage p ∷ ts) = p ∷ tokenPages ts
-tokenPages (entry e ∷ ts) = tokenPages ts
+module _ (g : Geometry) (image table bytes : List ℕ) (sized : length table ≡ g .pages) (f : NewFile) (Q : PlainPutting g image table bytes f) where
+  abbrev P : Putting g image table bytes f
+  P = Q .putting
 
-own-tokens : (t : Items) → ownPages t ≡ tokenPages (tokens t)
-own-tokens end = refl
-own-tokens (page p t) = ap (λ (l : List ℕ). p ∷ l) (own-tokens t)
-own-tokens (file l ls t) = own-tokens t
-own-tokens (dir l d t) = own-tokens t
-
-page-there : (p : ℕ) (a ts : List Token) → 1 ≤ count p (tokenPages (a ++ (newPage p ∷ ts)))
-page-there p [] ts = omega (arith, hit-same p)
-page-there p (newPage q ∷ a) ts = omega (arith, page-there p a ts)
-page-there p (entry e ∷ a) ts = page-there p a ts
-
--- ---- the number of pages fits
-pub pages-fit : (g : Geometry) → Valid g → (size extra : ℕ) → size ≤ 18446744073709551615 → extra ≤ 1 → extra + pagesFor (dataCapacity g) size ≤ 18446744073709551615
-pages-fit g v size extra h k =
-    let c = dataCapacity g in
-    let q = (size - 1) / c in
-    omega (arith, capacity-least g v, div-mul-le-self (size - 1) c, mul-le-mul-right q (capacity-least g v))
-
-module _ (g : Geometry) (image table bytes : List ℕ) (sized : length table ≡ g .pages) (f : NewFile) (P : Putting g image table bytes f) where
-  abbrev a : Asked g image (P .path) bytes
-  a = P .asked
-
-  abbrev label : Label
-  label = laws.label g image (P .path) bytes (P .asked)
-
-  abbrev pub kept : List ℕ
-  kept = keptPages (P .asked .to) (P .asked .tree)
-
-  abbrev pub free : List ℕ
-  free = freePages (keptPages (P .asked .to) (P .asked .tree)) (g .pages)
-
-  abbrev pub wanted : ℕ
-  wanted = pagesFor (dataCapacity g) (length bytes)
+  abbrev a : Asked g image (Q .putting .path) bytes
+  a = Q .putting .asked
 
   abbrev writes : Res (List Write)
-  writes = putWrites g bytes (P .asked .tree) (record { to = P .asked .to; place = P .asked .place })
+  writes = putWrites g bytes (Q .putting .asked .tree) (record { to = Q .putting .asked .to; place = Q .putting .asked .place })
 
-  pub one-extra : f .extra ≤ 1
-  one-extra = omega (arith, P .at .extra-is, extra-one g label (a .place .items))
+  -- the rule's plan, with the free pages of the table
+  planned : (r : Res Edit) → putEdit g (freePages (P .inUse) (g .pages)) (a .to) bytes (a .place) ≡ r → putEdit g (freePages (keptPages (a .to) (a .tree)) (g .pages)) (a .to) bytes (a .place) ≡ r
+  planned r e = ap (λ (us : List ℕ). putEdit g (freePages us (g .pages)) (a .to) bytes (a .place)) (sym (Q .exact)) ∙ e
 
-  -- too few free pages
-  pub full : (n : ℕ) → n ≡ pagesFor (dataCapacity g) (length bytes) → (r : Taken) → Takes table (f .extra) n r → r ≡ took.Full → (budget : Budget)
-      → Outcomes g (putWrites g bytes (P .asked .tree) (record { to = P .asked .to; place = P .asked .place })) image budget image (outcome.Refused 17 0)
-  unfolding Takes
-  full n e r T m budget =
-      let k = subst (TakenIs kept (length table) (f .extra) n) m (T kept (P .kept)) in
-      let h : length free < laws.extra g image (P .path) bytes a + wanted = omega (arith, k, ap (λ (N : ℕ). length (freePages kept N)) sized, P .at .extra-is) in
-      let e : putEdit g free (a .to) bytes (a .place) ≡ err 17 0 = laws.edit-is g image (P .path) bytes a free ∙ simp (lt-leb _ _ h, refuse-false, then-err) in
-      (simp (e, then-err), refl)
+  pub put-full : (n : ℕ) → n ≡ pagesFor (dataCapacity g) (length bytes) → (r : Taken) → Takes table (f .extra) n r → r ≡ took.Full → (budget : Budget)
+      → Outcomes g (putWrites g bytes (Q .putting .asked .tree) (record { to = Q .putting .asked .to; place = Q .putting .asked .place })) image budget image (outcome.Refused 17 0)
+  put-full n e r T m budget = (simp (planned (err 17 0) (full g image table bytes sized f P n e r T m), then-err), refl)
 
-  -- enough: the edit
   module _ {n : ℕ} (n-is : n ≡ pagesFor (dataCapacity g) (length bytes)) {r : Taken} (T : Takes table (f .extra) n r) {p : Pages} (m : r ≡ took.At p) where
-    pub T′ : PagesTaken (keptPages (P .asked .to) (P .asked .tree)) (g .pages) (f .extra) n p
-    unfolding Takes
-    T′ = subst (λ (N : ℕ). PagesTaken kept N (f .extra) n p) sized (subst (TakenIs kept (length table) (f .extra) n) m (T kept (P .kept)))
+    abbrev E : OneEdit (laws.directory g image (Q .putting .path) bytes (Q .putting .asked))
+    E = theEdit g image table bytes sized f (Q .putting) n-is T m
 
-    pub room : laws.extra g image (P .path) bytes (P .asked) + wanted ≤ length free
-    room = omega (arith, T′ .enough, P .at .extra-is)
-
-    abbrev pub clear : (x : ℕ) → count x free + count x kept ≤ count x (range (g .pages))
-    clear = laws.free-clear g image (P .path) bytes (P .asked)
-
-    abbrev pub theEdit : OneEdit (laws.directory g image (P .path) bytes (P .asked))
-    theEdit = laws.one-edit g image (P .path) bytes (P .asked) free clear room
-
-    abbrev chain : List Link
-    chain = laws.chain g image (P .path) bytes (P .asked) free
-
-    abbrev pub change : Change
-    change = record { slot = f .slot; first = f .first; last = f .last; joins = p .joins }
-
-    abbrev pub e : Entry
-    e = record { name = f .name; extension = f .extension; start = p .start; pages = n }
-
-    -- the chain that the code stores
-    chain-is : chain ≡ chainOf (dataCapacity g) (take wanted (freeFrom kept (p .start) (g .pages))) bytes
-    chain-is = ap (λ (l : List ℕ). chainOf (dataCapacity g) (take wanted l) bytes) (ap (λ (k : ℕ). drop k free) (P .at .extra-is) ∙ T′ .rest)
-
-    starts : first chain ≡ p .start
-    starts = ap first chain-is ∙ ap (λ (l : List ℕ). first (chainOf (dataCapacity g) (take wanted l) bytes)) (T′ .starts)
-
-    -- its entry
-    entry-is : e ≡ fileEntry label chain
-    entry-is = let l = laws.length-chain g image (P .path) bytes a free clear room in
-        λ i. record { name = sym (P .at .name-is) i; extension = sym (P .at .extension-is) i; start = sym starts i; pages = (n-is ∙ sym l) i }
-
-    -- ---- a page that joins
-    module _ (one : f .extra ≡ 1) where
-      joins-free : count (p .joins) kept ≡ 0
-      joins-free = omega (arith, clear (p .joins), ap (count (p .joins)) (T′ .joins-is one), hit-same (p .joins), range-le (p .joins) (g .pages))
-
-      -- the file is new
-      absent : find (fileKey (a .to)) (a .place .items) ≡ nothing
-      absent = elim (eq-zero-or-pos (count (fileKey (a .to)) (keys (a .place .items)))) [
-        | inl z ↦ find-none (fileKey (a .to)) (a .place .items) z
-        | inr z ↦ absurd (omega (arith, P .at .extra-is, extra-old g label (a .place .items) z))
-      ]
-
-      not-zero : p .joins ≡ 0 → ⊥
-      not-zero z =
-          let i = a .tree in
-          let w = a .well .holds in
-          omega (
-            arith,
-            joins-free,
-            ap (λ (y : ℕ). count y kept) z,
-            laws.kept-old g image (P .path) bytes a 0,
-            ap (λ (x : Found). count 0 (chainPages x)) absent,
-            zero-taken (i .tree) (w .isDirectory) (w .atZero),
-            count-append 0 (allPages (i .tree)) (mapPages (i .map)),
-          )
-
-      joined : Joins theEdit change (e ∷ [])
-      joined =
-          let L = P .at .in-new-page one in
-          let q : getD free 0 0 ≡ p .joins = ap (λ (l : List ℕ). getD l 0 0) (T′ .joins-is one) in
-          record {
-            before = L .before;
-            entries = L .entries;
-            shape = L .shape;
-            then = L .then (getD free 0 0) chain ∙ rw (q, ← entry-is) refl;
-            other = λ z. omega (
-              arith,
-              joins-free,
-              ap (λ (y : ℕ). count y kept) z,
-              laws.kept-is g image (P .path) bytes a (f .slot .page),
-              ap (count (f .slot .page)) (own-tokens (a .place .items) ∙ ap tokenPages (L .shape)),
-              page-there (f .slot .page) (L .before) (entryTokens (L .entries) ++ []),
-            );
-          }
-
-    exchanges : f .extra ≡ 0 → Exchanges theEdit change (e ∷ [])
-    exchanges z =
-        let L = P .at .in-page z in
-        record {
-          before = L .before;
-          entries = L .entries;
-          exchanged = L .exchanged;
-          later = L .later;
-          shape = L .shape;
-          then = L .then (getD free 0 0) chain ∙ rw (← entry-is) refl;
-          first-is = L .first-is;
-          last-is = L .last-is;
-          skip-is = L .skip-is;
-          next-is = L .next-is;
-        }
-
-    entering : Entering theEdit change (e ∷ [])
-    entering = elim (eq-zero-or-pos (f .extra)) [
-      | inl z ↦ record { exchanges = λ _. exchanges z; joins = λ y. absurd (y (T′ .joins-none z)) }
-      | inr z ↦ let one : f .extra ≡ 1 = omega (arith, one-extra) in record { exchanges = λ y. absurd (not-zero one y); joins = λ _. joined one }
-    ]
-
-    pub plan-is : Plan g image table bytes change e
-    plan-is = record {
-      marks = bitmapOf g (used (P .asked .tree)) (P .asked .tree .map);
-      directory = laws.directory g image (P .path) bytes (P .asked);
-      edit = theEdit;
-      used = kept;
-      represents = P .kept;
-      enough = omega (arith, ap length (T′ .rest), length-drop (f .extra) free, T′ .enough);
-      chain-is = chain-is;
-      entering = entering;
-    }
+    pub plan-is : Plan g image table bytes (record { slot = f .slot; first = f .first; last = f .last; joins = p .joins }) (record { name = f .name; extension = f .extension; start = p .start; pages = n })
+    plan-is = plan-of g image table bytes sized f P n-is T m E (record { items-are = refl; after-is = refl; chain-same = refl })
 
     -- ---- the page writes
-    marks-then : Marks table (p .below) (es.left theEdit)
-    marks-then = marks-below table kept (es.left theEdit) (p .below) (P .kept) (omega (arith, T′ .inside, sized)) (λ x. omega (
-      arith,
-      laws.pages-then g image (P .path) bytes a free clear room x,
-      ap (count x) (T′ .lowest ∙ take-add (f .extra) n free),
-      count-append x (take (f .extra) free) (take n (drop (f .extra) free)),
-      ap (λ (k : ℕ). count x (take k free)) (P .at .extra-is),
-      ap (count x) (ap pages chain-is ∙ pages-chain-of (dataCapacity g) (take wanted (freeFrom kept (p .start) (g .pages))) bytes),
-      ap (λ (l : List ℕ). count x (take n l)) (T′ .rest),
-      ap (λ (k : ℕ). count x (take k (freeFrom kept (p .start) (g .pages)))) n-is,
-    ))
+    marks-then : Marks table (p .below) (es.left E)
+    marks-then =
+        let t = T′ g image table bytes sized f P n-is T m in
+        marks-below table (P .inUse) (es.left E) (p .below) (P .represents) (omega (arith, t .inside, sized))
+        (λ x. omega (arith, left-then g image table bytes sized f P n-is T m x, ap (count x) (Q .exact)))
 
     module _ (budget : Budget) (o : Open budget) where
       -- what the three steps give is what the rule's list gives
-      done : (now : Progress) → now ≡ step₃ theEdit budget → Outcomes g writes image budget (now .image) (outcome.Done (now .budget))
+      done : (now : Progress) → now ≡ step₃ E budget → Outcomes g writes image budget (now .image) (outcome.Done (now .budget))
       done now q =
-          let e : putEdit g free (a .to) bytes (a .place) ≡ ok (laws.theEdit g image (P .path) bytes a free) = laws.edit-is g image (P .path) bytes a free ∙ simp (le-leb _ _ room, refuse-true, then-ok) in
           let i = a .tree in
-          let x = laws.theEdit g image (P .path) bytes a free in
-          (editWrites g (bitmapOf g (used i) (i .map)) x i (edited g (a .to .directories) x i), simp (e, then-ok), q ∙ sym (whole-is theEdit budget))
+          let x = laws.theEdit g image (P .path) bytes a (freePages (P .inUse) (g .pages)) in
+          let e = planned (ok x) (edit-is g image table bytes sized f P n-is T m) in
+          (editWrites g (bitmapOf g (used i) (i .map)) x i (edited g (a .to .directories) x i), simp (e, then-ok), q ∙ sym (whole-is E budget))
 
       module _ (mid : List ℕ) (rest : Budget) (carried : _≡_ {A = Progress} (record { image = mid; budget = rest }) (step₂ (plan-is .edit) budget)) where
-        h : _≡_ {A = Progress} (record { image = mid; budget = rest }) (step₂ theEdit budget)
+        h : _≡_ {A = Progress} (record { image = mid; budget = rest }) (step₂ E budget)
         unfolding plan-is
-        h = carried
+        h = carried-is g image table bytes sized f P n-is T m E (record { items-are = refl; after-is = refl; chain-same = refl }) budget _ carried
 
-        stopped-is : (t : Bool) → rest .stopped ≡ t → step₂ theEdit budget .budget .stopped ≡ t
+        stopped-is : (t : Bool) → rest .stopped ≡ t → step₂ E budget .budget .stopped ≡ t
         stopped-is t z = ap (λ (x : Progress). x .budget .stopped) (sym h) ∙ z
 
-        open-first : rest .stopped ≡ false → Open (step₁ theEdit budget .budget)
-        open-first z = by (step₁ theEdit budget .budget .stopped) refl
+        open-first : rest .stopped ≡ false → Open (step₁ E budget .budget)
+        open-first z = by (step₁ E budget .budget .stopped) refl
           where
-            by : (t : Bool) → step₁ theEdit budget .budget .stopped ≡ t → step₁ theEdit budget .budget .stopped ≡ false
+            by : (t : Bool) → step₁ E budget .budget .stopped ≡ t → step₁ E budget .budget .stopped ≡ false
             by false q = q
-            by true q = absurd (false≢true (sym (stopped-is false z) ∙ ap (λ (x : Progress). x .budget .stopped) (stopped₁ theEdit budget o q .0) ∙ q))
+            by true q = absurd (false≢true (sym (stopped-is false z) ∙ ap (λ (x : Progress). x .budget .stopped) (stopped₁ E budget o q .0) ∙ q))
 
         -- a write was held back
         pub put-stop : rest .stopped ≡ true → Outcomes g writes image budget mid (outcome.Done rest)
-        put-stop z = done (record { image = mid; budget = rest }) (h ∙ sym (by (step₁ theEdit budget .budget .stopped) refl))
+        put-stop z = done (record { image = mid; budget = rest }) (h ∙ sym (by (step₁ E budget .budget .stopped) refl))
           where
-            by : (t : Bool) → step₁ theEdit budget .budget .stopped ≡ t → step₃ theEdit budget ≡ step₂ theEdit budget
-            by true q = let s = stopped₁ theEdit budget o q in s .1 ∙ sym (s .0)
-            by false q = stopped₂ theEdit budget o q (stopped-is true z)
+            by : (t : Bool) → step₁ E budget .budget .stopped ≡ t → step₃ E budget ≡ step₂ E budget
+            by true q = let s = stopped₁ E budget o q in s .1 ∙ sym (s .0)
+            by false q = stopped₂ E budget o q (stopped-is true z)
 
         module _ (z : rest .stopped ≡ false) where
-          image-is : mid ≡ es.image₂ theEdit
-          image-is = ap (λ (x : Progress). x .image) h ∙ open₂ theEdit budget o (open-first z) (stopped-is false z)
+          image-is : mid ≡ es.image₂ E
+          image-is = ap (λ (x : Progress). x .image) h ∙ open₂ E budget o (open-first z) (stopped-is false z)
 
           pub put-fit : Fit g mid × HasRoot g (viewOf g mid)
-          put-fit = (fit-then theEdit mid image-is, has-root theEdit mid image-is)
+          put-fit = (fit-then E mid image-is, has-root E mid image-is)
 
           pub put-done : (after : List ℕ) (left : Budget) → WritesMap g table (p .below) mid rest after left → Outcomes g writes image budget after (outcome.Done left)
-          put-done after left w = done (record { image = after; budget = left }) (map-is theEdit mid image-is table (p .below) marks-then rest after left w ∙ ap (writeAll g (es.ws₃ theEdit)) h)
+          put-done after left w = done (record { image = after; budget = left }) (map-is E mid image-is table (p .below) marks-then rest after left w ∙ ap (writeAll g (es.ws₃ E)) h)

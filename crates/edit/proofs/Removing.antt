@@ -18,7 +18,7 @@ use Rattle.writes.specs.declared.Change.{Change}
 use Rattle.writes.specs.Changes.{CanChange, Changes}
 use Rattle.edit.specs.Plans.{Removal}
 use Rattle.edit.specs.ChangeLaws.{can-change, changed-is}
-use Rattle.edit.specs.Steps.{step₁, step₂, step₃, stopped₂, open₂, fit-then, has-root, map-is}
+use Rattle.edit.specs.StepLaws.{step₁, step₂, step₃, stopped₂, open₂, fit-then, has-root, map-is}
 
 module _ (g : Geometry) (image table : List ℕ) (s : Slot) (budget : Budget) (o : Open budget) (R : Removal g image table s) where
   abbrev change : Change

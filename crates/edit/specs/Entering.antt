@@ -5,9 +5,9 @@ use Prim.Native.Nat.{ℕ, _+_}
 use lib.ListN.{length}
 use Rattle.geometry.specs.declared.Geometry.{Geometry}
 use Rattle.geometry.specs.Geometry.{controlSize}
-use Rattle.packet.specs.Packet.{good, viewOf}
 use Rattle.rules.specs.declared.Entry.{Entry}
-use Rattle.rules.specs.Tree.{Token, newPage, tokens}
+use Rattle.rules.specs.Chain.{first}
+use Rattle.rules.specs.Tree.{Token, newPage, tokens, tokenLinks}
 use Rattle.rules.specs.TreeLaws.{entryTokens}
 use Rattle.editing_theorems.specs.PageChange.{controlOn}
 use Rattle.editing_theorems.specs.EditedImage.{DirectoryOf, OneEdit}
@@ -24,7 +24,7 @@ pub record Exchanges {g : Geometry} {image marks : List ℕ} {D : DirectoryOf g 
   pub first-is : length entries ≡ c .first
   pub last-is : length entries + length exchanged ≡ c .last
   pub skip-is : (control : List ℕ) → length control ≡ controlSize g → length (controlOn (g .width) control before) ≡ c .slot .skip
-  pub next-is : (b : List ℕ) (n : ℕ) → viewOf g image (c .slot .page) ≡ good b n → c .slot .next .page ≡ n
+  pub next-is : c .slot .next .page ≡ first (tokenLinks (g .width) [] later)
 
 -- a page joins after its last one with the entries `more`
 pub record Joins {g : Geometry} {image marks : List ℕ} {D : DirectoryOf g image marks} (E : OneEdit D) (c : Change) (more : List Entry) : Type 0 where

@@ -17,9 +17,10 @@ use Rattle.packet.specs.Budgets.{Progress, writeOne, writeAll}
 use Rattle.rules.specs.declared.Entry.{Entry}
 use Rattle.rules.specs.Chain.{first, linked}
 use Rattle.rules.specs.Names.{entryBytes}
-use Rattle.rules.specs.Tree.{Token, tokenBytes, tokenLinks}
+use Rattle.rules.specs.Tree.{Token, newPage, tokens, tokenBytes, tokenLinks}
+use Rattle.rules.specs.TreeLaws.{entryTokens}
 use Rattle.rules.specs.WellFormed.{HasPackets}
-use Rattle.rules.specs.Writes.{sameWrite, changes, backwards}
+use Rattle.rules.specs.Writes.{sameWrite, changes, backwards, controlOf}
 use Rattle.reading_theorems.specs.EntryLaws.{length-entry}
 use Rattle.reading_theorems.specs.PacketLaws.{packets-right}
 use Rattle.editing_theorems.specs.AfterWrites.{WriteFits, WritesFit}
@@ -61,6 +62,17 @@ one-written g s ws us p b c next o z = by (sameWrite (write p b next) (write p c
         ap (λ (xs : List Write). writeAll g (backwards xs) s) (changes-none ws us p b next (subst (λ (x : List ℕ). OneChange ws us p b x next) (sym i) o))
         ∙ sym z ∙ ap (λ (x : List ℕ). writeOne g (write p x next) s) i
     by false e = ap (λ (xs : List Write). writeAll g (backwards xs) s) (changes-one ws us p b c next o e)
+
+-- the pointer of a page of a directory, by what comes after the page's entries
+pub pointer-is : {g : Geometry} {image marks : List ℕ} (D : DirectoryOf g image marks) (p next : ℕ) (before : List Token) (entries exchanged : List Entry) (later : List Token)
+    → tokens (D .place .items) ≡ before ++ (newPage p ∷ (entryTokens entries ++ (entryTokens exchanged ++ later)))
+    → ((b : List ℕ) (n : ℕ) → viewOf g image p ≡ good b n → next ≡ n) → next ≡ first (tokenLinks (g .width) [] later)
+pointer-is {g} {image} {marks} D p next before entries exchanged later shape h =
+    let v = viewOf g image in
+    let c = controlOf (g .width) marks (D .tree .map) (D .place .site) in
+    let o = page-change (g .width) p entries exchanged exchanged later before c in
+    let s = subst (HasPackets v) (ap (λ (ts : List Token). linked (tokenLinks (g .width) c ts)) shape ∙ o .old-is) (hereStands D .own) in
+    h _ _ (packets-right v (o .before) (write p _ _ ∷ o .after) s .0)
 
 -- ---- entries exchanged
 module _ {g : Geometry} {image marks : List ℕ} {D : DirectoryOf g image marks} (E : OneEdit D) (c : Change) (more : List Entry) (X : Exchanges E c more) where
@@ -149,9 +161,8 @@ module _ {g : Geometry} {image marks : List ℕ} {D : DirectoryOf g image marks}
   unfolding writeAll
   exchanged-is z s t e h =
       let q : viewOf g (s .image) p ≡ good data₀ pointer = ap (λ (i : List ℕ). viewOf g i p) e ∙ packet₁ in
-      let k : c .slot .next .page ≡ pointer = next-is data₀ pointer (stands (viewOf g image) (hereStands D .own)) in
       let ws : changeWrites g c (entriesBytes n more) data₀ ≡ write p data₁ pointer ∷ [] =
       ap (λ (b : Bool). choose b (write p (spliced (entryFrom g (c .slot) (c .first)) (entryFrom g (c .slot) (c .last)) (entriesBytes n more) data₀) (c .slot .next .page) ∷ [])
-      (write (c .joins) (entriesBytes n more) 0 ∷ write p data₀ (c .joins) ∷ [])) (eq-eqb (c .joins) 0 z) ∙ choose-true _ _ ∙ ap₂ (λ (b : List ℕ) (i : ℕ). write p b i ∷ []) spliced-is k in
+      (write (c .joins) (entriesBytes n more) 0 ∷ write p data₀ (c .joins) ∷ [])) (eq-eqb (c .joins) 0 z) ∙ choose-true _ _ ∙ ap₂ (λ (b : List ℕ) (i : ℕ). write p b i ∷ []) spliced-is next-is in
       h data₀ pointer q ∙ ap (λ (us : List Write). writeAll g us s) ws
       ∙ sym (one-written g s (old E) (new E) p data₀ data₁ pointer one (one-stands g p data₀ pointer s q (subst Bytes (sym e) (bytes₁ E))))

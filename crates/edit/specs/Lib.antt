@@ -2,7 +2,9 @@ pub mod Entering
 pub mod ExchangeLaws
 pub mod JoinLaws
 pub mod ChangeLaws
-pub mod Steps
+pub mod StepLaws
 pub mod Pages
+pub mod OldChains
+pub mod FilePlans
 pub mod Plans
 pub mod OutcomeLaws

@@ -10,7 +10,7 @@ use Rattle.packet.specs.declared.Budget.{Budget}
 use Rattle.packet.specs.Budgets.{Progress, writeAll}
 use Rattle.rules.specs.declared.Entry.{Entry}
 use Rattle.rules.specs.Result.{Res, ok, err, andThen}
-use Rattle.rules.specs.PageSets.{freePages}
+use Rattle.rules.specs.PageSets.{count, range, freePages}
 use Rattle.rules.specs.Chain.{Link, chainOf, pagesFor}
 use Rattle.rules.specs.Tree.{Label, Items, fileEntry, Token, newPage, entry, tokens, Image, used}
 use Rattle.rules.specs.TreeLaws.{entryTokens}
@@ -30,7 +30,7 @@ use Rattle.edit.specs.declared.NewFile.{NewFile}
 use Rattle.edit.specs.declared.Outcome.{Outcome}
 use Rattle.edit.specs.declared.Outcome.the-variants as outcome
 use Rattle.edit.specs.Entering.{Entering}
-use Rattle.edit.specs.Steps.{step₂, step₃}
+use Rattle.edit.specs.StepLaws.{step₂, step₃}
 
 -- an edit of a directory of the image whose new chain has the bytes in the lowest free pages from the entry's start page on, and the change that enters the entry
 pub record Plan (g : Geometry) (image table bytes : List ℕ) (c : Change) (e : Entry) : Type 0 where
@@ -90,12 +90,19 @@ pub record EntryPlace (g : Geometry) (image : List ℕ) (q : Path) (d : Items) (
   pub in-page : f .extra ≡ 0 → PutInPage g image (fileLabel q) d f
   pub in-new-page : f .extra ≡ 1 → PutInNewPage g (fileLabel q) d f
 
--- a put that nothing but room could refuse; the table tells of the pages that stay in use
+-- a put that nothing but room could refuse; the table tells of the pages that must not be taken, those that stay in use among them
 pub record Putting (g : Geometry) (image table bytes : List ℕ) (f : NewFile) : Type 0 where
   pub path : List ℕ
   pub asked : Asked g image path bytes
   pub at : EntryPlace g image (asked .to) (asked .place .items) f
-  pub kept : Represents table (keptPages (asked .to) (asked .tree))
+  pub inUse : List ℕ
+  pub represents : Represents table inUse
+  pub clear : (x : ℕ) → count x (freePages inUse (g .pages)) + count x (keptPages (asked .to) (asked .tree)) ≤ count x (range (g .pages))
+
+-- a plain put: every page that does not stay in use is free
+pub record PlainPutting (g : Geometry) (image table bytes : List ℕ) (f : NewFile) : Type 0 where
+  pub putting : Putting g image table bytes f
+  pub exact : putting .inUse ≡ keptPages (putting .asked .to) (putting .asked .tree)
 
 -- the page writes that a rule gives, carried out; or its refusal
 abbrev pub Outcomes : Geometry → Res (List Write) → List ℕ → Budget → List ℕ → Outcome → Type 0
@@ -109,5 +116,5 @@ putWrites g bytes i x = andThen (putEdit g (freePages (keptPages (x .to) i) (g .
     (λ e. ok (editWrites g (bitmapOf g (used i) (i .map)) e i (edited g (x .to .directories) e i)))
 
 abbrev pub PutsFile : Geometry → List ℕ → List ℕ → List ℕ → NewFile → Budget → List ℕ → Outcome → Type 0
-PutsFile g image table bytes f budget after r = (p : Putting g image table bytes f)
-    → Outcomes g (putWrites g bytes (p .asked .tree) (record { to = p .asked .to; place = p .asked .place })) image budget after r
+PutsFile g image table bytes f budget after r = (p : PlainPutting g image table bytes f)
+    → Outcomes g (putWrites g bytes (p .putting .asked .tree) (record { to = p .putting .asked .to; place = p .putting .asked .place })) image budget after r

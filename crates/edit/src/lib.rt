@@ -10,9 +10,11 @@ ghost use mathlib.Core.Path.{_≡_};
 ghost use Prim.Native.Nat.{_+_, _≤_, _<_};
 ghost use lib.ListN.{length};
 ghost use Rattle.geometry.specs.Geometry.{Fit};
+ghost use Rattle.packet.specs.Packet.{viewOf};
 ghost use Rattle.packet.specs.Budgets.{Open};
 ghost use Rattle.edit.specs.Pages.{Takes};
-ghost use Rattle.edit.specs.Plans.{Plan, Carries, Removal, RemovesEntry, Putting, PutsFile};
+ghost use Rattle.edit.specs.OldChains.{HasOld, FreesOld};
+ghost use Rattle.edit.specs.Plans.{Plan, Carries, Removal, RemovesEntry, PlainPutting, PutsFile};
 
 // The pages that an edit takes, all of them free: one that joins the directory, 0 if none does; the start page of a new chain; and a bound below which they lie.
 pub struct Pages {
@@ -33,15 +35,28 @@ pub enum Outcome {
     Refused(u8, usize),
 }
 
-// A file to be put: name and extension, and where its entry goes. On the page of `slot` it replaces the entries `first` to `last`, `last` not among them;
+// A file to be put: name and extension, the chain that it replaces, and where its entry goes. On the page of `slot` it replaces the entries `first` to `last`, `last` not among them;
 // or, if `extra` is 1, a page joins the directory after that page with the entry.
 pub struct NewFile {
     pub name: u32,
     pub extension: u8,
+    // the start page of the chain that it replaces; the number of pages if it replaces none
+    pub replaces: usize,
     pub slot: Slot,
     pub first: usize,
     pub last: usize,
     pub extra: usize,
+}
+
+// Makes the pages of a chain free again; none if its start page is past the image.
+pub fn release_old(image: &[u8], g: Geometry, start: usize, table: &mut [u16])
+    requires { ⌜ Fit g (now image) ⌝ }
+    requires { ⌜ HasOld g (viewOf g (now image)) start × (length (now table) ≡ g .pages) ⌝ }
+    ensures { λ _. ⌜ FreesOld g (viewOf g (now (image .entry))) start (now (table .entry)) (now (table .exit)) ⌝ }
+{
+    if start < g.pages {
+        chain::release_chain(image, g, start, table);
+    }
 }
 
 // Finds the lowest free pages for a page that joins, if `extra` is 1, and then for a chain of so many pages.
@@ -103,7 +118,7 @@ pub fn put_file(
     budget: Budget,
 ) -> Outcome
     requires { ⌜ Fit g (now image) ⌝ }
-    requires { ⌜ (length (now table) ≡ g .pages) × Putting g (now image) (now table) (now bytes) file × Open budget ⌝ }
+    requires { ⌜ (length (now table) ≡ g .pages) × PlainPutting g (now image) (now table) (now bytes) file × Open budget ⌝ }
     ensures { λ r. ⌜ PutsFile g (now (image .entry)) (now (table .entry)) (now (bytes .entry)) file budget (now (image .exit)) r ⌝ }
 {
     let pages = writes::pages_for(bytes.len(), g.data_capacity());

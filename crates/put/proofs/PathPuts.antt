@@ -17,26 +17,24 @@ use Rattle.rules.specs.Chain.{viewsOf, pages}
 use Rattle.rules.specs.Tree.{Image, used}
 use Rattle.rules.specs.Owners.{owners}
 use Rattle.rules.specs.Check.{check}
-use Rattle.rules.specs.Paths.{Found, Target}
-use Rattle.rules.specs.Candidate.{chainPages}
+use Rattle.rules.specs.Paths.{Target}
 use Rattle.rules.specs.Put.{keptPages, putTarget, putEdit, plainEdit, put}
 use Rattle.owners.specs.Owned.{Represents}
-use Rattle.owners.specs.OwnerLaws.{represents-same, represents-owners, represents-freed}
-use Rattle.editing_theorems.specs.PutLaws.{Asked, kept-old}
+use Rattle.owners.specs.OwnerLaws.{represents-owners, represents-freed}
+use Rattle.editing_theorems.specs.PutLaws.{Asked, kept-old, free-clear}
 use Rattle.editing_theorems.specs.PutDone.{asked-at}
-use Rattle.chain.specs.Claims.{Releases}
-use Rattle.chain.specs.KnownChain.{KnownChain}
 use Rattle.edit.specs.declared.NewFile.{NewFile}
 use Rattle.edit.specs.declared.Outcome.{Outcome}
 use Rattle.edit.specs.declared.Outcome.the-variants as outcome
 use Rattle.edit.specs.OutcomeLaws.{whole-done, whole-refused}
-use Rattle.edit.specs.Plans.{EntryPlace, Putting, Outcomes, putWrites, PutsFile}
+use Rattle.edit.specs.OldChains.{HasOld, FreesOld}
+use Rattle.edit.specs.Plans.{PlainPutting, Outcomes, putWrites, PutsFile}
 use Rattle.rules.specs.declared.Edited.{Edited}
 use Rattle.rules.specs.declared.Edited.the-variants as edited
 use Rattle.volume.specs.Edits.{leaves, Answered, TableOf}
 use Rattle.put.specs.declared.Placed.{Placed}
 use Rattle.put.specs.declared.Placed.the-variants as placed
-use Rattle.put.specs.Places.{NewPlace, OldPlace, IsPlaced, Places, PathPut}
+use Rattle.put.specs.Places.{FilePlace, IsPlaced, Places, PathPut}
 
 module _ (g : Geometry) (image table path bytes : List ℕ) (fit : Fit g image) (T : TableOf g image table) (pathFits : (i : ℕ) → getD path i 0 < 256) (bytesFit : (i : ℕ) → getD bytes i 0 < 256) where
   open TableOf T using (tree, accepted, table-is)
@@ -66,50 +64,37 @@ module _ (g : Geometry) (image table path bytes : List ℕ) (fit : Fit g image) 
         (subst (λ (z : Res Target). Outcomes g (andThen z (putWrites g bytes tree)) image budget after o) (sym t)
         (subst (λ (z : Res (List Write)). Outcomes g z image budget after o) (sym (then-ok x (putWrites g bytes tree))) w))
 
-    -- ---- a new file
-    module _ (f : NewFile) (e : r ≡ placed.New f) where
-      new : NewPlace g image path tree f
-      new = placed-as (placed.New f) e
+    -- ---- the file at its place, the chain that it replaces free
+    module _ (f : NewFile) (e : r ≡ placed.At f) where
+      place : FilePlace g image path tree f
+      place = placed-as (placed.At f) e
 
-      pub to-put : Putting g image table bytes f
-      unfolding asked
-      to-put = record {
-        path = path;
-        asked = asked (new .target) (new .reached);
-        at = new .at;
-        kept = let a = asked (new .target) (new .reached) in
-            represents-same table (used tree) (keptPages (new .target .to) tree)
-            (λ x. omega (arith, kept-old g image path bytes a x, ap (λ (f : Found). count x (chainPages f)) (new .absent))) (table-used (new .target) (new .reached));
-      }
+      pub has-old : HasOld g (viewOf g image) (f .replaces)
+      has-old = record { links = place .links; old = place .old }
 
-      pub new-put : (after : List ℕ) (o : Outcome) → PutsFile g image table bytes f budget after o → PathPut g image path bytes budget after o
-      unfolding to-put asked
-      new-put after o k = given (new .target) (new .reached) after o (k to-put)
+      module _ (u : List ℕ) (freed-old : FreesOld g (viewOf g image) (f .replaces) table u) where
+        pub to-put : PlainPutting g image u bytes f
+        unfolding asked
+        to-put =
+            let a = asked (place .target) (place .reached) in
+            let k = keptPages (place .target .to) tree in
+            record {
+              putting = record {
+                path = path;
+                asked = a;
+                at = place .at;
+                inUse = k;
+                represents = subst (λ (t : List ℕ). Represents t k) (sym (freed-old (place .links) (place .old)))
+                    (represents-freed table (used tree) k (pages (place .links)) (table-used (place .target) (place .reached))
+                    (λ x. omega (arith, kept-old g image path bytes a x, ap (count x) (place .found))));
+                clear = free-clear g image path bytes a;
+              };
+              exact = refl;
+            }
 
-    -- ---- a file that is there: its chain is free
-    module _ (f : NewFile) (start : ℕ) (e : r ≡ placed.Over f start) where
-      old : OldPlace g image path tree f start
-      old = placed-as (placed.Over f start) e
-
-      pub known-chain : KnownChain g (viewOf g image) start
-      known-chain = record { links = old .links; chain = old .chain }
-
-      module _ (u : List ℕ) (rel : Releases g (viewOf g image) start table u) where
-        pub to-put-over : Putting g image u bytes f
-        unfolding asked Releases
-        to-put-over = record {
-          path = path;
-          asked = asked (old .target) (old .reached);
-          at = old .at;
-          kept = let a = asked (old .target) (old .reached) in
-              let k = keptPages (old .target .to) tree in
-              subst (λ (t : List ℕ). Represents t k) (sym (rel (old .links) (old .chain))) (represents-freed table (used tree) k (pages (old .links)) (table-used (old .target) (old .reached))
-              (λ x. omega (arith, kept-old g image path bytes a x, ap (λ (f : Found). count x (chainPages f)) (old .found))));
-        }
-
-        pub put-over : (after : List ℕ) (o : Outcome) → PutsFile g image u bytes f budget after o → PathPut g image path bytes budget after o
-        unfolding to-put-over asked
-        put-over after o k = given (old .target) (old .reached) after o (k to-put-over)
+        pub put-at : (after : List ℕ) (o : Outcome) → PutsFile g image u bytes f budget after o → PathPut g image path bytes budget after o
+        unfolding to-put asked
+        put-at after o k = given (place .target) (place .reached) after o (k to-put)
 
   -- ---- without a limit
   rule-is : put g path bytes image ≡ andThen (andThen (putTarget path (tree .tree)) (putWrites g bytes tree)) (λ ws. ok (afterWrites g ws image))

@@ -5,20 +5,23 @@ use Prim.Native.Nat.{ℕ, _+_, _≤_, _<_}
 use native.Mathlib.Omega.{arith}
 use lib.ListN.{length}
 use Rattle.geometry.specs.declared.Geometry.{Geometry}
-use Rattle.packet.specs.Packet.{viewOf}
+use Rattle.packet.specs.Packet.{View, viewOf}
 use Rattle.rules.specs.declared.Entry.{Entry}
 use Rattle.rules.specs.Result.{ok, err}
 use Rattle.rules.specs.PageSets.{bit, count}
-use Rattle.rules.specs.Chain.{Views, viewsOf, Link, first}
+use Rattle.rules.specs.PageSetLaws.{hit-same}
+use Rattle.rules.specs.Chain.{Views, viewsOf, Link, link, first}
 use Rattle.rules.specs.Tree.{Label, keyOf, Items, file, newPage, entry, tokens, fileEntry, keys, Image}
 use Rattle.rules.specs.Check.{check}
 use Rattle.rules.specs.Paths.{Path, fileKey, fileLabel, Found, nothing, find, targetOf}
 use Rattle.rules.specs.Put.{writable, putTarget}
+use Rattle.rules.specs.Candidate.{chainPages}
 use Rattle.rules.specs.EditLaws.{none-found, found-file}
 use Rattle.rules.specs.TargetLaws.{reached, put-target-none, put-target-is, put-target-kept}
 use Rattle.rules.specs.TreeLaws.{entryTokens}
 use Rattle.editing_theorems.specs.FormedPaths.{formed}
 use Rattle.editing_theorems.specs.PutDirectory.{extra-old, extra-new, after-old, after-new, SameName, same-name}
+use Rattle.chain.specs.KnownChain.{ChainAt}
 use Rattle.entries.specs.declared.Slot.{Slot}
 use Rattle.lookup.specs.declared.PathLookup.{PathLookup}
 use Rattle.lookup.specs.declared.PathLookup.the-variants as lookup
@@ -32,49 +35,60 @@ use Rattle.edit.specs.declared.NewFile.{NewFile}
 use Rattle.edit.specs.Plans.{EntryPlace}
 use Rattle.put.specs.declared.Placed.{Placed}
 use Rattle.put.specs.declared.Placed.the-variants as placed
-use Rattle.put.specs.Places.{NewEntryIs, NewPlace, OldPlace, IsPlaced}
+use Rattle.put.specs.Places.{NewEntryIs, FilePlace, IsPlaced}
 
 -- ---- a new file
 module _ {g : Geometry} {image : List ℕ} {start name extension : ℕ} {r : Space} (h : Spaces g (viewsOf g image) start r) {s : Slot} where
-  pub to-space : r ≡ space.At s → NewEntryIs g image start name extension (record { name = name; extension = extension; slot = s; first = s .count; last = s .count; extra = 0 })
-  to-space e q d n x t absent =
-      let k : SpaceAt g (viewOf g image) d s = subst (IsSpace g (viewOf g image) d) e (h d t) in
-      let none : count (keyOf (fileLabel q)) (keys d) ≡ 0 = none-found (fileKey q) d absent in
-      record {
-        name-is = n;
-        extension-is = x;
-        extra-is = extra-new g (fileLabel q) d none ∙ ap bit (k .space);
-        in-page = λ _. record {
-          before = k .before;
-          entries = k .entries;
-          exchanged = [];
-          later = k .later;
-          shape = k .page .shape;
-          then = λ p chain. ap tokens (after-new g (fileLabel q) p chain d none) ∙ k .inserted (file (fileLabel q) chain) (fileEntry (fileLabel q) chain) (λ t. refl) p;
-          first-is = k .page .count-is;
-          last-is = omega (arith, k .page .count-is);
-          skip-is = k .page .skip-is;
-          next-is = k .page .next-is;
+  pub to-space : r ≡ space.At s → NewEntryIs g image start name extension (record { name = name; extension = extension; replaces = g .pages; slot = s; first = s .count; last = s .count; extra = 0 })
+  to-space e = record {
+    fresh = refl;
+    at = λ q d n x t absent.
+        let k : SpaceAt g (viewOf g image) d s = subst (IsSpace g (viewOf g image) d) e (h d t) in
+        let none : count (keyOf (fileLabel q)) (keys d) ≡ 0 = none-found (fileKey q) d absent in
+        record {
+          name-is = n;
+          extension-is = x;
+          extra-is = extra-new g (fileLabel q) d none ∙ ap bit (k .space);
+          in-page = λ _. record {
+            before = k .before;
+            entries = k .entries;
+            exchanged = [];
+            later = k .later;
+            shape = k .page .shape;
+            then = λ p chain. ap tokens (after-new g (fileLabel q) p chain d none) ∙ k .inserted (file (fileLabel q) chain) (fileEntry (fileLabel q) chain) (λ t. refl) p;
+            first-is = k .page .count-is;
+            last-is = omega (arith, k .page .count-is);
+            skip-is = k .page .skip-is;
+            next-is = k .page .next-is;
+          };
+          in-new-page = λ z. absurd (omega (arith, z));
         };
-        in-new-page = λ z. absurd (omega (arith, z));
-      }
+  }
 
-  pub to-join : r ≡ space.Full s → NewEntryIs g image start name extension (record { name = name; extension = extension; slot = s; first = s .count; last = s .count; extra = 1 })
-  to-join e q d n x t absent =
-      let k : NoSpace g (viewOf g image) d s = subst (IsSpace g (viewOf g image) d) e (h d t) in
-      let none : count (keyOf (fileLabel q)) (keys d) ≡ 0 = none-found (fileKey q) d absent in
-      record {
-        name-is = n;
-        extension-is = x;
-        extra-is = extra-new g (fileLabel q) d none ∙ ap bit (k .full);
-        in-page = λ z. absurd (omega (arith, z));
-        in-new-page = λ _. record {
-          before = k .before;
-          entries = k .entries;
-          shape = k .page .shape;
-          then = λ p chain. ap tokens (after-new g (fileLabel q) p chain d none) ∙ k .inserted (file (fileLabel q) chain) (fileEntry (fileLabel q) chain) (λ t. refl) p;
+  pub to-join : r ≡ space.Full s → NewEntryIs g image start name extension (record { name = name; extension = extension; replaces = g .pages; slot = s; first = s .count; last = s .count; extra = 1 })
+  to-join e = record {
+    fresh = refl;
+    at = λ q d n x t absent.
+        let k : NoSpace g (viewOf g image) d s = subst (IsSpace g (viewOf g image) d) e (h d t) in
+        let none : count (keyOf (fileLabel q)) (keys d) ≡ 0 = none-found (fileKey q) d absent in
+        record {
+          name-is = n;
+          extension-is = x;
+          extra-is = extra-new g (fileLabel q) d none ∙ ap bit (k .full);
+          in-page = λ z. absurd (omega (arith, z));
+          in-new-page = λ _. record {
+            before = k .before;
+            entries = k .entries;
+            shape = k .page .shape;
+            then = λ p chain. ap tokens (after-new g (fileLabel q) p chain d none) ∙ k .inserted (file (fileLabel q) chain) (fileEntry (fileLabel q) chain) (λ t. refl) p;
+          };
         };
-      }
+  }
+
+-- a chain begins at a page of the image
+chain-inside : (g : Geometry) (v : View) (start : ℕ) (ls : List Link) → ChainAt g v start ls → start < g .pages
+chain-inside g v start [] c = absurd (omega (arith, c .some))
+chain-inside g v start (link p b ∷ ls) c = omega (arith, c .begins, c .within p (omega (arith, hit-same p)))
 
 -- ---- a file that is there
 module _ (g : Geometry) (image path : List ℕ) (i : Image) (s : Slot) (e : Entry) (there : FileAt g (viewsOf g image) path i s e) (h : e .extension ≤ 127) where
@@ -97,7 +111,7 @@ module _ (g : Geometry) (image path : List ℕ) (i : Image) (s : Slot) (e : Entr
   named : 1 ≤ count (keyOf fresh) (keys items)
   named = found-file (fileKey (target .to)) label links items found .named
 
-  pub over : OldPlace g image path i (record { name = e .name; extension = e .extension; slot = s; first = s .at; last = s .at + 1; extra = 0 }) (e .start)
+  pub over : FilePlace g image path i (record { name = e .name; extension = e .extension; replaces = e .start; slot = s; first = s .at; last = s .at + 1; extra = 0 })
   over = record {
     target = target;
     reached = put-target-is path (i .tree) target (there .reached) (ap writable found ∙ is-writable there h);
@@ -120,10 +134,9 @@ module _ (g : Geometry) (image path : List ℕ) (i : Image) (s : Slot) (e : Entr
       };
       in-new-page = λ z. absurd (omega (arith, z));
     };
-    label = label;
     links = links;
-    found = found;
-    chain = chain;
+    found = ap chainPages found;
+    old = record { chain = λ _. chain; none = λ z. absurd (omega (arith, z, chain-inside g (viewOf g image) (e .start) links chain)) };
   }
 
 -- ---- by path: each refusal in its place
@@ -148,12 +161,14 @@ module _ (g : Geometry) (image path : List ℕ) (r : PathLookup) (look : Looks g
     unfolding writable
     may-write = refl
 
-    pub new-place : (f : NewFile) → NewEntryIs g image start name extension f → IsPlaced g image path i (placed.New f)
+    pub new-place : (f : NewFile) → NewEntryIs g image start name extension f → IsPlaced g image path i (placed.At f)
     new-place f n = record {
       target = gap .target;
       reached = put-target-is path (i .tree) (gap .target) (gap .reached) (ap writable (gap .absent) ∙ may-write);
-      at = n (gap .target .to) (gap .target .place .items) (gap .name-is) (gap .extension-is) (gap .tree) (gap .absent);
-      absent = gap .absent;
+      at = n .at (gap .target .to) (gap .target .place .items) (gap .name-is) (gap .extension-is) (gap .tree) (gap .absent);
+      links = [];
+      found = ap chainPages (gap .absent);
+      old = record { chain = λ z. absurd (omega (arith, z, n .fresh)); none = λ _. refl };
     }
 
   module _ (s : Slot) (e : Entry) (q : r ≡ lookup.At s e) where
@@ -163,7 +178,7 @@ module _ (g : Geometry) (image path : List ℕ) (r : PathLookup) (look : Looks g
     pub read-only : 127 < e .extension → IsPlaced g image path i (placed.Refused 16 0)
     read-only h = put-target-kept path (i .tree) (there .target) (there .reached) 16 0 (ap writable (there .found) ∙ not-writable there h)
 
-    pub old-place : e .extension ≤ 127 → IsPlaced g image path i (placed.Over (record { name = e .name; extension = e .extension; slot = s; first = s .at; last = s .at + 1; extra = 0 }) (e .start))
+    pub old-place : e .extension ≤ 127 → IsPlaced g image path i (placed.At (record { name = e .name; extension = e .extension; replaces = e .start; slot = s; first = s .at; last = s .at + 1; extra = 0 }))
     old-place h = over g image path i s e there h
 
     pub under : s .at < s .count

@@ -6,44 +6,37 @@ use Rattle.geometry.specs.declared.Geometry.{Geometry}
 use Rattle.packet.specs.Packet.{viewOf}
 use Rattle.packet.specs.declared.Budget.{Budget}
 use Rattle.rules.specs.Result.{ok, err, andThen}
-use Rattle.rules.specs.Chain.{viewsOf, Link}
-use Rattle.rules.specs.Tree.{Label, Items, Image}
+use Rattle.rules.specs.Chain.{viewsOf, Link, pages}
+use Rattle.rules.specs.Tree.{Items, Image}
 use Rattle.rules.specs.Check.{check}
-use Rattle.rules.specs.Paths.{Path, fileKey, nothing, aFile, find, Target}
+use Rattle.rules.specs.Paths.{Path, fileKey, nothing, find, Target}
 use Rattle.rules.specs.Put.{putTarget}
-use Rattle.chain.specs.KnownChain.{ChainAt}
+use Rattle.rules.specs.Candidate.{chainPages}
 use Rattle.lookup.specs.Searches.{TreeAt}
 use Rattle.edit.specs.declared.NewFile.{NewFile}
 use Rattle.edit.specs.declared.Outcome.{Outcome}
+use Rattle.edit.specs.OldChains.{OldChain}
 use Rattle.edit.specs.Plans.{EntryPlace, Outcomes, putWrites}
 use Rattle.put.specs.declared.Placed.{Placed}
 use Rattle.put.specs.declared.Placed.the-variants as placed
 
--- the place of a new file's entry in whatever directory stands from page `start` on without the file
-abbrev pub NewEntryIs : Geometry → List ℕ → ℕ → ℕ → ℕ → NewFile → Type 0
-NewEntryIs g image start name extension f = (q : Path) (d : Items) → q .name ≡ name → q .extension ≡ extension → TreeAt g (viewsOf g image) start d → find (fileKey q) d ≡ nothing → EntryPlace g image q d f
+-- the place of a new file's entry in whatever directory stands from page `start` on without the file; it replaces no chain
+pub record NewEntryIs (g : Geometry) (image : List ℕ) (start name extension : ℕ) (f : NewFile) : Type 0 where
+  pub fresh : f .replaces ≡ g .pages
+  pub at : (q : Path) (d : Items) → q .name ≡ name → q .extension ≡ extension → TreeAt g (viewsOf g image) start d → find (fileKey q) d ≡ nothing → EntryPlace g image q d f
 
 module _ (g : Geometry) (image path : List ℕ) (i : Image) where
-  -- a put's target without the file
-  pub record NewPlace (f : NewFile) : Type 0 where
+  -- where the file goes that a put has as its target, and the chain that it replaces
+  pub record FilePlace (f : NewFile) : Type 0 where
     pub target : Target
     pub reached : putTarget path (i .tree) ≡ ok target
     pub at : EntryPlace g image (target .to) (target .place .items) f
-    pub absent : find (fileKey (target .to)) (target .place .items) ≡ nothing
-
-  -- with the file, its chain from page `start` on
-  pub record OldPlace (f : NewFile) (start : ℕ) : Type 0 where
-    pub target : Target
-    pub reached : putTarget path (i .tree) ≡ ok target
-    pub at : EntryPlace g image (target .to) (target .place .items) f
-    pub label : Label
     pub links : List Link
-    pub found : find (fileKey (target .to)) (target .place .items) ≡ aFile label links
-    pub chain : ChainAt g (viewOf g image) start links
+    pub found : chainPages (find (fileKey (target .to)) (target .place .items)) ≡ pages links
+    pub old : OldChain g (viewOf g image) (f .replaces) links
 
   abbrev pub IsPlaced : Placed → Type 0
-  IsPlaced (placed.New f) = NewPlace f
-  IsPlaced (placed.Over f start) = OldPlace f start
+  IsPlaced (placed.At f) = FilePlace f
   IsPlaced (placed.Refused n p) = putTarget path (i .tree) ≡ err n p
 
 -- for whatever reading is accepted

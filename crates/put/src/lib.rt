@@ -26,10 +26,7 @@ ghost use Rattle.put.specs.Places.{NewEntryIs, Places, PathPut};
 
 // Where the file of a path goes.
 pub enum Placed {
-    // a file that its directory does not have
-    New(NewFile),
-    // in the place of a file, whose chain starts at this page
-    Over(NewFile, usize),
+    At(NewFile),
     // 14, 15, 16
     Refused(u8, usize),
 }
@@ -44,6 +41,7 @@ fn new_entry(image: &[u8], g: Geometry, start: usize, name: u32, extension: u8) 
         Space::At(slot) => NewFile {
             name,
             extension,
+            replaces: g.pages,
             slot,
             first: slot.count,
             last: slot.count,
@@ -52,6 +50,7 @@ fn new_entry(image: &[u8], g: Geometry, start: usize, name: u32, extension: u8) 
         Space::Full(slot) => NewFile {
             name,
             extension,
+            replaces: g.pages,
             slot,
             first: slot.count,
             last: slot.count,
@@ -70,21 +69,21 @@ fn place_file(image: &[u8], g: Geometry, path: &[u8]) -> Placed
         PathLookup::Malformed => Placed::Refused(14, 0),
         PathLookup::Nowhere => Placed::Refused(15, 0),
         PathLookup::Absent(directory, name, extension) => {
-            Placed::New(new_entry(image, g, directory, name, extension))
+            Placed::At(new_entry(image, g, directory, name, extension))
         }
         PathLookup::At(slot, e) => {
             if extension_of(e.extension).attribute != 0 {
                 return Placed::Refused(16, 0);
             }
-            let file = NewFile {
+            Placed::At(NewFile {
                 name: e.name,
                 extension: e.extension,
+                replaces: e.start,
                 slot,
                 first: slot.at,
                 last: slot.at + 1,
                 extra: 0,
-            };
-            Placed::Over(file, e.start)
+            })
         }
     }
 }
@@ -104,9 +103,8 @@ fn put_path(
 {
     match place_file(image, g, path) {
         Placed::Refused(number, page) => Outcome::Refused(number, page),
-        Placed::New(file) => edit::put_file(image, g, file, bytes, table, budget),
-        Placed::Over(file, start) => {
-            chain::release_chain(image, g, start, table);
+        Placed::At(file) => {
+            edit::release_old(image, g, file.replaces, table);
             edit::put_file(image, g, file, bytes, table, budget)
         }
     }

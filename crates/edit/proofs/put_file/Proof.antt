@@ -5,7 +5,8 @@ use native.Mathlib.Omega.{arith}
 use lib.ListN.{length}
 use Rattle.rules.specs.Chain.{pagesFor}
 use Rattle.editing_theorems.specs.Capacity.{capacity-least}
-use Rattle.edit.proofs.FilePut.{pages-fit, one-extra, full, plan-is, put-stop, put-fit, put-done}
+use Rattle.edit.specs.FilePlans.{pages-fit, one-extra}
+use Rattle.edit.proofs.FilePut.{put-full, plan-is, put-stop, put-fit, put-done}
 use borrow.Author.Needs.{needs}
 use Rattle.edit.proofs.put_file.Statement.{statement}
 use Rattle.edit.proofs.put_file.Tie as tie
@@ -27,7 +28,7 @@ find-pages-requires c κs =
     let a = start .args in
     let p = start .pre in
     let n = c .pages-for .ensures ∙ ap (λ (x : ℕ). pagesFor x (length (a .bytes .now))) (at-data-capacity .data-capacity .ensures) in
-    let x = one-extra (a .g) (a .image .now) (a .table .now) (a .bytes .now) (p .1 .0) (a .file) (p .1 .1) in
+    let x = one-extra (a .g) (a .image .now) (a .table .now) (a .bytes .now) (p .1 .0) (a .file) (p .1 .1 .putting) in
     (x, omega (arith, n), omega (arith, n, pages-fit (a .g) (p .0 .valid) (length (a .bytes .now)) (a .file .extra) (omega arith) x))
 
 put-chain-requires : tie.Need-put-chain-requires
@@ -81,7 +82,7 @@ returns-2 c =
     let start = at-data-capacity .before .before .before .before in
     let a = start .args in
     let n = at-pages-for .pages-for .ensures ∙ ap (λ (x : ℕ). pagesFor x (length (a .bytes .now))) (at-data-capacity .data-capacity .ensures) in
-    λ P. full (a .g) (a .image .now) (a .table .now) (a .bytes .now) (start .pre .1 .0) (a .file) P _ n _ (at-find-pages .find-pages .ensures) (c .enum-told .given .1) (a .budget)
+    λ P. put-full (a .g) (a .image .now) (a .table .now) (a .bytes .now) (start .pre .1 .0) (a .file) P _ n _ (at-find-pages .find-pages .ensures) (c .enum-told .given .1) (a .budget)
 
 returns-3 : tie.Need-returns-3
 returns-3 c =

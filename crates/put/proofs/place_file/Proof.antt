@@ -21,8 +21,8 @@ returns c =
     let at-find-file = at-slot .before .before in
     λ i a. read-only _ _ _ _ (at-find-file .find-file .ensures) i a _ _ (at-slot .slot .given .1) (top-set _ _ (at-extension-of .extension-of .ensures) (c .if1 .taken))
 
-add-t15 : tie.Need-add-t15
-add-t15 c =
+add-t14 : tie.Need-add-t14
+add-t14 c =
     let at-slot = c .before .before .before .before .before in
     let at-find-file = at-slot .before .before in
     let start = at-find-file .before .before .before in
@@ -58,4 +58,4 @@ pub place-file-spec : {M : Type 1} → statement M
 place-file-spec =
     tie.close
     (tie.spec (λ c κs. search needs) (λ c. search needs) (λ c. search needs) (λ c. search needs) new-entry-requires (λ c. search needs) (λ c κs. search needs)
-    returns add-t15 returns-2 returns-3 returns-4 returns-5)
+    returns add-t14 returns-2 returns-3 returns-4 returns-5)
