@@ -25,7 +25,7 @@ use Rattle.editing_theorems.specs.HeldPackets.{pages-linked, count-joined, fits
 use Rattle.editing_theorems.specs.DirectoryWrites.{count-backwards}
 use Rattle.editing_theorems.specs.MapWrites.{root-same, map-size}
 use Rattle.editing_theorems.specs.Contexts.{filledAll, Located}
-use Rattle.editing_theorems.specs.EditedImage.{DirectoryOf, directory-of, OneEdit, fit₂, bytes₂, fits₂, parts₂, shaped, start-is, within, edited-is, image₂, whole}
+use Rattle.editing_theorems.specs.EditedImage.{DirectoryOf, directory-of, OneEdit, fit₂, bytes₂, fits₂, parts₂, shaped, start-is, within, edited-is, image₂, whole, bits, ws₂, ws₃}
 use Rattle.careful_theorems.specs.MapStops.{MarkedImage, map-fit, map-all, map-stop, free-stays, fits-take, count-take}
 use Rattle.careful_theorems.specs.MarkLaws.{map-room, covers-bitmap, covers-mixed, Left}
 use Rattle.careful_theorems.specs.VisibleWrite.{Change, Turned, turned}
@@ -180,31 +180,27 @@ module _ {g : Geometry} {image : List ℕ} (c : CarefulEdit g image) where
   abbrev pub A : List Write
   A = mapWrites g marks (c .tree .tree) (c .tree .map)
 
-  abbrev iA : Image
-  iA = record { tree = i .tree; map = remap marks m }
+  abbrev pub iA : Image
+  iA = record { tree = c .tree .tree; map = remap marks (c .tree .map) }
 
-  abbrev imageA : List ℕ
+  abbrev pub imageA : List ℕ
   imageA = afterWrites g A image
 
-  sA : MarkedImage g imageA marks iA
+  pub sA : MarkedImage g imageA marks iA
   sA = map-all g image bits₀ (i .tree) m s₀ marks marks-size marks-bytes
 
   used-A : used iA ≡ used i
   used-A = ap (λ (l : List ℕ). allPages (i .tree) ++ l) (pages-remap marks m)
 
   -- the same directory and its edit, over the marks
-  abbrev directoryA : DirectoryOf g imageA marks
+  abbrev pub directoryA : DirectoryOf g imageA marks
   directoryA = record { tree = iA; fit = sA .fits; stands = sA .holds; bytes = sA .areBytes; names = c .names; place = c .place; located = c .located }
 
-  abbrev editA : OneEdit directoryA
-  editA = record {
-    after = c .edit .after;
-    chain = c .edit .chain;
-    kept = c .edit .kept;
-    edit = c .edit .edit;
-    fits = c .edit .fits;
-    apart = rw (pages-remap marks m) (c .edit .apart);
-  }
+  pub apartA : Within (g .pages) (allPages (changeAt (c .names) (λ _. c .edit .after) (c .tree .tree)) ++ mapPages (remap marks (c .tree .map)))
+  apartA = rw (pages-remap marks m) (c .edit .apart)
+
+  abbrev pub editA : OneEdit directoryA
+  editA = record { after = c .edit .after; chain = c .edit .chain; kept = c .edit .kept; edit = c .edit .edit; fits = c .edit .fits; apart = apartA }
 
   abbrev pub control : List ℕ
   control = controlOf (g .width) marks (remap marks (c .tree .map)) (c .place .site)
@@ -214,6 +210,27 @@ module _ {g : Geometry} {image : List ℕ} (c : CarefulEdit g image) where
 
   abbrev pub new : List Link
   new = directoryLinks g control (c .edit .after)
+
+  -- ---- the rule's list in four parts: the marks, the new chain, the directory's pages, the bitmap of the pages then in use
+  size₁ : length bits₁ ≡ length marks
+  size₁ = length-bitmap (allPages t′ ++ mapPages m) 0 (mapSize g m) ∙ sym (marks-size ∙ length-bitmap (used i) 0 (mapSize g m))
+
+  twice : (k : Map) → MapHolds g bits₀ k → length marks ≡ length bits₀ → remap bits₁ (remap marks k) ≡ remap bits₁ k
+  twice inRoot h a = refl
+  twice (inFile ls) h a = ap inFile (refill-again ls marks bits₁ (a ∙ ap length (sym (h .1))))
+
+  bits-A : bits editA ≡ bits₁
+  bits-A = ap₂ (λ (us : List ℕ) (n : ℕ). bitmapFrom (allPages t′ ++ us) 0 n) (pages-remap marks m) (map-size g marks m)
+
+  pub four-parts : carefulWrites g (c .names) theEdit (c .tree) ≡ A ++ (linked (c .edit .chain) ++ (ws₂ editA ++ ws₃ editA))
+  unfolding carefulWrites editWrites
+  four-parts =
+      let release : mapWrites g (bitmapOf g (used after) (after .map)) (after .tree) (after .map) ≡ ws₃ editA =
+      ap (λ (b : List ℕ). mapWrites g b (after .tree) (after .map)) bits-after ∙ ap (λ (k : Image). mapWrites g bits₁ (k .tree) (k .map)) after-is
+      ∙ ap (mapWrites g bits₁ t′) (sym (twice m (c .well .holds .map) marks-size)) ∙ ap (λ (b : List ℕ). mapWrites g b t′ (remap b (remap marks m))) (sym bits-A) in
+      let turn : (c₀ : List ℕ) → c₀ ≡ control → backwards (changes (linked (directoryLinks g c₀ (c .place .items))) (linked (directoryLinks g c₀ (c .edit .after)))) ≡ ws₂ editA =
+      λ c₀ q. ap (λ (c₁ : List ℕ). backwards (changes (linked (directoryLinks g c₁ (c .place .items))) (linked (directoryLinks g c₁ (c .edit .after))))) q in
+      ap₂ (λ (us vs : List Write). A ++ (linked chain ++ (us ++ vs))) (turn (controlOf (g .width) marks m (c .place .site)) (sym (control-same (g .width) marks m (c .place .site)))) release
 
   -- ---- the directory's packets that differ
   no-zero : count 0 (pages new) ≤ count 0 (pages old)
@@ -319,9 +336,6 @@ module _ {g : Geometry} {image : List ℕ} (c : CarefulEdit g image) where
         after-writes-append g (A ++ B) (w ∷ []) image ∙ ap (afterWrites g (w ∷ [])) (after-writes-append g A B image ∙ after-writes-append g (linked chain) (backwards (linked fresh)) imageA)
         ∙ sym (ap (λ (ws : List Write). afterWrites g ws (afterWrites g (linked chain) imageA)) turn-is ∙ after-writes-append g (backwards (linked fresh)) (w ∷ []) (afterWrites g (linked chain) imageA))
 
-    size₁ : length bits₁ ≡ length marks
-    size₁ = length-bitmap (allPages t′ ++ mapPages m) 0 (mapSize g m) ∙ sym (marks-size ∙ length-bitmap (used i) 0 (mapSize g m))
-
     pub from-seen : (k : ℕ) → Left g (afterWrites g (take k C) imageS) t′ (mapPages (c .tree .map))
     from-seen k =
         let r = map-stop g imageS marks t′ (remap marks m) sS bits₁ size₁ (bytes-bitmap (allPages t′ ++ mapPages m) 0 (mapSize g m)) k in
@@ -357,10 +371,6 @@ module _ {g : Geometry} {image : List ℕ} (c : CarefulEdit g image) where
     -- all of it
     pub all-done : MarkedImage g (afterWrites g C imageS) bits₁ (record { tree = t′; map = remap bits₁ (remap marks m) })
     all-done = map-all g imageS marks t′ (remap marks m) sS bits₁ size₁ (bytes-bitmap (allPages t′ ++ mapPages m) 0 (mapSize g m))
-
-    twice : (k : Map) → MapHolds g bits₀ k → length marks ≡ length bits₀ → remap bits₁ (remap marks k) ≡ remap bits₁ k
-    twice inRoot h a = refl
-    twice (inFile ls) h a = ap inFile (refill-again ls marks bits₁ (a ∙ ap length (sym (h .1))))
 
     abbrev pub ws : List Write
     ws = editWrites g marks theEdit (c .tree) after

@@ -5,8 +5,15 @@ use Prim.Native.Nat.{ℕ, _≤_, _<_}
 use Rattle.geometry.specs.declared.Geometry.{Geometry}
 use Rattle.packet.specs.Packet.{View}
 use Rattle.rules.specs.Chain.{Link, pages}
+use Rattle.rules.specs.Paths.{Found, nothing, aFile, aDirectory}
 use Rattle.owners.specs.Owned.{freed}
 use Rattle.chain.specs.KnownChain.{ChainAt}
+
+-- the links of a file that was found; none of anything else
+abbrev pub linksOf : Found → List Link
+linksOf nothing = []
+linksOf (aFile l ls) = ls
+linksOf (aDirectory l d) = []
 
 -- the chain from a page on; none if the page is past the image
 pub record OldChain (g : Geometry) (v : View) (start : ℕ) (ls : List Link) : Type 0 where

@@ -214,7 +214,7 @@ module _ {g : Geometry} {image marks : List ℕ} {D : DirectoryOf g image marks}
   stays₂ x h = view-stays g ws₂ fits₂ image₁ fit₁ x (omega (arith, pages₂ x))
 
   -- a page that is neither the new chain's nor the directory's is as it was
-  stays : (x : ℕ) → count x (ownPages after) ≡ 0 → count x (pages chain) ≡ 0 → v₂ x ≡ viewOf g image x
+  pub stays : (x : ℕ) → count x (ownPages (E .after)) ≡ 0 → count x (pages (E .chain)) ≡ 0 → viewOf g image₂ x ≡ viewOf g image x
   stays x h k = stays₂ x h ∙ stays₁ x k
 
   -- the directory as it stands before its own pages are written

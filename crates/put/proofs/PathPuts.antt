@@ -17,7 +17,7 @@ use Rattle.rules.specs.Chain.{viewsOf, pages}
 use Rattle.rules.specs.Tree.{Image, used}
 use Rattle.rules.specs.Owners.{owners}
 use Rattle.rules.specs.Check.{check}
-use Rattle.rules.specs.Paths.{Target}
+use Rattle.rules.specs.Paths.{fileKey, find, Target}
 use Rattle.rules.specs.Put.{keptPages, putTarget, putEdit, plainEdit, put}
 use Rattle.owners.specs.Owned.{Represents}
 use Rattle.owners.specs.OwnerLaws.{represents-owners, represents-freed}
@@ -27,7 +27,7 @@ use Rattle.edit.specs.declared.NewFile.{NewFile}
 use Rattle.edit.specs.declared.Outcome.{Outcome}
 use Rattle.edit.specs.declared.Outcome.the-variants as outcome
 use Rattle.edit.specs.OutcomeLaws.{whole-done, whole-refused}
-use Rattle.edit.specs.OldChains.{HasOld, FreesOld}
+use Rattle.edit.specs.OldChains.{linksOf, HasOld, FreesOld}
 use Rattle.edit.specs.Plans.{PlainPutting, Outcomes, putWrites, PutsFile}
 use Rattle.rules.specs.declared.Edited.{Edited}
 use Rattle.rules.specs.declared.Edited.the-variants as edited
@@ -70,7 +70,7 @@ module _ (g : Geometry) (image table path bytes : List ℕ) (fit : Fit g image) 
       place = placed-as (placed.At f) e
 
       pub has-old : HasOld g (viewOf g image) (f .replaces)
-      has-old = record { links = place .links; old = place .old }
+      has-old = record { links = linksOf (find (fileKey (place .target .to)) (place .target .place .items)); old = place .old }
 
       module _ (u : List ℕ) (freed-old : FreesOld g (viewOf g image) (f .replaces) table u) where
         pub to-put : PlainPutting g image u bytes f
@@ -84,9 +84,9 @@ module _ (g : Geometry) (image table path bytes : List ℕ) (fit : Fit g image) 
                 asked = a;
                 at = place .at;
                 inUse = k;
-                represents = subst (λ (t : List ℕ). Represents t k) (sym (freed-old (place .links) (place .old)))
-                    (represents-freed table (used tree) k (pages (place .links)) (table-used (place .target) (place .reached))
-                    (λ x. omega (arith, kept-old g image path bytes a x, ap (count x) (place .found))));
+                represents = subst (λ (t : List ℕ). Represents t k) (sym (freed-old _ (place .old)))
+                    (represents-freed table (used tree) k (pages (linksOf (find (fileKey (place .target .to)) (place .target .place .items)))) (table-used (place .target) (place .reached))
+                    (λ x. omega (arith, kept-old g image path bytes a x, ap (count x) (place .pages-are))));
                 clear = free-clear g image path bytes a;
               };
               exact = refl;

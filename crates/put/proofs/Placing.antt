@@ -134,9 +134,8 @@ module _ (g : Geometry) (image path : List ℕ) (i : Image) (s : Slot) (e : Entr
       };
       in-new-page = λ z. absurd (omega (arith, z));
     };
-    links = links;
-    found = ap chainPages found;
-    old = record { chain = λ _. chain; none = λ z. absurd (omega (arith, z, chain-inside g (viewOf g image) (e .start) links chain)) };
+    old = rw found (record { chain = λ _. chain; none = λ z. absurd (omega (arith, z, chain-inside g (viewOf g image) (e .start) links chain)) });
+    pages-are = rw found refl;
   }
 
 -- ---- by path: each refusal in its place
@@ -166,9 +165,8 @@ module _ (g : Geometry) (image path : List ℕ) (r : PathLookup) (look : Looks g
       target = gap .target;
       reached = put-target-is path (i .tree) (gap .target) (gap .reached) (ap writable (gap .absent) ∙ may-write);
       at = n .at (gap .target .to) (gap .target .place .items) (gap .name-is) (gap .extension-is) (gap .tree) (gap .absent);
-      links = [];
-      found = ap chainPages (gap .absent);
-      old = record { chain = λ z. absurd (omega (arith, z, n .fresh)); none = λ _. refl };
+      old = rw (gap .absent) (record { chain = λ z. absurd (omega (arith, z, n .fresh)); none = λ _. refl });
+      pages-are = rw (gap .absent) refl;
     }
 
   module _ (s : Slot) (e : Entry) (q : r ≡ lookup.At s e) where

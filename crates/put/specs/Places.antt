@@ -6,7 +6,7 @@ use Rattle.geometry.specs.declared.Geometry.{Geometry}
 use Rattle.packet.specs.Packet.{viewOf}
 use Rattle.packet.specs.declared.Budget.{Budget}
 use Rattle.rules.specs.Result.{ok, err, andThen}
-use Rattle.rules.specs.Chain.{viewsOf, Link, pages}
+use Rattle.rules.specs.Chain.{viewsOf, pages}
 use Rattle.rules.specs.Tree.{Items, Image}
 use Rattle.rules.specs.Check.{check}
 use Rattle.rules.specs.Paths.{Path, fileKey, nothing, find, Target}
@@ -15,7 +15,7 @@ use Rattle.rules.specs.Candidate.{chainPages}
 use Rattle.lookup.specs.Searches.{TreeAt}
 use Rattle.edit.specs.declared.NewFile.{NewFile}
 use Rattle.edit.specs.declared.Outcome.{Outcome}
-use Rattle.edit.specs.OldChains.{OldChain}
+use Rattle.edit.specs.OldChains.{linksOf, OldChain}
 use Rattle.edit.specs.Plans.{EntryPlace, Outcomes, putWrites}
 use Rattle.put.specs.declared.Placed.{Placed}
 use Rattle.put.specs.declared.Placed.the-variants as placed
@@ -31,9 +31,8 @@ module _ (g : Geometry) (image path : List ℕ) (i : Image) where
     pub target : Target
     pub reached : putTarget path (i .tree) ≡ ok target
     pub at : EntryPlace g image (target .to) (target .place .items) f
-    pub links : List Link
-    pub found : chainPages (find (fileKey (target .to)) (target .place .items)) ≡ pages links
-    pub old : OldChain g (viewOf g image) (f .replaces) links
+    pub old : OldChain g (viewOf g image) (f .replaces) (linksOf (find (fileKey (target .to)) (target .place .items)))
+    pub pages-are : chainPages (find (fileKey (target .to)) (target .place .items)) ≡ pages (linksOf (find (fileKey (target .to)) (target .place .items)))
 
   abbrev pub IsPlaced : Placed → Type 0
   IsPlaced (placed.At f) = FilePlace f
