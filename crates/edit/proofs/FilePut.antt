@@ -50,7 +50,7 @@ use Rattle.edit.specs.Pages.{PagesTaken, TakenIs, Takes}
 use Rattle.edit.specs.Entering.{Exchanges, Joins, Entering}
 use Rattle.edit.specs.FilePlans.{full, T′, theEdit, edit-is, plan-of, carried-is, left-then}
 use Rattle.edit.specs.StepLaws.{step₁, step₂, step₃, whole-is, stopped₁, stopped₂, open₂, fit-then, has-root, map-is}
-use Rattle.edit.specs.Plans.{Plan, Putting, PlainPutting, Outcomes, putWrites}
+use Rattle.edit.specs.Plans.{changeOf, entryOf, Plan, Putting, PlainPutting, Outcomes, putWrites}
 
 module _ (g : Geometry) (image table bytes : List ℕ) (sized : length table ≡ g .pages) (f : NewFile) (Q : PlainPutting g image table bytes f) where
   abbrev P : Putting g image table bytes f
@@ -74,7 +74,7 @@ module _ (g : Geometry) (image table bytes : List ℕ) (sized : length table ≡
     abbrev E : OneEdit (laws.directory g image (Q .putting .path) bytes (Q .putting .asked))
     E = theEdit g image table bytes sized f (Q .putting) n-is T m
 
-    pub plan-is : Plan g image table bytes (record { slot = f .slot; first = f .first; last = f .last; joins = p .joins }) (record { name = f .name; extension = f .extension; start = p .start; pages = n })
+    pub plan-is : Plan g image table bytes (changeOf f p) (entryOf f p n)
     plan-is = plan-of g image table bytes sized f P n-is T m E (record { items-are = refl; after-is = refl; chain-same = refl })
 
     -- ---- the page writes

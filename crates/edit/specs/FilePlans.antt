@@ -50,7 +50,7 @@ use Rattle.edit.specs.Pages.{PagesTaken, TakenIs, Takes}
 use Rattle.edit.specs.Entering.{Exchanges, Joins, Entering}
 use Rattle.edit.specs.ExchangeLaws.{pointer-is}
 use Rattle.edit.specs.StepLaws.{step₁, step₂, step₃, whole-is, stopped₁, stopped₂, open₂, fit-then, has-root, map-is}
-use Rattle.edit.specs.Plans.{Plan, Putting, PlainPutting, Outcomes, putWrites}
+use Rattle.edit.specs.Plans.{changeOf, entryOf, Plan, Putting, PlainPutting, Outcomes, putWrites}
 
 -- ---- the pages of a directory by its tokens
 abbrev tokenPages : List Token → List ℕ
@@ -124,10 +124,10 @@ module _ (g : Geometry) (image table bytes : List ℕ) (sized : length table ≡
     chain = laws.chain g image (P .path) bytes (P .asked) free
 
     abbrev pub change : Change
-    change = record { slot = f .slot; first = f .first; last = f .last; joins = p .joins }
+    change = changeOf f p
 
     abbrev pub e : Entry
-    e = record { name = f .name; extension = f .extension; start = p .start; pages = n }
+    e = entryOf f p n
 
     -- the chain that the code stores
     chain-is : chain ≡ chainOf (dataCapacity g) (take wanted (freeFrom (P .inUse) (p .start) (g .pages))) bytes

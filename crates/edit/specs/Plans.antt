@@ -26,11 +26,19 @@ use Rattle.editing_theorems.specs.EditedImage.{DirectoryOf, OneEdit, left}
 use Rattle.entries.specs.declared.Slot.{Slot}
 use Rattle.writes.specs.declared.Change.{Change}
 use Rattle.writes.specs.Stores.{chosen}
+use Rattle.edit.specs.declared.Pages.{Pages}
 use Rattle.edit.specs.declared.NewFile.{NewFile}
 use Rattle.edit.specs.declared.Outcome.{Outcome}
 use Rattle.edit.specs.declared.Outcome.the-variants as outcome
 use Rattle.edit.specs.Entering.{Entering}
 use Rattle.edit.specs.StepLaws.{step₂, step₃}
+
+-- the change of its directory's pages that puts a file, and the file's entry, for the pages found
+abbrev pub changeOf : NewFile → Pages → Change
+changeOf f p = record { slot = f .slot; first = f .first; last = f .last; joins = p .joins }
+
+abbrev pub entryOf : NewFile → Pages → ℕ → Entry
+entryOf f p n = record { name = f .name; extension = f .extension; start = p .start; pages = n }
 
 -- an edit of a directory of the image whose new chain has the bytes in the lowest free pages from the entry's start page on, and the change that enters the entry
 pub record Plan (g : Geometry) (image table bytes : List ℕ) (c : Change) (e : Entry) : Type 0 where

@@ -14,7 +14,7 @@ ghost use Rattle.packet.specs.Packet.{viewOf};
 ghost use Rattle.packet.specs.Budgets.{Open};
 ghost use Rattle.edit.specs.Pages.{Takes};
 ghost use Rattle.edit.specs.OldChains.{HasOld, FreesOld};
-ghost use Rattle.edit.specs.Plans.{Plan, Carries, Removal, RemovesEntry, PlainPutting, PutsFile};
+ghost use Rattle.edit.specs.Plans.{changeOf, entryOf, Plan, Carries, Removal, RemovesEntry, PlainPutting, PutsFile};
 
 // The pages that an edit takes, all of them free: one that joins the directory, 0 if none does; the start page of a new chain; and a bound below which they lie.
 pub struct Pages {
@@ -108,6 +108,37 @@ pub fn put_chain(
     writes::change_pages(image, g, change, &entry[..width], stored)
 }
 
+// Stores a file's bytes in the pages found, then writes its entry.
+pub fn put_entry(
+    image: &mut [u8],
+    g: Geometry,
+    file: NewFile,
+    taken: Pages,
+    pages: usize,
+    bytes: &[u8],
+    table: &[u16],
+    budget: Budget,
+) -> Budget
+    requires { ⌜ Fit g (now image) ⌝ }
+    requires { ⌜ (length (now table) ≡ g .pages) × Plan g (now image) (now table) (now bytes) (changeOf file taken) (entryOf file taken pages) × Open budget ⌝ }
+    ensures { λ r. ⌜ Carries g (now (image .entry)) (now (table .entry)) (now (bytes .entry)) (changeOf file taken) (entryOf file taken pages) budget (now (image .exit)) r ⌝ }
+{
+    let slot = file.slot;
+    let change = Change {
+        slot,
+        first: file.first,
+        last: file.last,
+        joins: taken.joins,
+    };
+    let e = Entry {
+        name: file.name,
+        extension: file.extension,
+        start: taken.start,
+        pages,
+    };
+    put_chain(image, g, change, e, bytes, table, budget)
+}
+
 // Puts a file: its chain in the lowest free pages, its entry, the bitmap. The table has the pages that must not be taken. 17.
 pub fn put_file(
     image: &mut [u8],
@@ -125,20 +156,7 @@ pub fn put_file(
     match find_pages(table, file.extra, pages) {
         Taken::Full => Outcome::Refused(17, 0),
         Taken::At(taken) => {
-            let slot = file.slot;
-            let change = Change {
-                slot,
-                first: file.first,
-                last: file.last,
-                joins: taken.joins,
-            };
-            let e = Entry {
-                name: file.name,
-                extension: file.extension,
-                start: taken.start,
-                pages,
-            };
-            let changed = put_chain(image, g, change, e, bytes, table, budget);
+            let changed = put_entry(image, g, file, taken, pages, bytes, table, budget);
             if changed.stopped {
                 return Outcome::Done(changed);
             }

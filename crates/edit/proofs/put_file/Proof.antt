@@ -31,9 +31,9 @@ find-pages-requires c κs =
     let x = one-extra (a .g) (a .image .now) (a .table .now) (a .bytes .now) (p .1 .0) (a .file) (p .1 .1 .putting) in
     (x, omega (arith, n), omega (arith, n, pages-fit (a .g) (p .0 .valid) (length (a .bytes .now)) (a .file .extra) (omega arith) x))
 
-put-chain-requires : tie.Need-put-chain-requires
-put-chain-requires c κs =
-    let at-taken = c .before .before .before in
+put-entry-requires : tie.Need-put-entry-requires
+put-entry-requires c κs =
+    let at-taken = c .before .before in
     let at-find-pages = at-taken .before .before in
     let at-pages-for = at-find-pages .before in
     let at-data-capacity = at-pages-for .before in
@@ -45,8 +45,8 @@ put-chain-requires c κs =
 
 returns : tie.Need-returns
 returns c =
-    let at-put-chain = c .before .before .before in
-    let at-taken = at-put-chain .before .before .before .before in
+    let at-put-entry = c .before .before .before in
+    let at-taken = at-put-entry .before .before .before in
     let at-find-pages = at-taken .before .before in
     let at-pages-for = at-find-pages .before in
     let at-data-capacity = at-pages-for .before in
@@ -55,14 +55,14 @@ returns c =
     let p = start .pre .1 in
     let n = at-pages-for .pages-for .ensures ∙ ap (λ (x : ℕ). pagesFor x (length (a .bytes .now))) (at-data-capacity .data-capacity .ensures) in
     λ P.
-    let h = at-put-chain .put-chain .ensures (plan-is (a .g) (a .image .now) (a .table .now) (a .bytes .now) (p .0) (a .file) P n (at-find-pages .find-pages .ensures) (at-taken .taken .given .1)) in
+    let h = at-put-entry .put-entry .ensures (plan-is (a .g) (a .image .now) (a .table .now) (a .bytes .now) (p .0) (a .file) P n (at-find-pages .find-pages .ensures) (at-taken .taken .given .1)) in
     put-stop (a .g) (a .image .now) (a .table .now) (a .bytes .now) (p .0) (a .file) P n (at-find-pages .find-pages .ensures) (at-taken .taken .given .1) (a .budget) (p .2) _ _ h (c .if1 .taken)
 
 write-map-requires : tie.Need-write-map-requires
 write-map-requires c κs =
     let at-if1 = c .before in
-    let at-put-chain = at-if1 .before .before .before in
-    let at-taken = at-put-chain .before .before .before .before in
+    let at-put-entry = at-if1 .before .before .before in
+    let at-taken = at-put-entry .before .before .before in
     let at-find-pages = at-taken .before .before in
     let at-pages-for = at-find-pages .before in
     let at-data-capacity = at-pages-for .before in
@@ -70,7 +70,7 @@ write-map-requires c κs =
     let a = start .args in
     let p = start .pre .1 in
     let n = at-pages-for .pages-for .ensures ∙ ap (λ (x : ℕ). pagesFor x (length (a .bytes .now))) (at-data-capacity .data-capacity .ensures) in
-    let h = at-put-chain .put-chain .ensures (plan-is (a .g) (a .image .now) (a .table .now) (a .bytes .now) (p .0) (a .file) (p .1) n (at-find-pages .find-pages .ensures) (at-taken .taken .given .1)) in
+    let h = at-put-entry .put-entry .ensures (plan-is (a .g) (a .image .now) (a .table .now) (a .bytes .now) (p .0) (a .file) (p .1) n (at-find-pages .find-pages .ensures) (at-taken .taken .given .1)) in
     let k = put-fit (a .g) (a .image .now) (a .table .now) (a .bytes .now) (p .0) (a .file) (p .1) n (at-find-pages .find-pages .ensures) (at-taken .taken .given .1) (a .budget) (p .2) _ _ h (at-if1 .if1 .left) in
     (k .0, (k .1, at-if1 .if1 .left))
 
@@ -88,8 +88,8 @@ returns-3 : tie.Need-returns-3
 returns-3 c =
     let at-write-map = c .before .before in
     let at-if1 = at-write-map .before .before in
-    let at-put-chain = at-if1 .before .before .before in
-    let at-taken = at-put-chain .before .before .before .before in
+    let at-put-entry = at-if1 .before .before .before in
+    let at-taken = at-put-entry .before .before .before in
     let at-find-pages = at-taken .before .before in
     let at-pages-for = at-find-pages .before in
     let at-data-capacity = at-pages-for .before in
@@ -98,12 +98,12 @@ returns-3 c =
     let p = start .pre .1 in
     let n = at-pages-for .pages-for .ensures ∙ ap (λ (x : ℕ). pagesFor x (length (a .bytes .now))) (at-data-capacity .data-capacity .ensures) in
     λ P.
-    let h = at-put-chain .put-chain .ensures (plan-is (a .g) (a .image .now) (a .table .now) (a .bytes .now) (p .0) (a .file) P n (at-find-pages .find-pages .ensures) (at-taken .taken .given .1)) in
+    let h = at-put-entry .put-entry .ensures (plan-is (a .g) (a .image .now) (a .table .now) (a .bytes .now) (p .0) (a .file) P n (at-find-pages .find-pages .ensures) (at-taken .taken .given .1)) in
     put-done (a .g) (a .image .now) (a .table .now) (a .bytes .now) (p .0) (a .file) P n (at-find-pages .find-pages .ensures) (at-taken .taken .given .1)
     (a .budget) (p .2) _ _ h (at-if1 .if1 .left) _ _ (at-write-map .write-map .ensures)
 
 pub put-file-spec : {M : Type 1} → statement M
 put-file-spec =
     tie.close
-    (tie.spec data-capacity-requires pages-for-requires find-pages-requires (λ c. search needs) (λ c. search needs) put-chain-requires (λ c. search needs) returns
+    (tie.spec data-capacity-requires pages-for-requires find-pages-requires (λ c. search needs) (λ c. search needs) put-entry-requires (λ c. search needs) returns
     write-map-requires returns-2 (λ c. search needs) returns-3)
