@@ -49,7 +49,7 @@ use Rattle.edit.specs.declared.Outcome.the-variants as outcome
 use Rattle.edit.specs.Pages.{PagesTaken, TakenIs, Takes}
 use Rattle.edit.specs.Entering.{Exchanges, Joins, Entering}
 use Rattle.edit.specs.FilePlans.{full, T′, theEdit, edit-is, plan-of, carried-is, left-then}
-use Rattle.edit.specs.StepLaws.{step₁, step₂, step₃, whole-is, stopped₁, stopped₂, open₂, fit-then, has-root, map-is}
+use Rattle.edit.specs.StepLaws.{step₂, step₃, whole-is, two-stopped, two-open, fit-then, has-root, map-is}
 use Rattle.edit.specs.Plans.{changeOf, entryOf, Plan, Putting, PlainPutting, Outcomes, putWrites}
 
 module _ (g : Geometry) (image table bytes : List ℕ) (sized : length table ≡ g .pages) (f : NewFile) (Q : PlainPutting g image table bytes f) where
@@ -98,27 +98,13 @@ module _ (g : Geometry) (image table bytes : List ℕ) (sized : length table ≡
         unfolding plan-is
         h = carried-is g image table bytes sized f P n-is T m E (record { items-are = refl; after-is = refl; chain-same = refl }) budget _ carried
 
-        stopped-is : (t : Bool) → rest .stopped ≡ t → step₂ E budget .budget .stopped ≡ t
-        stopped-is t z = ap (λ (x : Progress). x .budget .stopped) (sym h) ∙ z
-
-        open-first : rest .stopped ≡ false → Open (step₁ E budget .budget)
-        open-first z = by (step₁ E budget .budget .stopped) refl
-          where
-            by : (t : Bool) → step₁ E budget .budget .stopped ≡ t → step₁ E budget .budget .stopped ≡ false
-            by false q = q
-            by true q = absurd (false≢true (sym (stopped-is false z) ∙ ap (λ (x : Progress). x .budget .stopped) (stopped₁ E budget o q .0) ∙ q))
-
         -- a write was held back
         pub put-stop : rest .stopped ≡ true → Outcomes g writes image budget mid (outcome.Done rest)
-        put-stop z = done (record { image = mid; budget = rest }) (h ∙ sym (by (step₁ E budget .budget .stopped) refl))
-          where
-            by : (t : Bool) → step₁ E budget .budget .stopped ≡ t → step₃ E budget ≡ step₂ E budget
-            by true q = let s = stopped₁ E budget o q in s .1 ∙ sym (s .0)
-            by false q = stopped₂ E budget o q (stopped-is true z)
+        put-stop z = done (record { image = mid; budget = rest }) (two-stopped E budget o mid rest h z)
 
         module _ (z : rest .stopped ≡ false) where
           image-is : mid ≡ es.image₂ E
-          image-is = ap (λ (x : Progress). x .image) h ∙ open₂ E budget o (open-first z) (stopped-is false z)
+          image-is = two-open E budget o mid rest h z
 
           pub put-fit : Fit g mid × HasRoot g (viewOf g mid)
           put-fit = (fit-then E mid image-is, has-root E mid image-is)

@@ -18,7 +18,7 @@ use Rattle.writes.specs.declared.Change.{Change}
 use Rattle.writes.specs.Changes.{CanChange, Changes}
 use Rattle.edit.specs.Plans.{Removal}
 use Rattle.edit.specs.ChangeLaws.{can-change, changed-is}
-use Rattle.edit.specs.StepLaws.{step₁, step₂, step₃, stopped₂, open₂, fit-then, has-root, map-is}
+use Rattle.edit.specs.StepLaws.{step₁, step₂, step₃, two-stopped, two-open, fit-then, has-root, map-is}
 
 module _ (g : Geometry) (image table : List ℕ) (s : Slot) (budget : Budget) (o : Open budget) (R : Removal g image table s) where
   abbrev change : Change
@@ -41,15 +41,12 @@ module _ (g : Geometry) (image table : List ℕ) (s : Slot) (budget : Budget) (o
     changed = changed-is (R .edit) change [] (R .entering) (record { image = image; budget = budget }) (record { image = mid; budget = rest }) same-image h
         ∙ ap (writeAll g (es.ws₂ (R .edit))) (sym same-start)
 
-    open-first : Open (step₁ (R .edit) budget .budget)
-    open-first = ap (λ (x : Progress). x .budget .stopped) same-start ∙ o
-
     pub remove-stop : rest .stopped ≡ true → _≡_ {A = Progress} (record { image = mid; budget = rest }) (step₃ (R .edit) budget)
-    remove-stop z = changed ∙ sym (stopped₂ (R .edit) budget o open-first (ap (λ (x : Progress). x .budget .stopped) (sym changed) ∙ z))
+    remove-stop z = two-stopped (R .edit) budget o mid rest changed z
 
     module _ (z : rest .stopped ≡ false) where
       image-is : mid ≡ es.image₂ (R .edit)
-      image-is = ap (λ (x : Progress). x .image) changed ∙ open₂ (R .edit) budget o open-first (ap (λ (x : Progress). x .budget .stopped) (sym changed) ∙ z)
+      image-is = two-open (R .edit) budget o mid rest changed z
 
       pub remove-fit : Fit g mid × HasRoot g (viewOf g mid)
       remove-fit = (fit-then (R .edit) mid image-is, has-root (R .edit) mid image-is)

@@ -49,7 +49,7 @@ use Rattle.edit.specs.declared.Outcome.the-variants as outcome
 use Rattle.edit.specs.Pages.{PagesTaken, TakenIs, Takes}
 use Rattle.edit.specs.Entering.{Exchanges, Joins, Entering}
 use Rattle.edit.specs.ExchangeLaws.{pointer-is}
-use Rattle.edit.specs.StepLaws.{step₁, step₂, step₃, whole-is, stopped₁, stopped₂, open₂, fit-then, has-root, map-is}
+use Rattle.edit.specs.StepLaws.{step₂}
 use Rattle.edit.specs.Plans.{changeOf, entryOf, Plan, Putting, PlainPutting, Outcomes, putWrites}
 
 -- ---- the pages of a directory by its tokens

@@ -1,6 +1,6 @@
 -- An edit within a budget, in steps: the new chain's pages, the directory's pages, the bitmap's pages. Each step starts from what the one before leaves, unless a write was held back.
 use mathlib.Core.Path.{_≡_, refl, ap, sym, _∙_, subst}
-use mathlib.Core.Bool.{true, false}
+use mathlib.Core.Bool.{Bool, true, false, false≢true}
 use mathlib.Core.List.{List, _++_}
 use Prim.Native.Nat.{ℕ}
 use native.Mathlib.Omega.{arith}
@@ -68,6 +68,29 @@ module _ {g : Geometry} {image marks : List ℕ} {D : DirectoryOf g image marks}
       open₂ y =
           let e = open₁ z in
           all-open g (es.ws₂ E) (es.fits₂ E) step₁ (subst (Fit g) (sym e) (es.fit₁ E)) (subst Bytes (sym e) (es.bytes₁ E)) z y ∙ ap (afterWrites g (es.ws₂ E)) e
+
+-- ---- after two steps: stopped, they are all there is; else the image is that of the chain and the directory written
+module _ {g : Geometry} {image marks : List ℕ} {D : DirectoryOf g image marks} (E : OneEdit D) (b : Budget) (o : Open b) (mid : List ℕ) (rest : Budget)
+    (h : _≡_ {A = Progress} (record { image = mid; budget = rest }) (step₂ E b)) where
+  stopped-is : (t : Bool) → rest .stopped ≡ t → step₂ E b .budget .stopped ≡ t
+  stopped-is t z = ap (λ (x : Progress). x .budget .stopped) (sym h) ∙ z
+
+  open-first : rest .stopped ≡ false → Open (step₁ E b .budget)
+  open-first z = by (step₁ E b .budget .stopped) refl
+    where
+      by : (t : Bool) → step₁ E b .budget .stopped ≡ t → step₁ E b .budget .stopped ≡ false
+      by false q = q
+      by true q = absurd (false≢true (sym (stopped-is false z) ∙ ap (λ (x : Progress). x .budget .stopped) (stopped₁ E b o q .0) ∙ q))
+
+  pub two-stopped : rest .stopped ≡ true → _≡_ {A = Progress} (record { image = mid; budget = rest }) (step₃ E b)
+  two-stopped z = h ∙ sym (by (step₁ E b .budget .stopped) refl)
+    where
+      by : (t : Bool) → step₁ E b .budget .stopped ≡ t → step₃ E b ≡ step₂ E b
+      by true q = let s = stopped₁ E b o q in s .1 ∙ sym (s .0)
+      by false q = stopped₂ E b o q (stopped-is true z)
+
+  pub two-open : rest .stopped ≡ false → mid ≡ es.image₂ E
+  two-open z = ap (λ (x : Progress). x .image) h ∙ open₂ E b o (open-first z) (stopped-is false z)
 
 -- ---- the bitmap
 module _ {g : Geometry} {image marks : List ℕ} {D : DirectoryOf g image marks} (E : OneEdit D) where

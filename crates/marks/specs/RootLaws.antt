@@ -5,16 +5,16 @@ use Prim.Native.Nat.{ℕ, _≤_}
 use native.Mathlib.Omega.{arith}
 use lib.ListN.{length}
 use Rattle.geometry.specs.declared.Geometry.{Geometry}
-use Rattle.packet.specs.Packet.{View}
+use Rattle.packet.specs.Packet.{View, viewOf}
 use Rattle.rules.specs.PageSets.{hit, count, Within}
-use Rattle.rules.specs.PageSetLaws.{hit-same, range-le, range-of, within-length}
-use Rattle.rules.specs.Chain.{pages}
+use Rattle.rules.specs.PageSetLaws.{hit-same, count-append, range-le, range-of, within-length}
+use Rattle.rules.specs.Chain.{viewsOf, pages}
 use Rattle.rules.specs.ChainLaws.{length-pages}
-use Rattle.rules.specs.Tree.{Items, end, page, file, dir, startOf, allPages, Map, inRoot, inFile, mapPages}
+use Rattle.rules.specs.Tree.{Items, end, page, file, dir, startOf, allPages, Map, inRoot, inFile, mapPages, Image}
 use Rattle.rules.specs.Bitmap.{mapSize}
-use Rattle.rules.specs.WellFormed.{HasPackets, mapPackets, IsDirectory, MapHolds}
+use Rattle.rules.specs.WellFormed.{HasPackets, mapPackets, IsDirectory, MapHolds, WellFormedWith}
 use Rattle.reading_theorems.specs.Directory.{rest-zero}
-use Rattle.marks.specs.MapPages.{MapAt}
+use Rattle.marks.specs.MapPages.{MapAt, RootHeld}
 
 -- page 0 is the root's
 pub zero-taken : (t : Items) → IsDirectory t → startOf t ≡ 0 → 1 ≤ count 0 (allPages t)
@@ -40,3 +40,15 @@ module _ (g : Geometry) (v : View) (bits : List ℕ) where
     },
     ap length (h .1) ∙ r,
   )
+
+-- of an image that stands with any bitmap bytes
+pub root-held : (g : Geometry) (image bits : List ℕ) (i : Image) → WellFormedWith g (viewsOf g image) bits i → RootHeld g (viewOf g image) bits (i .tree) (i .map)
+root-held g image bits i w = record {
+  isDirectory = w .isDirectory;
+  atZero = w .atZero;
+  room = w .room;
+  chain = w .packets .own;
+  map = map-holds g (viewOf g image) bits (i .map) (w .map) (w .room) (w .packets .map)
+      (omega (arith, w .apart 0, range-le 0 (g .pages), zero-taken (i .tree) (w .isDirectory) (w .atZero), count-append 0 (allPages (i .tree)) (mapPages (i .map))))
+      (λ x. omega (arith, w .apart x, count-append x (allPages (i .tree)) (mapPages (i .map))));
+}
