@@ -44,7 +44,7 @@ replace-change g k new (page p t) i control = touch-page (g .width) control p t 
 replace-change g k new (file m ls t) i control = absurd i
 replace-change g k new (dir m d t) i control = absurd i
 
-put-change : (g : Geometry) (l : Label) (q : ℕ) (new : List Link) (d : Items) → IsDirectory d → (control : List ℕ) → Change (directoryLinks g control d) (directoryLinks g control (itemsAfter g l q new d))
+pub put-change : (g : Geometry) (l : Label) (q : ℕ) (new : List Link) (d : Items) → IsDirectory d → (control : List ℕ) → Change (directoryLinks g control d) (directoryLinks g control (itemsAfter g l q new d))
 put-change g l q new d i control = elim (eq-zero-or-pos (count (keyOf l) (keys d))) [
   | inl z ↦ rw (after-new g l q new d z) (insert-change g l new q d i control)
   | inr z ↦ rw (after-old g l q new d z) (replace-change g (keyOf l) new d i control)
@@ -75,14 +75,14 @@ module _ (g : Geometry) (image path bytes : List ℕ) (a : Asked g image path by
     abbrev e : Items
     e = after g image path bytes a spare
 
-    chain-free : (x : ℕ) → 1 ≤ count x (used (a .tree)) → count x (pages new) ≡ 0
+    pub chain-free : (x : ℕ) → 1 ≤ count x (used (a .tree)) → count x (pages (chain g image path bytes a (freePages (used (a .tree)) (g .pages)))) ≡ 0
     chain-free x j = omega (arith, taken g image path bytes a spare clear room x, no-spare x j)
 
-    joins-free : (x : ℕ) → 1 ≤ count x (used (a .tree)) → count x (ownPages e) ≤ count x (ownPages (a .place .items))
+    pub joins-free : (x : ℕ) → 1 ≤ count x (used (a .tree)) → count x (ownPages (after g image path bytes a (freePages (used (a .tree)) (g .pages)))) ≤ count x (ownPages (a .place .items))
     joins-free x j = omega (arith, own-then g image path bytes a spare clear room x, taken g image path bytes a spare clear room x, no-spare x j)
 
     -- a page of the new chain was free, so the tree is another one
-    differs : a .tree .tree ≡ filledAll (located g image path bytes a .contexts) e → ⊥
+    pub differs : a .tree .tree ≡ filledAll (located g image path bytes a .contexts) (after g image path bytes a (freePages (used (a .tree)) (g .pages))) → ⊥
     differs q =
         let s = some-page new (omega (arith, length-chain g image path bytes a spare clear room)) in
         let x = s .0 in
@@ -95,7 +95,7 @@ module _ (g : Geometry) (image path bytes : List ℕ) (a : Asked g image path by
           ap (λ (t : Items). count x (allPages t ++ mapPages (a .tree .map))) (q ∙ sym (located g image path bytes a .change (λ _. e))),
         )
 
-    careful-edit : CarefulEdit g image
+    abbrev pub careful-edit : CarefulEdit g image
     careful-edit = record {
       tree = a .tree;
       well = a .well;
@@ -103,10 +103,10 @@ module _ (g : Geometry) (image path bytes : List ℕ) (a : Asked g image path by
       names = a .to .directories;
       place = a .place;
       located = located g image path bytes a;
-      edit = one-edit g image path bytes a spare clear room;
+      edit = one-edit g image path bytes a (freePages (used (a .tree)) (g .pages)) clear room;
       chainFree = chain-free;
       joinsFree = joins-free;
-      change = put-change g (label g image path bytes a) (getD spare 0 0) new (a .place .items) (here-shaped g image path bytes a .isDirectory);
+      change = put-change g (label g image path bytes a) (getD (freePages (used (a .tree)) (g .pages)) 0 0) (chain g image path bytes a (freePages (used (a .tree)) (g .pages))) (a .place .items) (here-shaped g image path bytes a .isDirectory);
       differs = differs;
     }
 
@@ -114,7 +114,6 @@ module _ (g : Geometry) (image path bytes : List ℕ) (a : Asked g image path by
     stopped k = haltedAt g k (carefulWrites g (a .to .directories) (theEdit g image path bytes a (freePages (used (a .tree)) (g .pages))) (a .tree)) image
 
     pub careful-put-leaves : (k : ℕ) → CarefullyPut g k path bytes image (stopped k .answer) (stopped k .image)
-    unfolding careful-edit
     careful-put-leaves k = record {
       at = path-in g image path bytes a;
       edit = theEdit g image path bytes a spare;

@@ -52,51 +52,40 @@ use Rattle.edit.specs.FilePlans.{full, T′, theEdit, edit-is, plan-of, 
 use Rattle.edit.specs.StepLaws.{step₂, step₃, whole-is, two-stopped, two-open, fit-then, has-root, map-is}
 use Rattle.edit.specs.Plans.{changeOf, entryOf, Plan, Putting, PlainPutting, Outcomes, putWrites}
 
-module _ (g : Geometry) (image table bytes : List ℕ) (sized : length table ≡ g .pages) (f : NewFile) (Q : PlainPutting g image table bytes f) where
-  abbrev P : Putting g image table bytes f
-  P = Q .putting
-
-  abbrev a : Asked g image (Q .putting .path) bytes
-  a = Q .putting .asked
+module _ (g : Geometry) (image table bytes : List ℕ) (sized : length table ≡ g .pages) (f : NewFile) (P : PlainPutting g image table bytes f) where
+  abbrev a : Asked g image (P .path) bytes
+  a = P .asked
 
   abbrev writes : Res (List Write)
-  writes = putWrites g bytes (Q .putting .asked .tree) (record { to = Q .putting .asked .to; place = Q .putting .asked .place })
-
-  -- the rule's plan, with the free pages of the table
-  planned : (r : Res Edit) → putEdit g (freePages (P .inUse) (g .pages)) (a .to) bytes (a .place) ≡ r → putEdit g (freePages (keptPages (a .to) (a .tree)) (g .pages)) (a .to) bytes (a .place) ≡ r
-  planned r e = ap (λ (us : List ℕ). putEdit g (freePages us (g .pages)) (a .to) bytes (a .place)) (sym (Q .exact)) ∙ e
+  writes = putWrites g bytes (P .asked .tree) (record { to = P .asked .to; place = P .asked .place })
 
   pub put-full : (n : ℕ) → n ≡ pagesFor (dataCapacity g) (length bytes) → (r : Taken) → Takes table (f .extra) n r → r ≡ took.Full → (budget : Budget)
-      → Outcomes g (putWrites g bytes (Q .putting .asked .tree) (record { to = Q .putting .asked .to; place = Q .putting .asked .place })) image budget image (outcome.Refused 17 0)
-  put-full n e r T m budget = (simp (planned (err 17 0) (full g image table bytes sized f P n e r T m), then-err), refl)
+      → Outcomes g (putWrites g bytes (P .asked .tree) (record { to = P .asked .to; place = P .asked .place })) image budget image (outcome.Refused 17 0)
+  put-full n e r T m budget = (simp (full sized P n e r T m, then-err), refl)
 
   module _ {n : ℕ} (n-is : n ≡ pagesFor (dataCapacity g) (length bytes)) {r : Taken} (T : Takes table (f .extra) n r) {p : Pages} (m : r ≡ took.At p) where
-    abbrev E : OneEdit (laws.directory g image (Q .putting .path) bytes (Q .putting .asked))
-    E = theEdit g image table bytes sized f (Q .putting) n-is T m
+    abbrev E : OneEdit (laws.directory g image (P .path) bytes (P .asked))
+    E = theEdit sized P n-is T m
 
     pub plan-is : Plan g image table bytes (changeOf f p) (entryOf f p n)
-    plan-is = plan-of g image table bytes sized f P n-is T m E (record { items-are = refl; after-is = refl; chain-same = refl })
+    plan-is = plan-of sized P n-is T m E (record { items-are = refl; after-is = refl; chain-same = refl })
 
     -- ---- the page writes
     marks-then : Marks table (p .below) (es.left E)
-    marks-then =
-        let t = T′ g image table bytes sized f P n-is T m in
-        marks-below table (P .inUse) (es.left E) (p .below) (P .represents) (omega (arith, t .inside, sized))
-        (λ x. omega (arith, left-then g image table bytes sized f P n-is T m x, ap (count x) (Q .exact)))
+    marks-then = marks-below table (keptPages (a .to) (a .tree)) (es.left E) (p .below) (P .represents) (omega (arith, T′ sized P n-is T m .inside, sized)) (left-then sized P n-is T m)
 
     module _ (budget : Budget) (o : Open budget) where
       -- what the three steps give is what the rule's list gives
       done : (now : Progress) → now ≡ step₃ E budget → Outcomes g writes image budget (now .image) (outcome.Done (now .budget))
       done now q =
           let i = a .tree in
-          let x = laws.theEdit g image (P .path) bytes a (freePages (P .inUse) (g .pages)) in
-          let e = planned (ok x) (edit-is g image table bytes sized f P n-is T m) in
-          (editWrites g (bitmapOf g (used i) (i .map)) x i (edited g (a .to .directories) x i), simp (e, then-ok), q ∙ sym (whole-is E budget))
+          let x = laws.theEdit g image (P .path) bytes a (freePages (keptPages (a .to) i) (g .pages)) in
+          (editWrites g (bitmapOf g (used i) (i .map)) x i (edited g (a .to .directories) x i), simp (edit-is sized P n-is T m, then-ok), q ∙ sym (whole-is E budget))
 
       module _ (mid : List ℕ) (rest : Budget) (carried : _≡_ {A = Progress} (record { image = mid; budget = rest }) (step₂ (plan-is .edit) budget)) where
         h : _≡_ {A = Progress} (record { image = mid; budget = rest }) (step₂ E budget)
         unfolding plan-is
-        h = carried-is g image table bytes sized f P n-is T m E (record { items-are = refl; after-is = refl; chain-same = refl }) budget _ carried
+        h = carried-is sized P n-is T m E (record { items-are = refl; after-is = refl; chain-same = refl }) budget _ carried
 
         -- a write was held back
         pub put-stop : rest .stopped ≡ true → Outcomes g writes image budget mid (outcome.Done rest)

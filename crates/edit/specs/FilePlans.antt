@@ -21,8 +21,8 @@ use Rattle.rules.specs.PageSets.{count, range, freePages}
 use Rattle.rules.specs.PageSetLaws.{hit-same, count-append, count-split, range-le}
 use Rattle.rules.specs.Chain.{Link, pages, first, chainOf, pagesFor}
 use Rattle.rules.specs.ChainLaws.{pages-chain-of}
-use Rattle.rules.specs.Paths.{fileKey, Found, nothing, find}
-use Rattle.rules.specs.Tree.{Label, Items, end, page, file, dir, Token, newPage, entry, tokens, fileEntry, ownPages, allPages, keys, mapPages, used}
+use Rattle.rules.specs.Paths.{Path, fileKey, Found, nothing, find}
+use Rattle.rules.specs.Tree.{Label, Items, end, page, file, dir, Token, newPage, entry, tokens, fileEntry, ownPages, allPages, keys, mapPages, Image}
 use Rattle.rules.specs.TreeLaws.{entryTokens}
 use Rattle.rules.specs.Bitmap.{bitmapOf}
 use Rattle.rules.specs.Writes.{Edit, edited, editWrites}
@@ -76,7 +76,7 @@ pages-fit g v size extra h k =
     let q = (size - 1) / c in
     omega (arith, capacity-least g v, div-mul-le-self (size - 1) c, mul-le-mul-right q (capacity-least g v))
 
-module _ (g : Geometry) (image table bytes : List ℕ) (sized : length table ≡ g .pages) (f : NewFile) (P : Putting g image table bytes f) where
+module _ {inUse : Path → Image → List ℕ} {g : Geometry} {image table bytes : List ℕ} (sized : length table ≡ g .pages) {f : NewFile} (P : Putting inUse g image table bytes f) where
   abbrev a : Asked g image (P .path) bytes
   a = P .asked
 
@@ -87,7 +87,7 @@ module _ (g : Geometry) (image table bytes : List ℕ) (sized : length table ≡
   kept = keptPages (P .asked .to) (P .asked .tree)
 
   abbrev pub free : List ℕ
-  free = freePages (P .inUse) (g .pages)
+  free = freePages (inUse (P .asked .to) (P .asked .tree)) (g .pages)
 
   abbrev pub wanted : ℕ
   wanted = pagesFor (dataCapacity g) (length bytes)
@@ -97,24 +97,24 @@ module _ (g : Geometry) (image table bytes : List ℕ) (sized : length table ≡
 
   -- too few free pages
   pub full : (n : ℕ) → n ≡ pagesFor (dataCapacity g) (length bytes) → (r : Taken) → Takes table (f .extra) n r → r ≡ took.Full
-      → putEdit g (freePages (P .inUse) (g .pages)) (P .asked .to) bytes (P .asked .place) ≡ err 17 0
+      → putEdit g (freePages (inUse (P .asked .to) (P .asked .tree)) (g .pages)) (P .asked .to) bytes (P .asked .place) ≡ err 17 0
   unfolding Takes
   full n e r T m =
-      let us = P .inUse in
+      let us = inUse (P .asked .to) (P .asked .tree) in
       let k = subst (TakenIs us (length table) (f .extra) n) m (T us (P .represents)) in
       let h : length free < laws.extra g image (P .path) bytes a + wanted = omega (arith, k, ap (λ (N : ℕ). length (freePages us N)) sized, P .at .extra-is) in
       laws.edit-is g image (P .path) bytes a free ∙ simp (lt-leb _ _ h, refuse-false, then-err)
 
   -- enough: the edit
   module _ {n : ℕ} (n-is : n ≡ pagesFor (dataCapacity g) (length bytes)) {r : Taken} (T : Takes table (f .extra) n r) {p : Pages} (m : r ≡ took.At p) where
-    pub T′ : PagesTaken (P .inUse) (g .pages) (f .extra) n p
+    pub T′ : PagesTaken (inUse (P .asked .to) (P .asked .tree)) (g .pages) (f .extra) n p
     unfolding Takes
-    T′ = subst (λ (N : ℕ). PagesTaken (P .inUse) N (f .extra) n p) sized (subst (TakenIs (P .inUse) (length table) (f .extra) n) m (T (P .inUse) (P .represents)))
+    T′ = subst (λ (N : ℕ). PagesTaken (inUse (P .asked .to) (P .asked .tree)) N (f .extra) n p) sized (subst (TakenIs (inUse (P .asked .to) (P .asked .tree)) (length table) (f .extra) n) m (T (inUse (P .asked .to) (P .asked .tree)) (P .represents)))
 
     pub room : laws.extra g image (P .path) bytes (P .asked) + wanted ≤ length free
     room = omega (arith, T′ .enough, P .at .extra-is)
 
-    pub edit-is : putEdit g (freePages (P .inUse) (g .pages)) (P .asked .to) bytes (P .asked .place) ≡ ok (laws.theEdit g image (P .path) bytes (P .asked) (freePages (P .inUse) (g .pages)))
+    pub edit-is : putEdit g (freePages (inUse (P .asked .to) (P .asked .tree)) (g .pages)) (P .asked .to) bytes (P .asked .place) ≡ ok (laws.theEdit g image (P .path) bytes (P .asked) (freePages (inUse (P .asked .to) (P .asked .tree)) (g .pages)))
     edit-is = laws.edit-is g image (P .path) bytes a free ∙ simp (le-leb _ _ room, refuse-true, then-ok)
 
     abbrev pub theEdit : OneEdit (laws.directory g image (P .path) bytes (P .asked))
@@ -130,7 +130,7 @@ module _ (g : Geometry) (image table bytes : List ℕ) (sized : length table ≡
     e = entryOf f p n
 
     -- the chain that the code stores
-    chain-is : chain ≡ chainOf (dataCapacity g) (take wanted (freeFrom (P .inUse) (p .start) (g .pages))) bytes
+    chain-is : chain ≡ chainOf (dataCapacity g) (take wanted (freeFrom (inUse (P .asked .to) (P .asked .tree)) (p .start) (g .pages))) bytes
     chain-is = ap (λ (l : List ℕ). chainOf (dataCapacity g) (take wanted l) bytes) (ap (λ (k : ℕ). drop k free) (P .at .extra-is) ∙ T′ .rest)
 
     starts : first chain ≡ p .start
@@ -219,7 +219,7 @@ module _ (g : Geometry) (image table bytes : List ℕ) (sized : length table ≡
       marks = marks′;
       directory = D′;
       edit = E′;
-      used = P .inUse;
+      used = inUse (P .asked .to) (P .asked .tree);
       represents = P .represents;
       enough = omega (arith, ap length (T′ .rest), length-drop (f .extra) free, T′ .enough);
       chain-is = s .chain-same ∙ chain-is;
@@ -253,17 +253,17 @@ module _ (g : Geometry) (image table bytes : List ℕ) (sized : length table ≡
     carried-is E′ s budget now q = q
 
     -- the pages that the edit takes are the free ones below the bound
-    pub taken-below : (x : ℕ) → count x (freePages (P .inUse) (p .below)) ≡ count x (take (laws.extra g image (P .path) bytes (P .asked)) free) + count x (pages (theEdit .chain))
+    pub taken-below : (x : ℕ) → count x (freePages (inUse (P .asked .to) (P .asked .tree)) (p .below)) ≡ count x (take (laws.extra g image (P .path) bytes (P .asked)) free) + count x (pages (theEdit .chain))
     taken-below x = omega (
       arith,
       ap (count x) (T′ .lowest ∙ take-add (f .extra) n free),
       count-append x (take (f .extra) free) (take n (drop (f .extra) free)),
       ap (λ (k : ℕ). count x (take k free)) (P .at .extra-is),
-      ap (count x) (ap pages chain-is ∙ pages-chain-of (dataCapacity g) (take wanted (freeFrom (P .inUse) (p .start) (g .pages))) bytes),
+      ap (count x) (ap pages chain-is ∙ pages-chain-of (dataCapacity g) (take wanted (freeFrom (inUse (P .asked .to) (P .asked .tree)) (p .start) (g .pages))) bytes),
       ap (λ (l : List ℕ). count x (take n l)) (T′ .rest),
-      ap (λ (k : ℕ). count x (take k (freeFrom (P .inUse) (p .start) (g .pages)))) n-is,
+      ap (λ (k : ℕ). count x (take k (freeFrom (inUse (P .asked .to) (P .asked .tree)) (p .start) (g .pages)))) n-is,
     )
 
     -- the pages in use then: those that stay, and those that it takes
-    pub left-then : (x : ℕ) → count x (es.left theEdit) ≡ count x kept + count x (freePages (P .inUse) (p .below))
+    pub left-then : (x : ℕ) → count x (es.left theEdit) ≡ count x kept + count x (freePages (inUse (P .asked .to) (P .asked .tree)) (p .below))
     left-then x = omega (arith, laws.pages-then g image (P .path) bytes a free (P .clear) room x, taken-below x)

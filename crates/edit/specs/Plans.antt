@@ -99,18 +99,16 @@ pub record EntryPlace (g : Geometry) (image : List ℕ) (q : Path) (d : Items) (
   pub in-new-page : f .extra ≡ 1 → PutInNewPage g (fileLabel q) d f
 
 -- a put that nothing but room could refuse; the table tells of the pages that must not be taken, those that stay in use among them
-pub record Putting (g : Geometry) (image table bytes : List ℕ) (f : NewFile) : Type 0 where
+pub record Putting (inUse : Path → Image → List ℕ) (g : Geometry) (image table bytes : List ℕ) (f : NewFile) : Type 0 where
   pub path : List ℕ
   pub asked : Asked g image path bytes
   pub at : EntryPlace g image (asked .to) (asked .place .items) f
-  pub inUse : List ℕ
-  pub represents : Represents table inUse
-  pub clear : (x : ℕ) → count x (freePages inUse (g .pages)) + count x (keptPages (asked .to) (asked .tree)) ≤ count x (range (g .pages))
+  pub represents : Represents table (inUse (asked .to) (asked .tree))
+  pub clear : (x : ℕ) → count x (freePages (inUse (asked .to) (asked .tree)) (g .pages)) + count x (keptPages (asked .to) (asked .tree)) ≤ count x (range (g .pages))
 
 -- a plain put: every page that does not stay in use is free
-pub record PlainPutting (g : Geometry) (image table bytes : List ℕ) (f : NewFile) : Type 0 where
-  pub putting : Putting g image table bytes f
-  pub exact : putting .inUse ≡ keptPages (putting .asked .to) (putting .asked .tree)
+abbrev pub PlainPutting : Geometry → List ℕ → List ℕ → List ℕ → NewFile → Type 0
+PlainPutting = Putting keptPages
 
 -- the page writes that a rule gives, carried out; or its refusal
 abbrev pub Outcomes : Geometry → Res (List Write) → List ℕ → Budget → List ℕ → Outcome → Type 0
@@ -125,4 +123,4 @@ putWrites g bytes i x = andThen (putEdit g (freePages (keptPages (x .to) i) (g .
 
 abbrev pub PutsFile : Geometry → List ℕ → List ℕ → List ℕ → NewFile → Budget → List ℕ → Outcome → Type 0
 PutsFile g image table bytes f budget after r = (p : PlainPutting g image table bytes f)
-    → Outcomes g (putWrites g bytes (p .putting .asked .tree) (record { to = p .putting .asked .to; place = p .putting .asked .place })) image budget after r
+    → Outcomes g (putWrites g bytes (p .asked .tree) (record { to = p .asked .to; place = p .asked .place })) image budget after r

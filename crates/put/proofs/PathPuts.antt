@@ -79,17 +79,13 @@ module _ (g : Geometry) (image table path bytes : List ℕ) (fit : Fit g image) 
             let a = asked (place .target) (place .reached) in
             let k = keptPages (place .target .to) tree in
             record {
-              putting = record {
-                path = path;
-                asked = a;
-                at = place .at;
-                inUse = k;
-                represents = subst (λ (t : List ℕ). Represents t k) (sym (freed-old _ (place .old)))
-                    (represents-freed table (used tree) k (pages (linksOf (find (fileKey (place .target .to)) (place .target .place .items)))) (table-used (place .target) (place .reached))
-                    (λ x. omega (arith, kept-old g image path bytes a x, ap (count x) (place .pages-are))));
-                clear = free-clear g image path bytes a;
-              };
-              exact = refl;
+              path = path;
+              asked = a;
+              at = place .at;
+              represents = subst (λ (t : List ℕ). Represents t k) (sym (freed-old _ (place .old)))
+                  (represents-freed table (used tree) k (pages (linksOf (find (fileKey (place .target .to)) (place .target .place .items)))) (table-used (place .target) (place .reached))
+                  (λ x. omega (arith, kept-old g image path bytes a x, ap (count x) (place .pages-are))));
+              clear = free-clear g image path bytes a;
             }
 
         pub put-at : (after : List ℕ) (o : Outcome) → PutsFile g image u bytes f budget after o → PathPut g image path bytes budget after o

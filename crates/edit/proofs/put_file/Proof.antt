@@ -28,7 +28,7 @@ find-pages-requires c κs =
     let a = start .args in
     let p = start .pre in
     let n = c .pages-for .ensures ∙ ap (λ (x : ℕ). pagesFor x (length (a .bytes .now))) (at-data-capacity .data-capacity .ensures) in
-    let x = one-extra (a .g) (a .image .now) (a .table .now) (a .bytes .now) (p .1 .0) (a .file) (p .1 .1 .putting) in
+    let x = one-extra (p .1 .0) (p .1 .1) in
     (x, omega (arith, n), omega (arith, n, pages-fit (a .g) (p .0 .valid) (length (a .bytes .now)) (a .file .extra) (omega arith) x))
 
 put-entry-requires : tie.Need-put-entry-requires
