@@ -9,3 +9,4 @@ pub mod Halts
 pub mod CarefulDeletes
 pub mod CarefulPuts
 pub mod CarefulCalls
+pub mod MarkedPages

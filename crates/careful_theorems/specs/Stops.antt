@@ -186,6 +186,9 @@ module _ {g : Geometry} {image : List ℕ} (c : CarefulEdit g image) where
   abbrev pub imageA : List ℕ
   imageA = afterWrites g A image
 
+  pub marks-fit : WritesFit g A
+  marks-fit = map-fit g image bits₀ (i .tree) m s₀ marks marks-size marks-bytes
+
   pub sA : MarkedImage g imageA marks iA
   sA = map-all g image bits₀ (i .tree) m s₀ marks marks-size marks-bytes
 
@@ -389,7 +392,7 @@ module _ {g : Geometry} {image : List ℕ} (c : CarefulEdit g image) where
 
     -- every write can be made
     pub front-fits : WritesFit g (A ++ B)
-    front-fits = fits-join g A B (map-fit g image bits₀ (i .tree) m s₀ marks marks-size marks-bytes) B-fits
+    front-fits = fits-join g A B marks-fit B-fits
 
     pub back-fits : WritesFit g C
     back-fits = map-fit g imageS marks t′ (remap marks m) sS bits₁ size₁ (bytes-bitmap (allPages t′ ++ mapPages m) 0 (mapSize g m))

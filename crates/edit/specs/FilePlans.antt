@@ -49,7 +49,7 @@ use Rattle.edit.specs.declared.Outcome.the-variants as outcome
 use Rattle.edit.specs.Pages.{PagesTaken, TakenIs, Takes}
 use Rattle.edit.specs.Entering.{Exchanges, Joins, Entering}
 use Rattle.edit.specs.ExchangeLaws.{pointer-is}
-use Rattle.edit.specs.StepLaws.{step₂}
+use Rattle.edit.specs.StepLaws.{step₂, step₃}
 use Rattle.edit.specs.Plans.{changeOf, entryOf, Plan, Putting, PlainPutting, Outcomes, putWrites}
 
 -- ---- the pages of a directory by its tokens
@@ -251,6 +251,18 @@ module _ {inUse : Path → Image → List ℕ} {g : Geometry} {image table bytes
         → now ≡ step₂ (plan-of E′ s .edit) budget → now ≡ step₂ E′ budget
     unfolding plan-of
     carried-is E′ s budget now q = q
+
+    pub plan-image : {image′ marks′ : List ℕ} {D′ : DirectoryOf g image′ marks′} (E′ : OneEdit D′) (s : SameEdit E′) → es.image₂ (plan-of E′ s .edit) ≡ es.image₂ E′
+    unfolding plan-of
+    plan-image E′ s = refl
+
+    pub plan-left : {image′ marks′ : List ℕ} {D′ : DirectoryOf g image′ marks′} (E′ : OneEdit D′) (s : SameEdit E′) → es.left (plan-of E′ s .edit) ≡ es.left E′
+    unfolding plan-of
+    plan-left E′ s = refl
+
+    pub plan-steps : {image′ marks′ : List ℕ} {D′ : DirectoryOf g image′ marks′} (E′ : OneEdit D′) (s : SameEdit E′) (budget : Budget) → step₃ (plan-of E′ s .edit) budget ≡ step₃ E′ budget
+    unfolding plan-of
+    plan-steps E′ s budget = refl
 
     -- the pages that the edit takes are the free ones below the bound
     pub taken-below : (x : ℕ) → count x (freePages (inUse (P .asked .to) (P .asked .tree)) (p .below)) ≡ count x (take (laws.extra g image (P .path) bytes (P .asked)) free) + count x (pages (theEdit .chain))
