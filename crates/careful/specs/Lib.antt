@@ -1,1 +1,2 @@
 pub mod MarkedPuts
+pub mod Halts

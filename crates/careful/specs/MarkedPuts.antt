@@ -9,10 +9,11 @@ use Rattle.packet.specs.declared.Budget.{Budget}
 use Rattle.packet.specs.Budgets.{Progress}
 use Rattle.rules.specs.Result.{Res, ok, andThen}
 use Rattle.rules.specs.PageSets.{count, freePages}
-use Rattle.rules.specs.Chain.{Link, pages}
+use Rattle.rules.specs.Chain.{viewsOf, Link, pages}
 use Rattle.rules.specs.Tree.{Image, used}
+use Rattle.rules.specs.Check.{check}
 use Rattle.rules.specs.Paths.{fileKey, find, Target}
-use Rattle.rules.specs.Put.{putEdit}
+use Rattle.rules.specs.Put.{putTarget, putEdit}
 use Rattle.rules.specs.Candidate.{chainPages}
 use Rattle.rules.specs.Careful.{carefulWrites}
 use Rattle.owners.specs.Owned.{Marks}
@@ -50,3 +51,7 @@ carefulPutWrites g bytes i x = andThen (putEdit g (freePages (used i) (g .pages)
 abbrev pub CarefullyPutsFile : Geometry → List ℕ → List ℕ → List ℕ → NewFile → Budget → List ℕ → Outcome → Type 0
 CarefullyPutsFile g image table bytes f budget after r = (p : CarefulPutting g image table bytes f)
     → Outcomes g (carefulPutWrites g bytes (p .putting .asked .tree) (record { to = p .putting .asked .to; place = p .putting .asked .place })) image budget after r
+
+-- by path: the page writes are the rule's
+abbrev pub CarefulPathPut : Geometry → List ℕ → List ℕ → List ℕ → Budget → List ℕ → Outcome → Type 0
+CarefulPathPut g image path bytes budget after r = (i : Image) → check g (viewsOf g image) ≡ ok i → Outcomes g (andThen (putTarget path (i .tree)) (carefulPutWrites g bytes i)) image budget after r

@@ -113,6 +113,20 @@ module _ (P N : ℕ) (image table : List ℕ) where
   cleared-none (ok c) h = absurd (h (c, refl))
   cleared-none (err n p) h = refl
 
+  -- refusal 1 leaves image and table
+  module _ (wrong : shape P N image table ≡ Invalid) where
+    pub careful-put-invalid : (k : ℕ) (path bytes : List ℕ) → carefulPutCall P N image table k path bytes ≡ (err 1 0, image, table)
+    unfolding carefulPutCall
+    careful-put-invalid k path bytes = rw wrong refl
+
+    pub careful-delete-invalid : (k : ℕ) (path : List ℕ) → carefulDeleteCall P N image table k path ≡ (err 1 0, image, table)
+    unfolding carefulDeleteCall
+    careful-delete-invalid k path = rw wrong refl
+
+    pub mend-invalid : mendCall P N image table ≡ (err 1 0, image, table)
+    unfolding mendCall
+    mend-invalid = rw wrong refl
+
   module _ (imageBytes : Bytes image) where
     pub careful-put-stated : (k : ℕ) (path bytes : List ℕ) → Bytes path → Bytes bytes
         → CarefullyPuts P N image table k path bytes (IsDone (carefulPutCall P N image table k path bytes .0)) (countOf (carefulPutCall P N image table k path bytes .0)) (carefulPutCall P N image table k path bytes .1)

@@ -39,12 +39,11 @@ use Rattle.put.specs.Places.{FilePlace, IsPlaced, Places, PathPut}
 module _ (g : Geometry) (image table path bytes : List ℕ) (fit : Fit g image) (T : TableOf g image table) (pathFits : (i : ℕ) → getD path i 0 < 256) (bytesFit : (i : ℕ) → getD bytes i 0 < 256) where
   open TableOf T using (tree, accepted, table-is)
 
-  asked : (x : Target) → putTarget path (tree .tree) ≡ ok x → Asked g image path bytes
-  asked x t = asked-at g path bytes image fit (T .bytes) (bytes-from path pathFits) (bytes-from bytes bytesFit) tree accepted x t
+  abbrev pub asked : (x : Target) → putTarget path (T .tree .tree) ≡ ok x → Asked g image path bytes
+  asked x t = asked-at g path bytes image fit (T .bytes) (bytes-from path pathFits) (bytes-from bytes bytesFit) (T .tree) (T .accepted) x t
 
   -- the owner table tells of the pages in use
-  table-used : (x : Target) (t : putTarget path (tree .tree) ≡ ok x) → Represents table (used tree)
-  unfolding asked
+  pub table-used : (x : Target) (t : putTarget path (T .tree .tree) ≡ ok x) → Represents table (used (T .tree))
   table-used x t = rw table-is (represents-owners (g .pages) tree (asked x t .well .holds .apart))
 
   -- whatever reading is accepted, it is the table's
@@ -74,7 +73,6 @@ module _ (g : Geometry) (image table path bytes : List ℕ) (fit : Fit g image) 
 
       module _ (u : List ℕ) (freed-old : FreesOld g (viewOf g image) (f .replaces) table u) where
         pub to-put : PlainPutting g image u bytes f
-        unfolding asked
         to-put =
             let a = asked (place .target) (place .reached) in
             let k = keptPages (place .target .to) tree in
@@ -89,7 +87,7 @@ module _ (g : Geometry) (image table path bytes : List ℕ) (fit : Fit g image) 
             }
 
         pub put-at : (after : List ℕ) (o : Outcome) → PutsFile g image u bytes f budget after o → PathPut g image path bytes budget after o
-        unfolding to-put asked
+        unfolding to-put
         put-at after o k = given (place .target) (place .reached) after o (k to-put)
 
   -- ---- without a limit

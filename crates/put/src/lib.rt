@@ -60,7 +60,7 @@ fn new_entry(image: &[u8], g: Geometry, start: usize, name: u32, extension: u8) 
 }
 
 // Finds where the file of a path goes. The image is accepted.
-fn place_file(image: &[u8], g: Geometry, path: &[u8]) -> Placed
+pub fn place_file(image: &[u8], g: Geometry, path: &[u8]) -> Placed
     requires { ⌜ Fit g (now image) ⌝ }
     requires { ⌜ HasImage g (viewsOf g (now image)) ⌝ }
     ensures { λ r. ⌜ Places g (now (image .entry)) (now (path .entry)) r ⌝ }

@@ -12,6 +12,7 @@ use Rattle.rules.specs.Owners.{owners}
 use Rattle.rules.specs.declared.Checked.{Checked}
 use Rattle.rules.specs.declared.Edited.{Edited}
 use Rattle.rules.specs.Answers.{editResult}
+use Rattle.rules.specs.Careful.{Effect}
 use Rattle.volume.specs.Scans.{TableChecked}
 
 -- the answer of an edit and the image that it leaves
@@ -21,6 +22,11 @@ leaves image (err n p) = (err n p, image)
 
 abbrev pub Answered : List ℕ → Res (List ℕ) → Edited → List ℕ → Type 0
 Answered image rule r after = _≡_ {A = Res (Unit {0}) × List ℕ} (editResult r, after) (leaves image rule)
+
+-- the answer of a call that answers something, and the image that it leaves
+abbrev pub effectOf : {A : Type 0} → List ℕ → Res (Effect A) → Res A × List ℕ
+effectOf image (ok x) = (ok (x .answer), x .image)
+effectOf image (err n p) = (err n p, image)
 
 -- the image is accepted, and the table tells of it
 pub record TableOf (g : Geometry) (image table : List ℕ) : Type 0 where
@@ -32,5 +38,11 @@ pub record TableOf (g : Geometry) (image table : List ℕ) : Type 0 where
 -- an edit in its geometry: its answer, the image, and the table of the image as it then stands
 pub record EditLeaves (g : Geometry) (image : List ℕ) (rule : Res (List ℕ)) (r : Edited) (after table : List ℕ) : Type 0 where
   pub answers : Answered image rule r after
+  pub check : Checked
+  pub checked : TableChecked g (viewsOf g after) check table
+
+-- a call that answers something, in its geometry
+pub record EffectLeaves {A : Type 0} (g : Geometry) (image : List ℕ) (rule : Res (Effect A)) (answer : Res A) (after table : List ℕ) : Type 0 where
+  pub answers : _≡_ {A = Res A × List ℕ} (answer, after) (effectOf image rule)
   pub check : Checked
   pub checked : TableChecked g (viewsOf g after) check table

@@ -1,0 +1,76 @@
+-- The check's fault first; else the put within the limit, and then the table of the image as it stands.
+use mathlib.Core.Path.{ap, sym, _∙_}
+use Rattle.packet.specs.declared.Budget.{Budget}
+use Rattle.volume.proofs.EditLaws.{fit-same, fault-effect, table-of}
+use Rattle.careful.proofs.Calling.{put-fault, put-spent, put-answers}
+use borrow.Author.Needs.{needs}
+use Rattle.careful.proofs.put_in.Statement.{statement}
+use Rattle.careful.proofs.put_in.Tie as tie
+
+put-path-requires : tie.Need-put-path-requires
+put-path-requires c κs =
+    let at-told = c .before .before .before in
+    let at-check = at-told .before .before .before .before in
+    let at-image = at-check .before .before .before .before .before .before in
+    let start = at-image .before in
+    let a = start .args in
+    let T = table-of (a .g) (a .image .now) (at-check .check-table .result) (at-check .check-table .last .1 .1 .0) (at-check .check-table .ensures) (λ i. at-image .slice-known .given i .fits) _
+    (at-told .enum-told .given .1) in
+    (start .pre .0, (at-check .check-table .kept .1 .1 .0 ∙ start .pre .1, T, ap (λ (x : Budget). x .stopped) (c .limited .ensures)))
+
+check-table-requires-2 : tie.Need-check-table-requires-2
+check-table-requires-2 c κs =
+    let at-put-path = c .before .before .before .before .before .before in
+    let at-told = at-put-path .before .before .before .before in
+    let at-check = at-told .before .before .before .before in
+    let at-image = at-check .before .before .before .before .before .before in
+    let s = at-image .before .pre in
+    (fit-same _ _ _ (s .0) (at-put-path .put-path .kept .0), at-put-path .put-path .kept .1 .1 .1 .1 .0 ∙ at-check .check-table .kept .1 .1 .0 ∙ s .1)
+
+halted-requires : tie.Need-halted-requires
+halted-requires c κs =
+    let at-check2 = c .before .before in
+    let at-limited = at-check2 .before .before .before .before .before .before .before .before in
+    let at-put-path = at-check2 .before .before .before .before .before .before .before in
+    let at-told = at-limited .before .before .before in
+    let at-check = at-told .before .before .before .before in
+    let at-image = at-check .before .before .before .before .before .before in
+    let start = at-image .before in
+    let a = start .args in
+    let T = table-of (a .g) (a .image .now) (at-check .check-table .result) (at-check .check-table .last .1 .1 .0) (at-check .check-table .ensures) (λ i. at-image .slice-known .given i .fits) _
+    (at-told .enum-told .given .1) in
+    put-spent (a .g) (a .image .now) _ (a .path .now) (a .bytes .now) T (a .allowed) _ (at-limited .limited .ensures) _ (at-put-path .put-path .result) (at-put-path .put-path .ensures)
+
+returns : tie.Need-returns
+returns c =
+    let at-number = c .before in
+    let at-check = at-number .before .before .before .before in
+    let at-image = at-check .before .before .before .before .before .before in
+    let start = at-image .before in
+    let a = start .args in
+    fault-effect (a .g) (a .image .now) (at-check .check-table .result) (at-check .check-table .last .1 .1 .0) (at-check .check-table .ensures) _
+    (put-fault (a .g) (a .allowed) (a .path .now) (a .bytes .now) (a .image .now)) _ _ (at-number .number .given .1)
+
+returns-2 : tie.Need-returns-2
+returns-2 c =
+    let at-check2 = c .before .before .before in
+    let at-limited = at-check2 .before .before .before .before .before .before .before .before in
+    let at-put-path = at-check2 .before .before .before .before .before .before .before in
+    let at-told = at-limited .before .before .before in
+    let at-check = at-told .before .before .before .before in
+    let at-image = at-check .before .before .before .before .before .before in
+    let start = at-image .before in
+    let a = start .args in
+    let T = table-of (a .g) (a .image .now) (at-check .check-table .result) (at-check .check-table .last .1 .1 .0) (at-check .check-table .ensures) (λ i. at-image .slice-known .given i .fits) _
+    (at-told .enum-told .given .1) in
+    record {
+      answers = put-answers (a .g) (a .image .now) _ (a .path .now) (a .bytes .now) T (a .allowed) _ (at-limited .limited .ensures) _ (at-put-path .put-path .result) (at-put-path .put-path .ensures) _ (c .halted .ensures);
+      check = at-check2 .check-table2 .result;
+      checked = at-check2 .check-table2 .ensures;
+    }
+
+pub put-in-spec : {M : Type 1} → statement M
+put-in-spec =
+    tie.close
+    (tie.spec (λ c κs. search needs) (λ c. search needs) (λ c. search needs) (λ c κs. search needs) put-path-requires check-table-requires-2 halted-requires
+    (λ c. search needs) (λ c. search needs) returns (λ c. search needs) (λ c. search needs) returns-2)
