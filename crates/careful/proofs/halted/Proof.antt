@@ -1,6 +1,7 @@
 -- Each answer is the definition's; no more is left of the budget than was allowed.
 use mathlib.Core.Path.{_≡_, sym, ap, subst}
 use Prim.Native.Nat.{ℕ}
+use native.Mathlib.Omega.{arith}
 use Rattle.rules.specs.declared.Halted.{Halted}
 use Rattle.edit.specs.declared.Outcome.{Outcome}
 use Rattle.careful.specs.Halts.{HasSpent, haltOf}
@@ -12,7 +13,7 @@ sub-made : tie.Need-sub-made
 sub-made c =
     let at-outcome = c .before .before in
     let start = at-outcome .before .before in
-    subst (λ (o : Outcome). HasSpent o (start .args .allowed)) (at-outcome .outcome2 .given .1) (start .pre)
+    omega (arith, subst (λ (o : Outcome). HasSpent o (start .args .allowed)) (at-outcome .outcome2 .given .1) (start .pre))
 
 returns : tie.Need-returns
 returns c =

@@ -25,7 +25,7 @@ find-pages-requires c κs =
     let p = start .pre in
     let n = at-pages-for .pages-for .ensures ∙ ap (λ (x : ℕ). pagesFor x (length (a .bytes .now))) (at-data-capacity .data-capacity .ensures) in
     let x = one-extra (p .1 .0) (p .1 .1 .putting) in
-    (x, omega (arith, n), omega (arith, n, pages-fit (a .g) (p .0 .valid) (length (a .bytes .now)) (a .file .extra) (omega arith) x))
+    (omega (arith, x), omega (arith, n), omega (arith, n, x, pages-fit (a .g) (p .0 .valid) (length (a .bytes .now)) 1 (omega arith) (omega arith)))
 
 write-map-requires : tie.Need-write-map-requires
 write-map-requires c κs =

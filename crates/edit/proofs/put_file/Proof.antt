@@ -29,7 +29,7 @@ find-pages-requires c κs =
     let p = start .pre in
     let n = c .pages-for .ensures ∙ ap (λ (x : ℕ). pagesFor x (length (a .bytes .now))) (at-data-capacity .data-capacity .ensures) in
     let x = one-extra (p .1 .0) (p .1 .1) in
-    (x, omega (arith, n), omega (arith, n, pages-fit (a .g) (p .0 .valid) (length (a .bytes .now)) (a .file .extra) (omega arith) x))
+    (omega (arith, x), omega (arith, n), omega (arith, n, x, pages-fit (a .g) (p .0 .valid) (length (a .bytes .now)) 1 (omega arith) (omega arith)))
 
 put-entry-requires : tie.Need-put-entry-requires
 put-entry-requires c κs =
