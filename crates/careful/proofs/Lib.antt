@@ -4,3 +4,4 @@ mod MarkingFile
 mod PathPuts
 mod Halting
 mod Calling
+mod Deleting

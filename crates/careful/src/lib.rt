@@ -15,8 +15,8 @@ ghost use lib.ListN.{length};
 ghost use Rattle.geometry.specs.Geometry.{Fit};
 ghost use Rattle.packet.specs.Budgets.{Open};
 ghost use Rattle.rules.specs.Answers.{countResult};
-ghost use Rattle.rules.specs.Careful.{carefulPut, carefulPutCall, countOf};
-ghost use Rattle.rules.specs.CarefulPromises.{IsDone, CarefullyPuts};
+ghost use Rattle.rules.specs.Careful.{carefulPut, carefulPutCall, carefulDelete, carefulDeleteCall, countOf};
+ghost use Rattle.rules.specs.CarefulPromises.{IsDone, CarefullyPuts, CarefullyDeletes};
 ghost use Rattle.volume.specs.Edits.{TableOf, EffectLeaves};
 ghost use Rattle.careful.specs.MarkedPuts.{MarkedPut, PutsMarked, CarefulPutting, CarefullyPutsFile, CarefulPathPut};
 ghost use Rattle.careful.specs.Halts.{HasSpent, haltOf};
@@ -148,6 +148,49 @@ pub fn put(
         Shape::Fits(g) => {
             let n = g.pages;
             put_in(image, g, path, bytes, &mut table[..n], allowed)
+        }
+    }
+}
+
+// Deletes in an image whose geometry is known: the check, the delete, then the table of the image as it then stands.
+fn delete_in(
+    image: &mut [u8],
+    g: Geometry,
+    path: &[u8],
+    table: &mut [u16],
+    allowed: usize,
+) -> Halted
+    requires { ⌜ Fit g (now image) ⌝ }
+    requires { ⌜ length (now table) ≡ g .pages ⌝ }
+    ensures { λ r. ⌜ EffectLeaves g (now (image .entry)) (carefulDelete g allowed (now (path .entry)) (now (image .entry))) (countResult r) (now (image .exit)) (now (table .exit)) ⌝ }
+{
+    match volume::check_table(image, g, table) {
+        Checked::Refused(number, page) => Halted::Refused(number, page),
+        Checked::Done(_) => {
+            let outcome = delete::delete_path(image, g, path, table, Budget::limited(allowed));
+            volume::check_table(image, g, table);
+            halted(outcome, allowed)
+        }
+    }
+}
+
+// Deletes the file at a path with at most so many page writes: a delete takes no page, so its entry goes first, then its marks. Fills the owner table as a check of the image as it then stands.
+pub fn delete(
+    image: &mut [u8],
+    size: u32,
+    pages: u32,
+    path: &[u8],
+    table: &mut [u16],
+    allowed: usize,
+) -> Halted
+    ensures { λ r. ⌜ (countResult r, now (image .exit), now (table .exit)) ≡ carefulDeleteCall size pages (now (image .entry)) (now (table .entry)) allowed (now (path .entry)) ⌝ }
+    ensures { λ r. ⌜ CarefullyDeletes size pages (now (image .entry)) (now (table .entry)) allowed (now (path .entry)) (IsDone (countResult r)) (countOf (countResult r)) (now (image .exit)) ⌝ }
+{
+    match Geometry::new(size, pages, image.len(), table.len()) {
+        Shape::Invalid => Halted::Refused(1, 0),
+        Shape::Fits(g) => {
+            let n = g.pages;
+            delete_in(image, g, path, &mut table[..n], allowed)
         }
     }
 }

@@ -39,7 +39,7 @@ fn unlink(
 }
 
 // Deletes the file at a path within a budget. The table has the owners of the image's pages. 14, 15, 16.
-fn delete_path(
+pub fn delete_path(
     image: &mut [u8],
     g: Geometry,
     path: &[u8],

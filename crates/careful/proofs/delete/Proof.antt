@@ -1,0 +1,63 @@
+-- Refusal 1 leaves image and table as they are. Else `delete_in` works on the first N numbers of the table, and what is behind them stays: that is `carefulDeleteCall`.
+-- `CarefullyDeletes`, what the call promises of its image, holds of every answer of it.
+use mathlib.Core.Path.{sym, _∙_}
+use lib.Seq.{length-take-le}
+use Rattle.geometry.specs.ShapeLaws.{sized-of, fit-of}
+use Rattle.careful_theorems.specs.CarefulCalls.{careful-delete-invalid}
+use Rattle.rules.specs.declared.Halted.the-variants as halted
+use Rattle.careful.proofs.Deleting.{deleted, delete-is}
+use borrow.Author.Needs.{needs}
+use Rattle.careful.proofs.delete.Statement.{statement}
+use Rattle.careful.proofs.delete.Tie as tie
+
+slice-relend-prefix-delete-in : tie.Need-slice-relend-prefix-delete-in
+slice-relend-prefix-delete-in c =
+    let at-g = c .before .before in
+    let at-new = at-g .before .before in
+    let start = at-new .before .before .before .before in
+    let a = start .args in
+    sized-of (a .size) (a .pages) _ _ _ (sym (at-new .new .ensures) ∙ at-g .g .given .1) .room
+
+slice-aggregate-delete-in : tie.Need-slice-aggregate-delete-in
+slice-aggregate-delete-in c =
+    let at-g = c .before .before .before in
+    let at-new = at-g .before .before in
+    let start = at-new .before .before .before .before in
+    let a = start .args in
+    sym (length-take-le _ _ (sized-of (a .size) (a .pages) _ _ _ (sym (at-new .new .ensures) ∙ at-g .g .given .1) .room))
+
+delete-in-requires : tie.Need-delete-in-requires
+delete-in-requires c κs =
+    let at-g = c .before .before .before in
+    let at-new = at-g .before .before in
+    let start = at-new .before .before .before .before in
+    let a = start .args in
+    let e = sym (at-new .new .ensures) ∙ at-g .g .given .1 in
+    (fit-of (a .size) (a .pages) (a .image .now) (a .table .now) _ e, length-take-le _ (a .table .now) (sized-of (a .size) (a .pages) _ _ _ e .room))
+
+returns : tie.Need-returns
+returns c =
+    let at-new = c .before .before in
+    let at-slice-known = at-new .before .before .before in
+    let start = at-slice-known .before in
+    let a = start .args in
+    let e = sym (careful-delete-invalid (a .size) (a .pages) (a .image .now) (a .table .now) (sym (at-new .new .ensures) ∙ c .enum-told .given .1) (a .allowed) (a .path .now)) in
+    (e, delete-is (a .size) (a .pages) (a .image .now) (a .table .now) (a .path .now) (a .allowed) (λ i. at-slice-known .slice-known .given i .fits) (halted.Refused 1 0) (a .image .now) (a .table .now) e)
+
+returns-2 : tie.Need-returns-2
+returns-2 c =
+    let at-delete-in = c .before .before .before .before in
+    let at-g = at-delete-in .before .before .before .before in
+    let at-new = at-g .before .before in
+    let at-slice-known = at-new .before .before .before in
+    let start = at-slice-known .before in
+    let a = start .args in
+    let e = deleted (a .size) (a .pages) (a .image .now) (a .table .now) (a .path .now) (a .allowed) _ (sym (at-new .new .ensures) ∙ at-g .g .given .1) (at-delete-in .delete-in .result) _ _
+    (at-delete-in .delete-in .ensures) in
+    (e, delete-is (a .size) (a .pages) (a .image .now) (a .table .now) (a .path .now) (a .allowed) (λ i. at-slice-known .slice-known .given i .fits) (at-delete-in .delete-in .result) _ _ e)
+
+pub delete-spec : {M : Type 1} → statement M
+delete-spec =
+    tie.close
+    (tie.spec (λ c κs. search needs) (λ c. search needs) (λ c. search needs) slice-relend-prefix-delete-in slice-aggregate-delete-in delete-in-requires returns (λ c. search needs)
+    (λ c. search needs) returns-2)
