@@ -45,6 +45,23 @@ pub struct Length {
     pub length: u32,
 }
 
+/// The answer of a careful put or delete: the page writes made, and 1 if any are left, else 0; both 0 in a refusal.
+#[derive(Clone, Copy, Debug, PartialEq, Eq, Default)]
+pub struct Writes {
+    pub number: u32,
+    pub page: u32,
+    pub made: u32,
+    pub left: u32,
+}
+
+/// The answer of a mend: the number of marks cleared, 0 in a refusal.
+#[derive(Clone, Copy, Debug, PartialEq, Eq, Default)]
+pub struct Mended {
+    pub number: u32,
+    pub page: u32,
+    pub cleared: u32,
+}
+
 /// The refusals by name; the value of each is its number in document 01.
 #[derive(Clone, Copy, Debug, PartialEq, Eq)]
 pub(crate) enum Fault {
@@ -105,6 +122,26 @@ impl From<Answer> for Length {
             number: answer.number,
             page: answer.page,
             ..Length::default()
+        }
+    }
+}
+
+impl From<Answer> for Writes {
+    fn from(answer: Answer) -> Writes {
+        Writes {
+            number: answer.number,
+            page: answer.page,
+            ..Writes::default()
+        }
+    }
+}
+
+impl From<Answer> for Mended {
+    fn from(answer: Answer) -> Mended {
+        Mended {
+            number: answer.number,
+            page: answer.page,
+            ..Mended::default()
         }
     }
 }

@@ -41,8 +41,24 @@ struct Walk<'a> {
     entries: u32,
 }
 
+/// A bit of the bitmap that is not as the pages in use demand.
+pub(crate) struct DifferingBit {
+    pub(crate) place: usize,
+    /// Whether it marks a page below N that no chain has.
+    pub(crate) is_mark_without_owner: bool,
+}
+
 /// Judges an image of right length: its tree, or the first fault in the order of the check.
 pub(crate) fn check_image(geometry: &Geometry, image: &[u8]) -> Result<Tree, Answer> {
+    let (tree, bits) = walk_image(geometry, image)?;
+    match differing_bits(&bits, &tree.owners).first() {
+        Some(lowest) => Err(Fault::Bitmap.at(lowest.place)),
+        None => Ok(tree),
+    }
+}
+
+/// All of the check but its last part: the tree and the bitmap's bytes, not yet compared.
+pub(crate) fn walk_image(geometry: &Geometry, image: &[u8]) -> Result<(Tree, Vec<u8>), Answer> {
     let mut walk = Walk {
         geometry,
         image,
@@ -59,24 +75,29 @@ pub(crate) fn check_image(geometry: &Geometry, image: &[u8]) -> Result<Tree, Ans
         level: 0,
     };
     let root = walk.directory(place, first, ROOT_OWNER)?;
-    compare_bitmap(&bits, &walk.owners)?;
-    Ok(Tree {
+    let tree = Tree {
         bitmap,
         root,
         owners: walk.owners,
-    })
+    };
+    Ok((tree, bits))
 }
 
-/// The bitmap, lowest bit first: bit k is 1 exactly when page k is in use, bits from N up are 0 (13).
-fn compare_bitmap(bits: &[u8], owners: &[u32]) -> Result<(), Answer> {
-    for page in 0..bits.len() * 8 {
-        let marked = bits[page / 8] >> (page % 8) & 1 == 1;
-        let used = owners.get(page).is_some_and(|&owner| owner != 0);
+/// The bits that differ, lowest first: bit k is 1 exactly when page k is in use, bits from N up are 0 (13).
+pub(crate) fn differing_bits(bits: &[u8], owners: &[u32]) -> Vec<DifferingBit> {
+    let mut differing = Vec::new();
+    for place in 0..bits.len() * 8 {
+        let marked = bits[place / 8] >> (place % 8) & 1 == 1;
+        let used = owners.get(place).is_some_and(|&owner| owner != 0);
         if marked != used {
-            return Err(Fault::Bitmap.at(page));
+            let of_page = place < owners.len();
+            differing.push(DifferingBit {
+                place,
+                is_mark_without_owner: marked && of_page,
+            });
         }
     }
-    Ok(())
+    differing
 }
 
 impl<'a> Walk<'a> {

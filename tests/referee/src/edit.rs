@@ -1,12 +1,13 @@
 //! Format, put, delete and read (document 01, "Edits").
 
 use crate::answer::{Answer, Fault};
+use crate::bitmap;
 use crate::control::{self, BitmapPlace};
 use crate::entry::Fields;
 use crate::geometry::Geometry;
-use crate::packet;
+use crate::packet::{self, Written};
 use crate::path::{self, Path};
-use crate::tree::{Bitmap, Content, Directory, Entry, Tree};
+use crate::tree::{Content, Directory, Entry, Tree};
 
 /// Writes page 0 and, if asked, the bitmap file from page 1 upward; a local bitmap with N above 32 is 4.
 pub(crate) fn format(geometry: &Geometry, image: &mut [u8], local: bool) -> Result<(), Answer> {
@@ -21,14 +22,14 @@ pub(crate) fn format(geometry: &Geometry, image: &mut [u8], local: bool) -> Resu
     let mut used = vec![false; geometry.page_count()];
     used[..=pages].fill(true);
     let place = if local {
-        BitmapPlace::Local(local_bits(&used))
+        BitmapPlace::Local(bitmap::local_bytes_of(&used))
     } else {
         BitmapPlace::File { start: 1, pages }
     };
     let field = control::root_field(geometry, place);
     packet::write(geometry, image, 0, &field, 0);
     let chain: Vec<usize> = (1..=pages).collect();
-    write_chain(geometry, image, &chain, &bitmap_bytes(&used));
+    write_chain(geometry, image, &chain, &bitmap::bytes_of(&used));
     Ok(())
 }
 
@@ -88,26 +89,27 @@ pub(crate) fn delete(
     }
     let mut used = tree.used_pages();
     free_chain(&mut used, entry);
-    let (mut body, pointer) = copy_packet(geometry, image, entry.page)?;
-    body.drain(entry.offset..entry.offset + geometry.entry_length());
-    packet::write(geometry, image, entry.page, &body, pointer);
-    write_bitmap(geometry, image, &tree.bitmap, &used)
+    without_entry(geometry, image, entry)?.write(geometry, image);
+    bitmap::write(geometry, image, &tree.bitmap, &used)
 }
 
 /// The path's parts; a malformed path is 14.
-fn parse(path: &[u8]) -> Result<Path, Answer> {
+pub(crate) fn parse(path: &[u8]) -> Result<Path, Answer> {
     path::parse(path).ok_or(Fault::Path.at(0))
 }
 
 /// The directory that the path's directory names lead to; a missing one is 15.
-fn find_directory<'a>(tree: &'a Tree, path: &Path) -> Result<&'a Directory, Answer> {
+pub(crate) fn find_directory<'a>(tree: &'a Tree, path: &Path) -> Result<&'a Directory, Answer> {
     tree.root
         .resolve(&path.directories)
         .ok_or(Fault::Absent.at(0))
 }
 
 /// The path's file in its directory; a missing one is 15.
-fn existing_file<'a>(directory: &'a Directory, path: &Path) -> Result<&'a Entry, Answer> {
+pub(crate) fn existing_file<'a>(
+    directory: &'a Directory,
+    path: &Path,
+) -> Result<&'a Entry, Answer> {
     directory
         .find(&path.name, path.extension)
         .ok_or(Fault::Absent.at(0))
@@ -124,17 +126,9 @@ fn replace(
     let mut used = tree.used_pages();
     free_chain(&mut used, entry);
     let pages = take_lowest(&mut used, pages_needed(geometry, bytes))?;
-    let fields = Fields {
-        start: pages[0],
-        pages: pages.len(),
-        ..entry.fields
-    };
     write_chain(geometry, image, &pages, bytes);
-    let (mut body, pointer) = copy_packet(geometry, image, entry.page)?;
-    body[entry.offset..entry.offset + geometry.entry_length()]
-        .copy_from_slice(&fields.to_bytes(geometry));
-    packet::write(geometry, image, entry.page, &body, pointer);
-    write_bitmap(geometry, image, &tree.bitmap, &used)
+    with_pages(geometry, image, entry, &pages)?.write(geometry, image);
+    bitmap::write(geometry, image, &tree.bitmap, &used)
 }
 
 /// Makes a file: its entry goes to the end of the first directory page with space, in chain order;
@@ -154,24 +148,17 @@ fn add(
         None => take_lowest(&mut used, 1)?[0],
     };
     let pages = take_lowest(&mut used, pages_needed(geometry, bytes))?;
-    let fields = Fields {
-        name: path.name,
-        extension: path.extension,
-        start: pages[0],
-        pages: pages.len(),
-    };
     write_chain(geometry, image, &pages, bytes);
     if with_space.is_none() {
         append_directory_page(geometry, image, directory, entry_page)?;
     }
-    let (mut body, pointer) = copy_packet(geometry, image, entry_page)?;
-    body.extend(fields.to_bytes(geometry));
-    packet::write(geometry, image, entry_page, &body, pointer);
-    write_bitmap(geometry, image, &tree.bitmap, &used)
+    let fields = new_fields(path, &pages);
+    with_entry(geometry, image, entry_page, &fields)?.write(geometry, image);
+    bitmap::write(geometry, image, &tree.bitmap, &used)
 }
 
 /// The first page of the directory's chain whose packet has space for one entry more.
-fn page_with_space(
+pub(crate) fn page_with_space(
     geometry: &Geometry,
     image: &[u8],
     directory: &Directory,
@@ -194,19 +181,19 @@ fn append_directory_page(
 ) -> Result<(), Answer> {
     packet::write(geometry, image, new_page, &[], 0);
     if let Some(&last) = directory.pages.last() {
-        let (body, _) = copy_packet(geometry, image, last)?;
-        packet::write(geometry, image, last, &body, new_page);
+        let old = packet::copy(geometry, image, last)?;
+        packet::write(geometry, image, last, &old.body, new_page);
     }
     Ok(())
 }
 
 /// The pages of a file of these bytes: all packets full but the last; an empty file takes one page.
-fn pages_needed(geometry: &Geometry, bytes: &[u8]) -> usize {
+pub(crate) fn pages_needed(geometry: &Geometry, bytes: &[u8]) -> usize {
     bytes.len().div_ceil(geometry.max_data()).max(1)
 }
 
 /// Takes the lowest free pages, rising, and marks them as used; too few are 17.
-fn take_lowest(used: &mut [bool], count: usize) -> Result<Vec<usize>, Answer> {
+pub(crate) fn take_lowest(used: &mut [bool], count: usize) -> Result<Vec<usize>, Answer> {
     let free = (0..used.len()).filter(|&page| !used[page]);
     let pages: Vec<usize> = free.take(count).collect();
     if pages.len() < count {
@@ -219,7 +206,7 @@ fn take_lowest(used: &mut [bool], count: usize) -> Result<Vec<usize>, Answer> {
 }
 
 /// Marks the pages of a file's chain as free.
-fn free_chain(used: &mut [bool], entry: &Entry) {
+pub(crate) fn free_chain(used: &mut [bool], entry: &Entry) {
     if let Content::File { pages, .. } = &entry.content {
         for &page in pages {
             used[page] = false;
@@ -227,64 +214,77 @@ fn free_chain(used: &mut [bool], entry: &Entry) {
     }
 }
 
-/// Writes bytes over a chain of pages, all packets full but the last.
-fn write_chain(geometry: &Geometry, image: &mut [u8], pages: &[usize], bytes: &[u8]) {
+/// The packets of a file of these bytes over a chain of pages, all full but the last.
+pub(crate) fn file_packets(geometry: &Geometry, pages: &[usize], bytes: &[u8]) -> Vec<Written> {
     let mut rest = bytes;
+    let mut packets = Vec::new();
     for (place, &page) in pages.iter().enumerate() {
         let (body, after) = rest.split_at(rest.len().min(geometry.max_data()));
-        let pointer = pages.get(place + 1).copied().unwrap_or(0);
-        packet::write(geometry, image, page, body, pointer);
+        packets.push(Written {
+            page,
+            body: body.to_vec(),
+            pointer: pages.get(place + 1).copied().unwrap_or(0),
+        });
         rest = after;
     }
+    packets
 }
 
-/// A copy of a page's packet: its body and its pointer.
-fn copy_packet(geometry: &Geometry, image: &[u8], page: usize) -> Result<(Vec<u8>, usize), Answer> {
-    let packet = packet::read(geometry, image, page)?;
-    Ok((packet.body.to_vec(), packet.pointer))
-}
-
-/// The bytes of a bitmap, low bit of the first byte first.
-fn bitmap_bytes(used: &[bool]) -> Vec<u8> {
-    let mut bytes = vec![0; used.len().div_ceil(8)];
-    for (page, &in_use) in used.iter().enumerate() {
-        if in_use {
-            bytes[page / 8] |= 1 << (page % 8);
-        }
+/// Writes bytes over a chain of pages.
+fn write_chain(geometry: &Geometry, image: &mut [u8], pages: &[usize], bytes: &[u8]) {
+    for written in file_packets(geometry, pages, bytes) {
+        written.write(geometry, image);
     }
-    bytes
 }
 
-/// The four bytes of a local bitmap.
-fn local_bits(used: &[bool]) -> [u8; 4] {
-    let mut four = [0; 4];
-    for (byte, bits) in four.iter_mut().zip(bitmap_bytes(used)) {
-        *byte = bits;
+/// The fields of a new file's entry.
+pub(crate) fn new_fields(path: &Path, pages: &[usize]) -> Fields {
+    Fields {
+        name: path.name,
+        extension: path.extension,
+        start: pages[0],
+        pages: pages.len(),
     }
-    four
 }
 
-/// Writes the bitmap where it stands; a bitmap file keeps its packets' lengths and only changes bits.
-fn write_bitmap(
+/// The packet of a directory page with an entry more at its end.
+pub(crate) fn with_entry(
     geometry: &Geometry,
-    image: &mut [u8],
-    bitmap: &Bitmap,
-    used: &[bool],
-) -> Result<(), Answer> {
-    let Bitmap::File(pages) = bitmap else {
-        let (mut body, pointer) = copy_packet(geometry, image, 0)?;
-        let offset = control::local_bitmap_offset(geometry);
-        body[offset..offset + 4].copy_from_slice(&local_bits(used));
-        packet::write(geometry, image, 0, &body, pointer);
-        return Ok(());
+    image: &[u8],
+    page: usize,
+    fields: &Fields,
+) -> Result<Written, Answer> {
+    let mut written = packet::copy(geometry, image, page)?;
+    written.body.extend(fields.to_bytes(geometry));
+    Ok(written)
+}
+
+/// The packet of an entry's page with other pages in the entry.
+pub(crate) fn with_pages(
+    geometry: &Geometry,
+    image: &[u8],
+    entry: &Entry,
+    pages: &[usize],
+) -> Result<Written, Answer> {
+    let fields = Fields {
+        start: pages[0],
+        pages: pages.len(),
+        ..entry.fields
     };
-    let bytes = bitmap_bytes(used);
-    let mut rest = bytes.as_slice();
-    for &page in pages {
-        let (body, pointer) = copy_packet(geometry, image, page)?;
-        let (bits, after) = rest.split_at(body.len().min(rest.len()));
-        packet::write(geometry, image, page, bits, pointer);
-        rest = after;
-    }
-    Ok(())
+    let mut written = packet::copy(geometry, image, entry.page)?;
+    written.body[entry.offset..entry.offset + geometry.entry_length()]
+        .copy_from_slice(&fields.to_bytes(geometry));
+    Ok(written)
+}
+
+/// The packet of an entry's page without the entry; later entries move up.
+pub(crate) fn without_entry(
+    geometry: &Geometry,
+    image: &[u8],
+    entry: &Entry,
+) -> Result<Written, Answer> {
+    let mut written = packet::copy(geometry, image, entry.page)?;
+    let range = entry.offset..entry.offset + geometry.entry_length();
+    written.body.drain(range);
+    Ok(written)
 }

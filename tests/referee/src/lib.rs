@@ -1,9 +1,12 @@
-//! A second implementation of the file structure of document 01: check, list, read, format, put, delete.
+//! A second implementation of the file structure of document 01: check, list, read, format, put, delete; and of document 02's careful put, careful
+//! delete and mend (A4).
 //!
 //! It is written from the specification alone and serves as a referee for another implementation.
 //! Numbers are `u32` as a C caller gives them; the owner table is bytes, low byte first.
 
 mod answer;
+mod bitmap;
+mod careful;
 mod check;
 mod control;
 mod crc;
@@ -11,6 +14,7 @@ mod edit;
 mod entry;
 pub mod geometry;
 mod list_text;
+mod mend;
 mod names;
 mod packet;
 mod path;
@@ -19,10 +23,11 @@ mod tree;
 pub mod builder;
 pub mod rng;
 
-pub use answer::{Answer, Length, Listing, Totals};
+pub use answer::{Answer, Length, Listing, Mended, Totals, Writes};
 pub use crc::{check_bytes, crc16};
 
 use answer::Fault;
+use careful::WriteList;
 use geometry::Geometry;
 use tree::{Entry, Tree};
 
@@ -128,6 +133,76 @@ pub fn delete(
         Ok(())
     });
     done_or_refusal(outcome)
+}
+
+/// Makes or replaces a file by at most `allowed` page writes, and tells those made and whether any are left.
+pub fn careful_put(
+    page_length: u32,
+    page_count: u32,
+    image: &mut [u8],
+    path: &[u8],
+    bytes: &[u8],
+    owners: &mut [u8],
+    allowed: u32,
+) -> Writes {
+    let outcome = judge_arguments(page_length, page_count, image, owners).and_then(|geometry| {
+        let tree = judge_image(&geometry, image, owners)?;
+        let list = careful::put(&geometry, image, &tree, path, bytes)?;
+        Ok(make_writes(&geometry, &list, image, owners, allowed))
+    });
+    outcome.unwrap_or_else(Writes::from)
+}
+
+/// Deletes a file by at most `allowed` page writes, and tells those made and whether any are left.
+pub fn careful_delete(
+    page_length: u32,
+    page_count: u32,
+    image: &mut [u8],
+    path: &[u8],
+    owners: &mut [u8],
+    allowed: u32,
+) -> Writes {
+    let outcome = judge_arguments(page_length, page_count, image, owners).and_then(|geometry| {
+        let tree = judge_image(&geometry, image, owners)?;
+        let list = careful::delete(&geometry, image, &tree, path)?;
+        Ok(make_writes(&geometry, &list, image, owners, allowed))
+    });
+    outcome.unwrap_or_else(Writes::from)
+}
+
+/// Clears the marks of pages that no chain has, and tells their number.
+pub fn mend(page_length: u32, page_count: u32, image: &mut [u8], owners: &mut [u8]) -> Mended {
+    let outcome = judge_arguments(page_length, page_count, image, owners).and_then(|geometry| {
+        let cleared = mend::mend(&geometry, image);
+        tell_owners(&geometry, image, owners);
+        cleared
+    });
+    match outcome {
+        Ok(cleared) => Mended {
+            number: 0,
+            page: 0,
+            cleared: cleared as u32,
+        },
+        Err(answer) => answer.into(),
+    }
+}
+
+/// Makes the writes that are allowed; the owner table tells of the image as it then stands, all 0 if it is not accepted.
+fn make_writes(
+    geometry: &Geometry,
+    list: &WriteList,
+    image: &mut [u8],
+    owners: &mut [u8],
+    allowed: u32,
+) -> Writes {
+    let (made, left) = list.make(image, allowed);
+    tell_owners(geometry, image, owners);
+    Writes {
+        number: 0,
+        page: 0,
+        made,
+        left: u32::from(left),
+    }
 }
 
 /// What the program `list` prints for a dump.

@@ -11,6 +11,37 @@ pub(crate) struct Packet<'a> {
     pub(crate) pointer: usize,
 }
 
+/// A packet to be written: its page, its bytes without the pointer, and the pointer.
+#[derive(Clone, Debug, PartialEq, Eq)]
+pub(crate) struct Written {
+    pub(crate) page: usize,
+    pub(crate) body: Vec<u8>,
+    pub(crate) pointer: usize,
+}
+
+impl Written {
+    /// Writes the packet to its page.
+    pub(crate) fn write(&self, geometry: &Geometry, image: &mut [u8]) {
+        write(geometry, image, self.page, &self.body, self.pointer);
+    }
+
+    /// Whether the page holds just this packet, with a right check.
+    pub(crate) fn stands_in(&self, geometry: &Geometry, image: &[u8]) -> bool {
+        read(geometry, image, self.page)
+            .is_ok_and(|packet| packet.body == self.body && packet.pointer == self.pointer)
+    }
+}
+
+/// A copy of a page's packet, to be changed and written.
+pub(crate) fn copy(geometry: &Geometry, image: &[u8], page: usize) -> Result<Written, Answer> {
+    let packet = read(geometry, image, page)?;
+    Ok(Written {
+        page,
+        body: packet.body.to_vec(),
+        pointer: packet.pointer,
+    })
+}
+
 /// The packet of `page` (below N); a length outside n to P - 3 or a wrong check is refusal 2 at that page.
 pub(crate) fn read<'a>(
     geometry: &Geometry,
