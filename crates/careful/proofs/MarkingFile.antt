@@ -162,10 +162,16 @@ module _ {g : Geometry} {image table bytes : List ℕ} (sized : length table ≡
         then-old : OldChain g (viewOf g (es.image₂ (editA C))) (f .replaces) links
         then-old = record { chain = λ i. chain-moved (Q .old .chain i) old-packets; none = Q .old .none }
 
+        -- the bitmap keeps its pages
+        map-pages : (x : ℕ) → count x (es.left (editA C)) ≡ count x (allPages (changeAt (a .to .directories) (λ _. C .edit .after) (tree .tree)) ++ mapPages (tree .map))
+        map-pages x =
+            let then = laws.result g image (P .path) bytes a (freePages (used tree) (g .pages)) (P .clear) (room sized P n-is T m) in
+            ap (λ (ps : List ℕ). count x (allPages (changeAt (a .to .directories) (λ _. C .edit .after) (tree .tree)) ++ ps)) (pages-remap (bothMarked g tree then) (tree .map))
+
         rest-is : (x : ℕ) → count x (es.left (editA C)) + count x (pages links) ≡ count x all
         rest-is x = omega (
           arith,
-          ap (λ (ps : List ℕ). count x (allPages (changeAt (a .to .directories) (λ _. C .edit .after) (tree .tree)) ++ ps)) (pages-remap (bothMarked g tree (laws.result g image (P .path) bytes a (freePages (used tree) (g .pages)) (P .clear) (room sized P n-is T m))) (tree .map)),
+          map-pages x,
           left-then sized P n-is T m x,
           laws.kept-old g image (P .path) bytes a x,
           ap (count x) (Q .pages-are),

@@ -106,7 +106,8 @@ module _ (g : Geometry) (image path bytes : List ℕ) (a : Asked g image path by
       edit = one-edit g image path bytes a (freePages (used (a .tree)) (g .pages)) clear room;
       chainFree = chain-free;
       joinsFree = joins-free;
-      change = put-change g (label g image path bytes a) (getD (freePages (used (a .tree)) (g .pages)) 0 0) (chain g image path bytes a (freePages (used (a .tree)) (g .pages))) (a .place .items) (here-shaped g image path bytes a .isDirectory);
+      change = put-change g (label g image path bytes a) (getD (freePages (used (a .tree)) (g .pages)) 0 0)
+          (chain g image path bytes a (freePages (used (a .tree)) (g .pages))) (a .place .items) (here-shaped g image path bytes a .isDirectory);
       differs = differs;
     }
 

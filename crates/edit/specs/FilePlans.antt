@@ -109,12 +109,14 @@ module _ {inUse : Path → Image → List ℕ} {g : Geometry} {image table bytes
   module _ {n : ℕ} (n-is : n ≡ pagesFor (dataCapacity g) (length bytes)) {r : Taken} (T : Takes table (f .extra) n r) {p : Pages} (m : r ≡ took.At p) where
     pub T′ : PagesTaken (inUse (P .asked .to) (P .asked .tree)) (g .pages) (f .extra) n p
     unfolding Takes
-    T′ = subst (λ (N : ℕ). PagesTaken (inUse (P .asked .to) (P .asked .tree)) N (f .extra) n p) sized (subst (TakenIs (inUse (P .asked .to) (P .asked .tree)) (length table) (f .extra) n) m (T (inUse (P .asked .to) (P .asked .tree)) (P .represents)))
+    T′ =
+        let us = inUse (P .asked .to) (P .asked .tree) in
+        subst (λ (N : ℕ). PagesTaken us N (f .extra) n p) sized (subst (TakenIs us (length table) (f .extra) n) m (T us (P .represents)))
 
     pub room : laws.extra g image (P .path) bytes (P .asked) + wanted ≤ length free
     room = omega (arith, T′ .enough, P .at .extra-is)
 
-    pub edit-is : putEdit g (freePages (inUse (P .asked .to) (P .asked .tree)) (g .pages)) (P .asked .to) bytes (P .asked .place) ≡ ok (laws.theEdit g image (P .path) bytes (P .asked) (freePages (inUse (P .asked .to) (P .asked .tree)) (g .pages)))
+    pub edit-is : putEdit g free (P .asked .to) bytes (P .asked .place) ≡ ok (laws.theEdit g image (P .path) bytes (P .asked) free)
     edit-is = laws.edit-is g image (P .path) bytes a free ∙ simp (le-leb _ _ room, refuse-true, then-ok)
 
     abbrev pub theEdit : OneEdit (laws.directory g image (P .path) bytes (P .asked))

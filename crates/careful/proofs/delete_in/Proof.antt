@@ -30,8 +30,9 @@ check-table-requires-2 c κs =
 halted-requires : tie.Need-halted-requires
 halted-requires c κs =
     let at-check2 = c .before .before in
-    let at-limited = at-check2 .before .before .before .before .before .before .before .before in
-    let at-delete-path = at-check2 .before .before .before .before .before .before .before in
+    let at-slice-known5 = at-check2 .before .before .before in
+    let at-delete-path = at-slice-known5 .before .before .before .before in
+    let at-limited = at-delete-path .before in
     let at-told = at-limited .before .before .before in
     let at-check = at-told .before .before .before .before in
     let at-image = at-check .before .before .before .before .before in
@@ -54,8 +55,9 @@ returns c =
 returns-2 : tie.Need-returns-2
 returns-2 c =
     let at-check2 = c .before .before .before in
-    let at-limited = at-check2 .before .before .before .before .before .before .before .before in
-    let at-delete-path = at-check2 .before .before .before .before .before .before .before in
+    let at-slice-known5 = at-check2 .before .before .before in
+    let at-delete-path = at-slice-known5 .before .before .before .before in
+    let at-limited = at-delete-path .before in
     let at-told = at-limited .before .before .before in
     let at-check = at-told .before .before .before .before in
     let at-image = at-check .before .before .before .before .before in
