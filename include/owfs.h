@@ -171,4 +171,88 @@ struct owfs_answer owfs_put(uint32_t page_length, uint32_t page_count, uint8_t *
 struct owfs_answer owfs_delete(uint32_t page_length, uint32_t page_count, uint8_t *image, size_t image_length, const uint8_t *path, size_t path_length,
                                uint8_t *owners, size_t owners_length);
 
+/* What a careful put or delete answers: number 0, page 0, the page writes made and whether any are left, or a refusal's number and page with both 0. */
+struct owfs_writes {
+    uint32_t number;
+    uint32_t page;
+    uint32_t made;        /* page writes made, at most `allowed` */
+    uint32_t left;        /* 1 if writes are left, else 0 */
+};
+
+/* Checks an image as owfs_check does, then puts a file as owfs_put does, but so that a button can be written in the same order, page by page, and be
+ * pulled off its probe between any two page writes. At most `allowed` page writes are made, the first of this order:
+ *
+ *   1. the bitmap's pages that mark the new pages, in chain order; with a local bitmap page 0
+ *   2. the file's pages, rising
+ *   3. a page that joins the directory, with the new entry in it
+ *   4. the one directory page that makes the change visible
+ *   5. the bitmap's pages that release a replaced file's pages, as in 1
+ *
+ * A page whose packet would not change is not written and does not count. With `allowed` at least the number of writes, as 0xFFFFFFFF always is, the
+ * put is done whole and `left` is 0; with 0 nothing is written.
+ *
+ * number  meaning, in the order in which it is judged              page
+ *      0  done, as far as the writes allowed go                    0
+ *   1-13  the check's faults, as for owfs_check                    as there
+ *     14  path malformed: its length, a name or its last byte      0
+ *     15  directory absent                                         0
+ *     16  file is read-only                                        0
+ *     17  no room besides the replaced file's pages                0
+ *
+ * Path and entry are as for owfs_put. The file takes the lowest free pages, and none of the pages of a file that it replaces: these are free only
+ * when nothing is left. While writes are left, owfs_check answers 0, or 13 because pages are marked that no chain has; then owfs_mend clears these
+ * marks. Afterwards every other file reads as before, and the path's as before until the write of 4 is made, and as the new one from it on. When
+ * nothing is left the image is accepted. An image with writes left that is refused with 13 is refused by a careful put too: mend it first.
+ * In a page written only the bytes of its new packet change; every other byte of the image stays. A refusal changes no byte of the image.
+ * `owners` are left as owfs_check leaves them for the image as it then stands, also after 0: all numbers are 0 where a check would answer 13, and
+ * after the faults 2 to 13; at least 2 * page_count bytes are needed (1); after 1 no byte is changed; bytes past the first 2 * page_count never
+ * change. Any arguments are taken. Image and owners must not overlap each other, the path or the bytes.
+ * Stack: 131,070 bytes for a table of 65,535 numbers, and less than 9 KiB more, however many entries a directory has. */
+struct owfs_writes owfs_careful_put(uint32_t page_length, uint32_t page_count, uint8_t *image, size_t image_length, const uint8_t *path,
+                                    size_t path_length, const uint8_t *bytes, size_t bytes_length, uint8_t *owners, size_t owners_length,
+                                    uint32_t allowed);
+
+/* Checks an image as owfs_check does, then deletes a file as owfs_delete does, but in an order as owfs_careful_put has it, by at most `allowed` page
+ * writes: the directory page without the entry, which makes the change visible, then the bitmap's pages that release the file's pages, in chain order;
+ * with a local bitmap page 0.
+ *
+ * number  meaning, in the order in which it is judged              page
+ *      0  done, as far as the writes allowed go                    0
+ *   1-13  the check's faults, as for owfs_check                    as there
+ *     14  path malformed: its length, a name or its last byte      0
+ *     15  directory or file absent                                 0
+ *     16  file is read-only                                        0
+ *
+ * While writes are left, owfs_check answers 0, or 13 because pages are marked that no chain has; then owfs_mend clears these marks. Afterwards every
+ * other file reads as before, and the path's as before until the first write is made, and is absent from it on. When nothing is left the image is
+ * accepted. In a page written only the bytes of its new packet change; every other byte of the image stays, those of the file's pages too. A refusal
+ * changes no byte of the image. `owners` are left as by owfs_careful_put. Any arguments are taken. Image and owners must not overlap each other or
+ * the path.
+ * Stack: 131,070 bytes for a table of 65,535 numbers, and less than 9 KiB more, however many entries a directory has. */
+struct owfs_writes owfs_careful_delete(uint32_t page_length, uint32_t page_count, uint8_t *image, size_t image_length, const uint8_t *path,
+                                       size_t path_length, uint8_t *owners, size_t owners_length, uint32_t allowed);
+
+/* What a mend answers: number 0, page 0 and the marks cleared, or a refusal's number and page with 0 marks. */
+struct owfs_mended {
+    uint32_t number;
+    uint32_t page;
+    uint32_t cleared;
+};
+
+/* Checks an image as owfs_check does, but for the bitmap, then clears the bitmap's marks of pages that no chain has, as a careful put or delete
+ * that was stopped leaves them, and tells their number. An image that is accepted stays as it is, with 0 marks cleared.
+ *
+ * number  meaning, in the order in which it is judged              page
+ *      0  done: the image is accepted now                          0
+ *   1-12  the check's faults, as for owfs_check                    as there
+ *     13  a page in use is unmarked, or a bit past the last page   lowest differing bit, as for owfs_check
+ *         is set: nothing is cleared
+ *
+ * Only the packets of the bitmap change, in page 0 or in the bitmap file, which keeps its packets' lengths; every other byte of the image stays. A
+ * refusal changes no byte of the image. `owners` are left as owfs_check leaves them: after 0 they tell of the mended image; at least 2 * page_count
+ * bytes are needed (1); all numbers are 0 after the faults 2 to 13; after 1 no byte is changed; bytes past the first 2 * page_count never change.
+ * Any arguments are taken. Image and owners must not overlap.
+ * Stack: 131,070 bytes for a table of 65,535 numbers, and less than 9 KiB more, however many entries a directory has. */
+struct owfs_mended owfs_mend(uint32_t page_length, uint32_t page_count, uint8_t *image, size_t image_length, uint8_t *owners, size_t owners_length);
+
 #endif

@@ -43,6 +43,15 @@ pub struct Totals {
     pub directories: u32,
 }
 
+/// What a careful put or delete has written.
+#[derive(Clone, Copy, Debug, PartialEq, Eq, Hash)]
+pub struct Writes {
+    /// The page writes made, at most those allowed.
+    pub made: u32,
+    /// Whether writes are left.
+    pub left: bool,
+}
+
 /// Nothing for number 0, else the refusal.
 fn done(number: u32, page: u32) -> Result<(), Refusal> {
     match number {
@@ -233,4 +242,117 @@ pub fn delete(
         owners,
     );
     done(told.number, told.page)
+}
+
+/// What a careful call tells.
+fn writes(told: raw::Writes) -> Result<Writes, Refusal> {
+    done(told.number, told.page)?;
+    Ok(Writes {
+        made: told.made,
+        left: told.left != 0,
+    })
+}
+
+/// Checks an image and puts a file as [`put`] does, by at most `allowed` whole-page writes, so that a button can be written in the same order and be
+/// pulled off its probe between any two of them.
+///
+/// The order: the bitmap's pages that mark the new pages, in chain order (with a local bitmap page 0); the file's pages, rising; a page that joins
+/// the directory, with the new entry; the one directory page that makes the change visible; the bitmap's pages that release a replaced file's pages.
+/// A page whose packet would not change is not written and does not count. The file takes none of the pages of a file that it replaces.
+///
+/// While writes are left, [`check`] accepts the image or refuses it with 13 because pages are marked that no chain has; [`mend`] clears these marks.
+/// Then every other file reads as before, and the path's as before until the page is written that makes the change visible, and as the new one from
+/// it on. When nothing is left the image is accepted. The owner table is left as [`check`] leaves it for the image as it then stands: all 0 where
+/// that is refused. A refusal changes no byte of the image.
+///
+/// Each page write of a button, in order, is the page that differs after one write more:
+///
+/// ```
+/// use owfs::{careful_put, owner_table, path, Bitmap, Geometry};
+///
+/// let geometry = Geometry::new(32, 16);
+/// let mut button = vec![0; 32 * 16];
+/// let mut owners = owner_table(geometry.page_count);
+/// owfs::format(geometry, &mut button, &mut owners, Bitmap::Local)?;
+/// let demo = path(&[], "DEMO", 12)?;
+///
+/// let image = button.clone();
+/// let mut written = Vec::new();
+/// for allowed in 1.. {
+///     let mut next = image.clone();
+///     let writes = careful_put(geometry, &mut next, &demo, b"TEST", &mut owners, allowed)?;
+///     let differs = |page: &usize| next[32 * page..32 * page + 32] != button[32 * page..32 * page + 32];
+///     let page = (0..16).find(differs).unwrap();
+///     button[32 * page..32 * page + 32].copy_from_slice(&next[32 * page..32 * page + 32]);
+///     written.push(page);
+///     if !writes.left {
+///         break;
+///     }
+/// }
+/// assert_eq!(written, [0, 1, 0]);
+/// # Ok::<(), Box<dyn std::error::Error>>(())
+/// ```
+///
+/// # Errors
+///
+/// 1 to 13 as for [`check`]; 14 if the path is malformed; 15 if a directory is absent; 16 if the file is read-only; 17 if there is no room besides the
+/// replaced file's pages.
+pub fn careful_put(
+    geometry: Geometry,
+    image: &mut [u8],
+    path: &[u8],
+    bytes: &[u8],
+    owners: &mut [u8],
+    allowed: u32,
+) -> Result<Writes, Refusal> {
+    writes(raw::careful_put(
+        geometry.page_length,
+        geometry.page_count,
+        image,
+        path,
+        bytes,
+        owners,
+        allowed,
+    ))
+}
+
+/// Checks an image and deletes a file as [`delete`] does, by at most `allowed` whole-page writes: the directory page without the entry, which makes
+/// the change visible, then the bitmap's pages that release the file's pages, in chain order (with a local bitmap page 0).
+///
+/// What is left while writes are left is as for [`careful_put`]; the path's file is as before until the first write is made, and absent from it on.
+/// A refusal changes no byte of the image.
+///
+/// # Errors
+///
+/// 1 to 13 as for [`check`]; 14 if the path is malformed; 15 if a directory or the file is absent; 16 if the file is read-only.
+pub fn careful_delete(
+    geometry: Geometry,
+    image: &mut [u8],
+    path: &[u8],
+    owners: &mut [u8],
+    allowed: u32,
+) -> Result<Writes, Refusal> {
+    writes(raw::careful_delete(
+        geometry.page_length,
+        geometry.page_count,
+        image,
+        path,
+        owners,
+        allowed,
+    ))
+}
+
+/// Clears the bitmap's marks of pages that no chain has, as a careful put or delete that was stopped leaves them, and tells their number.
+///
+/// Only the bitmap's packets change; every other byte of the image stays. Afterwards the image is accepted, and the owner table tells of it. An image
+/// that is accepted already stays as it is, with 0 marks cleared. A refusal changes no byte of the image.
+///
+/// # Errors
+///
+/// 1 to 12 as for [`check`]; 13, with the page that [`check`] tells, if a page in use is unmarked or a bit past the last page is set: such a bitmap
+/// is left by no stopped careful call, and nothing is cleared.
+pub fn mend(geometry: Geometry, image: &mut [u8], owners: &mut [u8]) -> Result<u32, Refusal> {
+    let told = raw::mend(geometry.page_length, geometry.page_count, image, owners);
+    done(told.number, told.page)?;
+    Ok(told.cleared)
 }

@@ -1,4 +1,4 @@
-//! The seven functions of `include/owfs.h` over slices, with the answers as C has them: number and page beside every other field.
+//! The ten functions of `include/owfs.h` over slices, with the answers as C has them: number and page beside every other field.
 //!
 //! This is the only module with unsafe code. The functions of the crate's root are made of these and are what most callers want; these are for
 //! those who compare whole answers, the fields of a refusal too.
@@ -65,6 +65,32 @@ pub struct Answer {
     pub number: u32,
     /// The page that the refusal tells.
     pub page: u32,
+}
+
+/// `struct owfs_writes`: number 0, page 0, the page writes made and whether any are left, or a refusal's number and page with both 0.
+#[repr(C)]
+#[derive(Clone, Copy, Debug, PartialEq, Eq, Hash)]
+pub struct Writes {
+    /// 0, or the refusal's number.
+    pub number: u32,
+    /// The page that the refusal tells.
+    pub page: u32,
+    /// The page writes made.
+    pub made: u32,
+    /// 1 if writes are left, else 0.
+    pub left: u32,
+}
+
+/// `struct owfs_mended`: number 0, page 0 and the marks cleared, or a refusal's number and page with 0 marks.
+#[repr(C)]
+#[derive(Clone, Copy, Debug, PartialEq, Eq, Hash)]
+pub struct Mended {
+    /// 0, or the refusal's number.
+    pub number: u32,
+    /// The page that the refusal tells.
+    pub page: u32,
+    /// The marks cleared.
+    pub cleared: u32,
 }
 
 extern "C" {
@@ -135,6 +161,41 @@ extern "C" {
         owners: *mut u8,
         owners_length: usize,
     ) -> Answer;
+
+    fn owfs_careful_put(
+        page_length: u32,
+        page_count: u32,
+        image: *mut u8,
+        image_length: usize,
+        path: *const u8,
+        path_length: usize,
+        bytes: *const u8,
+        bytes_length: usize,
+        owners: *mut u8,
+        owners_length: usize,
+        allowed: u32,
+    ) -> Writes;
+
+    fn owfs_careful_delete(
+        page_length: u32,
+        page_count: u32,
+        image: *mut u8,
+        image_length: usize,
+        path: *const u8,
+        path_length: usize,
+        owners: *mut u8,
+        owners_length: usize,
+        allowed: u32,
+    ) -> Writes;
+
+    fn owfs_mend(
+        page_length: u32,
+        page_count: u32,
+        image: *mut u8,
+        image_length: usize,
+        owners: *mut u8,
+        owners_length: usize,
+    ) -> Mended;
 }
 
 /// [`crate::crc16`].
@@ -271,6 +332,74 @@ pub fn delete(
             image.len(),
             path.as_ptr(),
             path.len(),
+            owners.as_mut_ptr(),
+            owners.len(),
+        )
+    }
+}
+
+/// [`crate::careful_put`] with the whole answer.
+pub fn careful_put(
+    page_length: u32,
+    page_count: u32,
+    image: &mut [u8],
+    path: &[u8],
+    bytes: &[u8],
+    owners: &mut [u8],
+    allowed: u32,
+) -> Writes {
+    // SAFETY: any numbers are taken; pointers and lengths are those of slices, and those that are written overlap no other.
+    unsafe {
+        owfs_careful_put(
+            page_length,
+            page_count,
+            image.as_mut_ptr(),
+            image.len(),
+            path.as_ptr(),
+            path.len(),
+            bytes.as_ptr(),
+            bytes.len(),
+            owners.as_mut_ptr(),
+            owners.len(),
+            allowed,
+        )
+    }
+}
+
+/// [`crate::careful_delete`] with the whole answer.
+pub fn careful_delete(
+    page_length: u32,
+    page_count: u32,
+    image: &mut [u8],
+    path: &[u8],
+    owners: &mut [u8],
+    allowed: u32,
+) -> Writes {
+    // SAFETY: any numbers are taken; pointers and lengths are those of slices, and those that are written overlap no other.
+    unsafe {
+        owfs_careful_delete(
+            page_length,
+            page_count,
+            image.as_mut_ptr(),
+            image.len(),
+            path.as_ptr(),
+            path.len(),
+            owners.as_mut_ptr(),
+            owners.len(),
+            allowed,
+        )
+    }
+}
+
+/// [`crate::mend`] with the whole answer.
+pub fn mend(page_length: u32, page_count: u32, image: &mut [u8], owners: &mut [u8]) -> Mended {
+    // SAFETY: any numbers are taken; pointers and lengths are those of slices, and those that are written overlap no other.
+    unsafe {
+        owfs_mend(
+            page_length,
+            page_count,
+            image.as_mut_ptr(),
+            image.len(),
             owners.as_mut_ptr(),
             owners.len(),
         )

@@ -4,8 +4,9 @@
 //! The archive is made by `rt staticlib owfs`.
 
 use owfs::{
-    check, crc16, delete, entries, list, owner_of, owner_table, path, put, read, read_to_vec,
-    Bitmap, Geometry, Kind, Listed, Name, Owner, Reason, Refusal, Totals,
+    careful_delete, careful_put, check, crc16, delete, entries, list, mend, owner_of, owner_table,
+    path, put, read, read_to_vec, Bitmap, Geometry, Kind, Listed, Name, Owner, Reason, Refusal,
+    Totals, Writes,
 };
 
 /// The geometry of most images here.
@@ -103,6 +104,78 @@ fn read_fills_the_front_of_the_output_or_is_refused() {
     let absent = path(&["NONE"], "DEMO", 12).expect("a path");
     let refused = read_to_vec(GEOMETRY, &image, &absent, &mut owners);
     assert_eq!(refused, Err(refusal(15, 0)));
+}
+
+/// The answer of a careful call that was done.
+fn writes(made: u32, left: bool) -> Result<Writes, Refusal> {
+    Ok(Writes { made, left })
+}
+
+#[test]
+fn careful_put_is_stopped_and_mended() {
+    let demo = path(&[], "DEMO", 12).expect("a path");
+    let mut owners = owner_table(16);
+    for allowed in [0, 1, 2, 3, 4, u32::MAX] {
+        let mut image = formatted();
+        let told = careful_put(GEOMETRY, &mut image, &demo, b"TEST", &mut owners, allowed);
+        assert_eq!(told, writes(allowed.min(3), allowed < 3));
+        let stopped = allowed == 1 || allowed == 2;
+        let verdict = check(GEOMETRY, &image, &mut owners);
+        assert_eq!(verdict.is_err_and(|refusal| refusal.number == 13), stopped);
+        let again = careful_put(GEOMETRY, &mut image.clone(), &demo, b"T", &mut owners, 0);
+        assert_eq!(
+            again.is_err_and(|refused| refused.reason() == Reason::Bitmap),
+            stopped
+        );
+        let cleared = mend(GEOMETRY, &mut image, &mut owners);
+        assert_eq!(cleared, Ok(u32::from(stopped)));
+        let file = read_to_vec(GEOMETRY, &image, &demo, &mut owners);
+        match allowed {
+            0..=2 => assert_eq!(file, Err(refusal(15, 0))),
+            _ => assert_eq!(file, Ok(b"TEST".to_vec())),
+        }
+    }
+}
+
+#[test]
+fn careful_delete_is_stopped_and_mended() {
+    let demo = path(&[], "DEMO", 12).expect("a path");
+    let mut owners = owner_table(16);
+    let mut full = formatted();
+    put(GEOMETRY, &mut full, &demo, &[7; 60], &mut owners).expect("room");
+    for (allowed, cleared) in [(0, 0), (1, 3), (2, 0), (u32::MAX, 0)] {
+        let mut image = full.clone();
+        let told = careful_delete(GEOMETRY, &mut image, &demo, &mut owners, allowed);
+        assert_eq!(told, writes(allowed.min(2), allowed < 2));
+        assert_eq!(mend(GEOMETRY, &mut image, &mut owners), Ok(cleared));
+        let file = read_to_vec(GEOMETRY, &image, &demo, &mut owners);
+        assert_eq!(file.is_ok(), allowed == 0);
+    }
+    let told = careful_delete(GEOMETRY, &mut formatted(), &demo, &mut owners, 9);
+    assert_eq!(told, Err(refusal(15, 0)));
+}
+
+#[test]
+fn mend_refuses_a_page_in_use_that_is_unmarked() {
+    let mut image = nested();
+    let mut owners = owner_table(16);
+    assert_eq!(mend(GEOMETRY, &mut image, &mut owners), Ok(0));
+    let root = image[1..22].to_vec();
+    for (bits, told) in [
+        ([0x1F, 0x80, 0, 0], Ok(1)),
+        ([0xFF, 0xFF, 0, 0], Ok(11)),
+        ([0x1E, 0, 0, 0], Err(refusal(13, 0))),
+        ([0x3D, 0, 0, 0], Err(refusal(13, 1))),
+        ([0x1F, 0, 1, 0], Err(refusal(13, 16))),
+    ] {
+        let mut body = root.clone();
+        body[3..7].copy_from_slice(&bits);
+        packet(&mut image, 0, &body);
+        let before = image.clone();
+        assert_eq!(mend(GEOMETRY, &mut image, &mut owners), told);
+        assert_eq!(image == nested(), told.is_ok());
+        assert!(told.is_ok() || image == before);
+    }
 }
 
 /// The names that lead to an entry, each with a stroke after it, and its own.

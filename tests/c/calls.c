@@ -1,4 +1,5 @@
-/* Calls check, list, read, format, put and delete as firmware calls them, with numbers and byte slices, and prints each answer and each byte lent.
+/* Calls check, list, read, format, put, delete, careful put, careful delete and mend as firmware calls them, with numbers and byte slices, and prints
+ * each answer and each byte lent.
  *
  * The argument names a file: page length and page count (4 bytes each, low byte first), then the image, which ends the file.
  * Standard input has the calls; a number is 4 bytes, low byte first:
@@ -9,10 +10,13 @@
  *   f  bytes of the owner table, 0 for a bitmap file or any other number for a local bitmap
  *   p  bytes of the owner table, bytes of the path, bytes of the file, then the path and the file's bytes
  *   d  bytes of the owner table, bytes of the path, then the path
+ *   P  bytes of the owner table, bytes of the path, bytes of the file, writes allowed, then the path and the file's bytes
+ *   D  bytes of the owner table, bytes of the path, writes allowed, then the path
+ *   m  bytes of the owner table
  *   s  bytes of stack to use in blocks of 1,024, to show that a limit of the stack holds
  *
- * For each call it prints the letter and the fields of the answer, then a line with the owner table, for `r` one with the output and for `f`, `p`
- * and `d` one with the image, in hexadecimal. The calls after an edit have the image as it left it.
+ * For each call it prints the letter and the fields of the answer, then a line with the owner table, for `r` one with the output and for `f`, `p`,
+ * `d`, `P`, `D` and `m` one with the image, in hexadecimal. The calls after an edit have the image as it left it.
  * Owner table and output hold the byte C7 before each call. A slice of no bytes has no address.
  * It ends with 1 if a call changed the path, the file's bytes, bytes next to a lent slice, or the image where it must not (c, l, r and every
  * refusal), and with 2 if its input is not as above.
@@ -185,14 +189,27 @@ static void call_read(void)
     print_bytes(&out);
 }
 
-/* After an edit: prints its answer, the owner table and the image. If it was done, the image is the one that later calls must keep. */
-static void after_edit(char letter, struct owfs_answer told, const struct lent *owners)
+/* After a call that may change the image: prints the owner table and the image. If it was done, the image is the one that later calls must keep. */
+static void after_change(uint32_t number, const struct lent *owners)
 {
-    printf("%c %" PRIu32 " %" PRIu32 "\n", letter, told.number, told.page);
-    if (told.number == 0)
+    if (number == 0)
         memcpy(image_before, image_bytes + MARGIN, image.length);
     after_call(owners);
     print_bytes(&image);
+}
+
+/* After a format, a put or a delete: prints its answer, the owner table and the image. */
+static void after_edit(char letter, struct owfs_answer told, const struct lent *owners)
+{
+    printf("%c %" PRIu32 " %" PRIu32 "\n", letter, told.number, told.page);
+    after_change(told.number, owners);
+}
+
+/* After a careful call: prints its answer, the owner table and the image. */
+static void after_careful(char letter, struct owfs_writes told, const struct lent *owners)
+{
+    printf("%c %" PRIu32 " %" PRIu32 " %" PRIu32 " %" PRIu32 "\n", letter, told.number, told.page, told.made, told.left);
+    after_change(told.number, owners);
 }
 
 /* f: a format. */
@@ -230,6 +247,44 @@ static void call_delete(void)
     after_edit('d', told, &owners);
 }
 
+/* P: a careful put. */
+static void call_careful_put(void)
+{
+    struct lent owners = lend(owner_bytes, length_up_to(MOST_OWNERS));
+    size_t path_length = length_up_to(MOST_PATH);
+    size_t file_length = length_up_to(MOST_FILE);
+    uint32_t allowed = number(stdin);
+    struct lent path = read_given(path_bytes, path_before, path_length);
+    struct lent file = read_given(file_bytes, file_before, file_length);
+    struct owfs_writes told = owfs_careful_put(page_length, page_count, image.bytes, image.length, path.bytes, path.length, file.bytes, file.length,
+                                               owners.bytes, owners.length, allowed);
+    see_given(path_bytes, path_before, path.length, "path");
+    see_given(file_bytes, file_before, file.length, "bytes of the file");
+    after_careful('P', told, &owners);
+}
+
+/* D: a careful delete. */
+static void call_careful_delete(void)
+{
+    struct lent owners = lend(owner_bytes, length_up_to(MOST_OWNERS));
+    size_t path_length = length_up_to(MOST_PATH);
+    uint32_t allowed = number(stdin);
+    struct lent path = read_given(path_bytes, path_before, path_length);
+    struct owfs_writes told = owfs_careful_delete(page_length, page_count, image.bytes, image.length, path.bytes, path.length, owners.bytes,
+                                                  owners.length, allowed);
+    see_given(path_bytes, path_before, path.length, "path");
+    after_careful('D', told, &owners);
+}
+
+/* m: a mend. */
+static void call_mend(void)
+{
+    struct lent owners = lend(owner_bytes, length_up_to(MOST_OWNERS));
+    struct owfs_mended told = owfs_mend(page_length, page_count, image.bytes, image.length, owners.bytes, owners.length);
+    printf("m %" PRIu32 " %" PRIu32 " %" PRIu32 "\n", told.number, told.page, told.cleared);
+    after_change(told.number, &owners);
+}
+
 /* Writes to so many bytes of the stack, a block at a time, and counts the blocks. */
 static uint32_t use_stack(uint32_t bytes)
 {
@@ -259,6 +314,9 @@ int main(int count, char **arguments)
         case 'f': call_format(); break;
         case 'p': call_put(); break;
         case 'd': call_delete(); break;
+        case 'P': call_careful_put(); break;
+        case 'D': call_careful_delete(); break;
+        case 'm': call_mend(); break;
         case 's': call_stack(); break;
         default: wrong_input("no such call");
         }

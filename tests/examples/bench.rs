@@ -334,11 +334,16 @@ impl Bench {
         }
     }
 
+    /// Bytes for a file as long as the image's last.
+    fn file_bytes(&self) -> Vec<u8> {
+        let length = self.built.entries[self.built.entries.len() - 1].bytes.len();
+        (0..length).map(|place| (place * 13 / 7) as u8).collect()
+    }
+
     /// Times a put of this path, of a file as long as the image's last.
     fn put(&mut self, path: &[u8]) -> Times {
         let (p, n) = (self.built.page_length, self.built.page_count);
-        let length = self.built.entries[self.built.entries.len() - 1].bytes.len();
-        let bytes: Vec<u8> = (0..length).map(|place| (place * 13 / 7) as u8).collect();
+        let bytes = self.file_bytes();
         edit_times(
             &self.built.image,
             |image| library::put(p, n, image, path, &bytes, &mut self.owners),
@@ -359,6 +364,47 @@ impl Bench {
         let new_file = bench.put(&last);
         new_file.print("put of a new file", &bench.what);
         new_file.print_over_check(&check, "put of a new file", &bench.what);
+        let careful = bench.careful_put(&last);
+        careful.print("careful put of a new file", &bench.what);
+        careful.print_over_check(&check, "careful put of a new file", &bench.what);
+    }
+
+    /// Times a careful put of this path with every write allowed, of a file as long as the image's last.
+    fn careful_put(&mut self, path: &[u8]) -> Times {
+        let (p, n) = (self.built.page_length, self.built.page_count);
+        let bytes = self.file_bytes();
+        let all = u32::MAX;
+        edit_times(
+            &self.built.image,
+            |image| library::careful_put(p, n, image, path, &bytes, &mut self.owners, all),
+            |image| referee::careful_put(p, n, image, path, &bytes, &mut self.second_owners, all),
+        )
+    }
+
+    /// Times a careful delete of the last file with every write allowed.
+    fn careful_delete(&mut self) -> Times {
+        let (p, n) = (self.built.page_length, self.built.page_count);
+        let last = &self.built.entries[self.built.entries.len() - 1].path;
+        let all = u32::MAX;
+        edit_times(
+            &self.built.image,
+            |image| library::careful_delete(p, n, image, last, &mut self.owners, all),
+            |image| referee::careful_delete(p, n, image, last, &mut self.second_owners, all),
+        )
+    }
+
+    /// Times a mend after a careful delete of the last file was stopped before its marks were cleared.
+    fn mend(&mut self) -> Times {
+        let (p, n) = (self.built.page_length, self.built.page_count);
+        let last = &self.built.entries[self.built.entries.len() - 1].path;
+        let mut stopped = self.built.image.clone();
+        let told = referee::careful_delete(p, n, &mut stopped, last, &mut self.owners, 1);
+        assert_eq!((told.number, told.left), (0, 1));
+        edit_times(
+            &stopped,
+            |image| library::mend(p, n, image, &mut self.owners),
+            |image| referee::mend(p, n, image, &mut self.second_owners),
+        )
     }
 
     /// Times a delete of the last file.
@@ -423,7 +469,7 @@ fn print_method() {
          and an output of the file's length, all written before."
     );
     println!(
-        "Edits: each format, put and delete gets a fresh copy of the image; making the copy is part of neither time. \
+        "Edits: each format, put, delete, careful put, careful delete and mend gets a fresh copy of the image; making the copy is part of neither time. \
          Both programs leave the same image. A put is of a file as long as the last, of other bytes; its time over one check's \
          is that of the same image in the same run."
     );
@@ -454,6 +500,10 @@ fn main() {
             bench.read().print("read of the last file", &bench.what);
             bench.print_puts(&check);
             bench.delete().print("delete of the last file", &bench.what);
+            let careful = bench.careful_delete();
+            careful.print("careful delete of the last file", &bench.what);
+            let mend = bench.mend();
+            mend.print("mend after a stopped delete of the last file", &bench.what);
             bench.format().print("format over it", &bench.what);
         }
     }

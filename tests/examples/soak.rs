@@ -35,7 +35,17 @@ const MINUTES: f64 = 10.0;
 const REPORT: Duration = Duration::from_secs(60);
 
 /// The calls that are counted.
-const CALLS: [&str; 6] = ["check", "list", "read", "format", "put", "delete"];
+const CALLS: [&str; 9] = [
+    "check",
+    "list",
+    "read",
+    "format",
+    "put",
+    "delete",
+    "careful put",
+    "careful delete",
+    "mend",
+];
 
 /// What was done so far.
 struct Soak {
@@ -225,7 +235,7 @@ impl Soak {
         );
         println!("answers by call, each number with its count:");
         for call in CALLS {
-            println!("  {call:<8}{}", self.numbers(call));
+            println!("  {call:<16}{}", self.numbers(call));
         }
         println!("program list, 0 or the number refused:");
         println!("  {}{}", self.numbers("accepted"), self.numbers("refused"));

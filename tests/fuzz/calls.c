@@ -11,6 +11,10 @@
  *   - a fault of the image is told by each call that checks it; the calls agree on what a path leads to
  *   - after a put that is done the image is accepted and the file reads back, after a delete it is accepted and the file is absent, after a format it
  *     is accepted and empty; the owner table is the one that a check leaves
+ *   - a careful put or delete makes no more writes than allowed, and all of them if any are left; a check of what it leaves finds no fault but marks,
+ *     which a mend clears; then the file is as before or as new, and as new if nothing was left
+ *   - careful calls refuse what the plain ones refuse, and besides only a put for which there is no room; a mend refuses what a check refuses, but
+ *     for marks that no chain has
  *   - format is refused with 4 exactly if a local bitmap is asked for with more than 32 pages; no image of more has one and is accepted
  */
 #define _GNU_SOURCE
@@ -26,7 +30,7 @@
 enum { BEFORE = 0xC7, MARGIN = 64 };
 
 /* Numbers of answers. */
-enum { DONE = 0, ARGUMENTS = 1, CONTROL = 4, LAST_FAULT = 13, MALFORMED = 14, ABSENT = 15, READ_ONLY = 16, NO_ROOM = 17, TOO_SHORT = 18 };
+enum { DONE = 0, ARGUMENTS = 1, CONTROL = 4, LAST_FAULT = 13, MARKS = 13, MALFORMED = 14, ABSENT = 15, READ_ONLY = 16, NO_ROOM = 17, TOO_SHORT = 18 };
 
 /* Memory that is lent: a slice just before a page that may not be touched. */
 struct lent {
@@ -180,17 +184,24 @@ static struct owfs_length read_file(const uint8_t *bytes, size_t out_length)
     return told;
 }
 
-/* Demands of an edit: a refusal changes no byte; if it is done, the image is accepted and the owner table is the one that a check leaves.
+/* Demands of a call that may change the image: a refusal changes no byte of it; the owner table is the one that a check leaves.
  * Copies the image as it stands and gives its totals. */
-static struct owfs_totals after_edit(enum kind kind, struct owfs_answer told, uint8_t *edited)
+static struct owfs_totals after_change(enum kind kind, uint32_t number, uint32_t page, const uint8_t *before, uint8_t *changed)
 {
     static uint8_t table[MOST_OWNERS];
-    after_call(kind, told.number, told.page);
-    demand(told.number == DONE || holds(&image, dump.image), "a refusal changes no byte of the image");
-    memcpy(edited, image.bytes, image.length);
+    after_call(kind, number, page);
+    demand(number == DONE || holds(&image, before), "a refusal changes no byte of the image");
+    memcpy(changed, image.bytes, image.length);
     memcpy(table, owners.bytes, owners.length);
-    struct owfs_totals totals = check(edited);
+    struct owfs_totals totals = check(changed);
     demand(holds(&owners, table), "owners of the image as it stands");
+    return totals;
+}
+
+/* Demands of a format, a put or a delete: if it is done, the image is accepted. Copies the image as it stands and gives its totals. */
+static struct owfs_totals after_edit(enum kind kind, struct owfs_answer told, uint8_t *edited)
+{
+    struct owfs_totals totals = after_change(kind, told.number, told.page, dump.image, edited);
     demand(told.number != DONE || totals.number == DONE, "an edit leaves an accepted image");
     return totals;
 }
@@ -258,6 +269,87 @@ static void see_format(struct owfs_totals before)
     demand(has_local_bitmap(edited) == (arguments.local != 0), "the bitmap that was asked for");
 }
 
+/* A mend of an image, and what it leaves: an accepted image, or the fault that a check tells. Copies the image as it stands. */
+static uint32_t see_mend(const uint8_t *bytes, struct owfs_totals before, uint8_t *mended)
+{
+    lend_all(bytes);
+    struct owfs_mended told =
+        owfs_mend(arguments.page_length, arguments.page_count, image.bytes, image.length, owners.bytes, owners.length);
+    struct owfs_totals after = after_change(MENDED, told.number, told.page, bytes, mended);
+    if (told.number != DONE) {
+        demand(told.cleared == 0 && told.number == before.number && told.page == before.page, "a mend tells the check's fault");
+        return told.number;
+    }
+    demand(after.number == DONE, "a mend leaves an accepted image");
+    demand(before.number == DONE || before.number == MARKS, "a mend clears marks only");
+    demand((told.cleared > 0) == (before.number == MARKS), "marks that are cleared");
+    demand(before.number == MARKS || memcmp(bytes, mended, dump.image_length) == 0, "an accepted image stays");
+    return told.number;
+}
+
+/* Demands of a careful call: writes as allowed, and what it leaves can be mended. Copies the mended image; 1 if the call was done. */
+static int after_careful(enum kind kind, struct owfs_writes told, struct owfs_totals before, uint8_t *mended)
+{
+    static uint8_t edited[MOST_IMAGE];
+    struct owfs_totals after = after_change(kind, told.number, told.page, dump.image, edited);
+    demand(told.made <= arguments.position && told.left <= 1, "no more writes than allowed");
+    demand(told.left == 0 || told.made == arguments.position, "all writes that are allowed");
+    if (before.number != DONE)
+        demand(told.number == before.number && told.page == before.page, "a careful call tells the fault");
+    if (told.number != DONE) {
+        demand(told.made == 0 && told.left == 0, "no writes in a refusal");
+        return 0;
+    }
+    demand(told.made > 0 || told.left == 1, "there is something to write");
+    demand(after.number == DONE || (after.number == MARKS && told.left == 1), "no fault but marks");
+    demand(see_mend(edited, after, mended) == DONE, "what a careful call leaves is mended");
+    return 1;
+}
+
+/* Whether the path's file in an image has the bytes that were put. */
+static int is_put(const uint8_t *bytes)
+{
+    struct owfs_length length = read_file(bytes, MOST_FILE);
+    return length.number == DONE && length.length == arguments.file_length && memcmp(out.bytes, arguments.file, arguments.file_length) == 0;
+}
+
+/* Whether the path's file is as in the dump's image, or absent as there. */
+static int is_as_before(const uint8_t *bytes)
+{
+    static uint8_t old[MOST_FILE];
+    struct owfs_length before = read_file(dump.image, MOST_FILE);
+    memcpy(old, out.bytes, before.length);
+    struct owfs_length length = read_file(bytes, MOST_FILE);
+    return length.number == before.number && length.length == before.length && memcmp(out.bytes, old, before.length) == 0;
+}
+
+/* A careful put, and what it leaves; `put` is the number of the plain one. */
+static void see_careful_put(struct owfs_totals before, uint32_t put)
+{
+    static uint8_t mended[MOST_IMAGE];
+    lend_all(dump.image);
+    struct owfs_writes told = owfs_careful_put(arguments.page_length, arguments.page_count, image.bytes, image.length, path.bytes, path.length,
+                                               file.bytes, file.length, owners.bytes, owners.length, arguments.position);
+    demand(told.number == put || (told.number == NO_ROOM && put == DONE), "a careful put is refused as a put, or for its room");
+    if (after_careful(CAREFUL_PUT, told, before, mended))
+        demand(is_put(mended) || (told.left == 1 && is_as_before(mended)), "a file that was put carefully");
+}
+
+/* A careful delete, and what it leaves; `deleted` is the number of the plain one. */
+static void see_careful_delete(struct owfs_totals before, uint32_t deleted)
+{
+    static uint8_t mended[MOST_IMAGE];
+    lend_all(dump.image);
+    struct owfs_writes told = owfs_careful_delete(arguments.page_length, arguments.page_count, image.bytes, image.length, path.bytes, path.length,
+                                                  owners.bytes, owners.length, arguments.position);
+    demand(told.number == deleted, "a careful delete is refused as a delete");
+    if (!after_careful(CAREFUL_DELETED, told, before, mended))
+        return;
+    int is_absent = read_file(mended, MOST_FILE).number == ABSENT;
+    demand(is_absent == (told.made > 0), "absent from the first write on");
+    demand(is_absent || is_as_before(mended), "as before without a write");
+}
+
 /* Demands that read, put and delete agree on what a path of an accepted image leads to. */
 static void see_path(uint32_t read, uint32_t put, uint32_t deleted)
 {
@@ -312,6 +404,10 @@ static void make_calls(void)
     struct owfs_length length = read_file(dump.image, arguments.out_length);
     uint32_t deleted = see_delete(totals);
     uint32_t put = see_put(totals);
+    static uint8_t mended[MOST_IMAGE];
+    see_mend(dump.image, totals, mended);
+    see_careful_put(totals, put);
+    see_careful_delete(totals, deleted);
     if (totals.number == DONE)
         see_path(length.number, put, deleted);
     else

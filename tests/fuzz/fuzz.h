@@ -8,7 +8,7 @@
  *   1 byte    255 for a page length that is 65,536 greater
  *   1         255 for a page count that is 65,536 greater
  *   1         0 to 239: so many bytes of the owner table above 2 * page_count; 240 to 255: 16 to 1 below it
- *   4         the position to list
+ *   4         the position to list, and the page writes that careful calls are allowed
  *   4         what format takes for `local`
  *   2         bytes of the output: 0 for as many as the image has, else one more than there are
  *   2         bytes of the file to put
@@ -67,7 +67,7 @@ void write_position(struct dump *dump, uint32_t position);
 
 /* What an input can meet, besides the library's blocks: the answers of the calls, each as its number times PAGES_TOLD and the page it tells, or the
  * last if that is greater; and what an accepted image has. */
-enum kind { CHECKED, LISTED, READ, FORMATTED, PUT, DELETED, USED, FILES, DIRECTORIES, LEVEL, KINDS };
+enum kind { CHECKED, LISTED, READ, FORMATTED, PUT, DELETED, CAREFUL_PUT, CAREFUL_DELETED, MENDED, USED, FILES, DIRECTORIES, LEVEL, KINDS };
 enum { PAGES_TOLD = 8 };
 
 /* blocks.c: tells libFuzzer that an input has met a value of this kind. */

@@ -7,7 +7,7 @@
 use std::fmt::{Arguments, Debug};
 
 use crate::library;
-use referee::{Answer, Length, Listing, Totals};
+use referee::{Answer, Length, Listing, Mended, Totals, Writes};
 
 /// The bytes before and after a slice that is lent to the library.
 const MARGIN: [u8; 24] = [0x96; 24];
@@ -143,14 +143,38 @@ pub fn read(
     told
 }
 
+/// An answer with a number, 0 if the call was done.
+trait Numbered: PartialEq + Debug {
+    /// The number.
+    fn number(&self) -> u32;
+}
+
+impl Numbered for Answer {
+    fn number(&self) -> u32 {
+        self.number
+    }
+}
+
+impl Numbered for Writes {
+    fn number(&self) -> u32 {
+        self.number
+    }
+}
+
+impl Numbered for Mended {
+    fn number(&self) -> u32 {
+        self.number
+    }
+}
+
 /// An edit made by both, each of its own copy of the image: equal answers, equal images and owner tables. A refusal changes no byte of the image.
-fn edit(
+fn edit<T: Numbered>(
     call: Arguments,
     image: &mut [u8],
     owners: &mut [u8],
-    library: impl FnOnce(&mut [u8], &mut [u8]) -> Answer,
-    second: impl FnOnce(&mut [u8], &mut [u8]) -> Answer,
-) -> Answer {
+    library: impl FnOnce(&mut [u8], &mut [u8]) -> T,
+    second: impl FnOnce(&mut [u8], &mut [u8]) -> T,
+) -> T {
     let before = image.to_vec();
     let mut lent_image = Lent::of(image);
     let mut lent_owners = Lent::of(owners);
@@ -159,7 +183,7 @@ fn edit(
     lent_image.demand("image", call, image);
     lent_owners.demand("owner table", call, owners);
     assert!(
-        answer.number == 0 || image == before,
+        answer.number() == 0 || image == before,
         "a refusal changes no byte of the image: {call}"
     );
     answer
@@ -228,4 +252,74 @@ pub fn delete(
     );
     lent_path.demand("path", format_args!("delete of {path:?}"), path);
     told
+}
+
+/// Makes or replaces a file by at most `allowed` page writes.
+pub fn careful_put(
+    page_length: u32,
+    page_count: u32,
+    image: &mut [u8],
+    path: &[u8],
+    bytes: &[u8],
+    owners: &mut [u8],
+    allowed: u32,
+) -> Writes {
+    let (p, n, table, length) = (page_length, page_count, owners.len(), bytes.len());
+    let mut lent_path = Lent::of(path);
+    let mut lent_bytes = Lent::of(bytes);
+    let told = edit(
+        format_args!(
+            "careful put of {length} bytes to {path:?}, {allowed} writes allowed, {n} pages of {p} bytes, {table} owner bytes"
+        ),
+        image,
+        owners,
+        |image, owners| {
+            let (path, bytes) = (lent_path.slice(), lent_bytes.slice());
+            library::careful_put(p, n, image, path, bytes, owners, allowed)
+        },
+        |image, owners| referee::careful_put(p, n, image, path, bytes, owners, allowed),
+    );
+    lent_path.demand("path", format_args!("careful put to {path:?}"), path);
+    lent_bytes.demand(
+        "file's bytes",
+        format_args!("careful put to {path:?}"),
+        bytes,
+    );
+    told
+}
+
+/// Deletes a file by at most `allowed` page writes.
+pub fn careful_delete(
+    page_length: u32,
+    page_count: u32,
+    image: &mut [u8],
+    path: &[u8],
+    owners: &mut [u8],
+    allowed: u32,
+) -> Writes {
+    let (p, n, table) = (page_length, page_count, owners.len());
+    let mut lent_path = Lent::of(path);
+    let told = edit(
+        format_args!(
+            "careful delete of {path:?}, {allowed} writes allowed, {n} pages of {p} bytes, {table} owner bytes"
+        ),
+        image,
+        owners,
+        |image, owners| library::careful_delete(p, n, image, lent_path.slice(), owners, allowed),
+        |image, owners| referee::careful_delete(p, n, image, path, owners, allowed),
+    );
+    lent_path.demand("path", format_args!("careful delete of {path:?}"), path);
+    told
+}
+
+/// Clears the marks of pages that no chain has.
+pub fn mend(page_length: u32, page_count: u32, image: &mut [u8], owners: &mut [u8]) -> Mended {
+    let (p, n, table) = (page_length, page_count, owners.len());
+    edit(
+        format_args!("mend, {n} pages of {p} bytes, {table} owner bytes"),
+        image,
+        owners,
+        |image, owners| library::mend(p, n, image, owners),
+        |image, owners| referee::mend(p, n, image, owners),
+    )
 }

@@ -3,7 +3,7 @@
 use crate::agreed;
 use crate::Button;
 use referee::rng::Rng;
-use referee::{Answer, Length, Listing, Totals};
+use referee::{Answer, Length, Listing, Mended, Totals, Writes};
 
 /// Checks an image.
 pub fn check(button: &Button, owner_bytes: usize, rng: &mut Rng) -> Totals {
@@ -65,4 +65,36 @@ pub fn put(
 pub fn delete(button: &mut Button, owner_bytes: usize, path: &[u8], rng: &mut Rng) -> Answer {
     let (p, n, image) = (button.page_length, button.page_count, &mut button.image);
     agreed::delete(p, n, image, path, &mut rng.bytes(owner_bytes))
+}
+
+/// Makes or replaces a file by at most `allowed` page writes.
+pub fn careful_put(
+    button: &mut Button,
+    owner_bytes: usize,
+    path: &[u8],
+    bytes: &[u8],
+    allowed: u32,
+    rng: &mut Rng,
+) -> Writes {
+    let (p, n, image) = (button.page_length, button.page_count, &mut button.image);
+    let owners = &mut rng.bytes(owner_bytes);
+    agreed::careful_put(p, n, image, path, bytes, owners, allowed)
+}
+
+/// Deletes a file by at most `allowed` page writes.
+pub fn careful_delete(
+    button: &mut Button,
+    owner_bytes: usize,
+    path: &[u8],
+    allowed: u32,
+    rng: &mut Rng,
+) -> Writes {
+    let (p, n, image) = (button.page_length, button.page_count, &mut button.image);
+    agreed::careful_delete(p, n, image, path, &mut rng.bytes(owner_bytes), allowed)
+}
+
+/// Clears the marks of pages that no chain has.
+pub fn mend(button: &mut Button, owner_bytes: usize, rng: &mut Rng) -> Mended {
+    let (p, n, image) = (button.page_length, button.page_count, &mut button.image);
+    agreed::mend(p, n, image, &mut rng.bytes(owner_bytes))
 }

@@ -1,12 +1,17 @@
-//! Long runs of calls on one image: the library and the second program format, put, delete, check, list and read alike, after each other's edits.
+//! Long runs of calls on one image: the library and the second program format, put, delete, check, list and read alike, after each other's edits;
+//! careful puts and deletes are made too, some of them stopped and mended.
 //! Every answer and every lent byte is compared, and each is known by construction: the image has a plan, which the edits change.
 
 use crate::generators::files;
 use crate::plans::{
     directories, formatted_plan, may_be_local, overlaid, plan_with, plan_without, Room,
 };
-use crate::puts::{count_room, done_features, labelled_path, path_in, random_bytes, tight_bytes};
-use crate::{answer, both, Button, Tally};
+use crate::puts::{
+    careful_bytes, count_room, done_features, labelled_path, path_in, random_bytes, tight_bytes,
+};
+use crate::stops::{careful_edit, Careful, Edit};
+use crate::trials::random_allowed;
+use crate::{answer, both, mended, no_writes, writes, Button, Tally};
 use referee::builder::plan::{Built, BuiltEntry, ImagePlan};
 use referee::rng::Rng;
 
@@ -180,6 +185,50 @@ impl<'a> Run<'a> {
         }
     }
 
+    /// A careful put or delete with both, of some writes or all, and a mend if any are left.
+    fn careful(&mut self, path: &[u8]) {
+        let edit = match self.rng.chance(70) {
+            true => Edit::Put(careful_bytes(&self.plan, path, self.rng)),
+            false => Edit::Delete,
+        };
+        let call = match edit {
+            Edit::Put(_) => "careful put",
+            Edit::Delete => "careful delete",
+        };
+        let expected = Careful::new(self.button.clone(), &self.plan, path, edit.clone());
+        let allowed = random_allowed(self.rng);
+        let told = careful_edit(&mut self.button, path, &edit, allowed, self.rng);
+        self.tally.add(format!("{call} {}", told.number));
+        let careful = match expected {
+            Ok(careful) => careful,
+            Err(number) => return assert_eq!(told, no_writes(number, 0), "known by construction"),
+        };
+        let total = careful.total() as u32;
+        let known = writes(allowed.min(total), allowed < total);
+        assert_eq!(told, known, "known by construction");
+        if told.left == 1 {
+            self.tally.add("careful edits stopped");
+            self.mend();
+        }
+        if careful.order.is_visible_after(told.made as usize) {
+            self.plan = careful.after.plan;
+            self.built = careful.after.built;
+        }
+        self.check();
+    }
+
+    /// A mend with both, after a careful edit that was stopped.
+    fn mend(&mut self) {
+        let table = self.table();
+        let verdict = both::check(&self.button, table, self.rng);
+        let told = both::mend(&mut self.button, table, self.rng);
+        self.tally.add(format!("mend {}", told.number));
+        match verdict.number {
+            0 => assert_eq!(told, mended(0)),
+            number => assert!(number == 13 && told.number == 0 && told.cleared > 0),
+        }
+    }
+
     /// A put or a delete with both of a path that is malformed.
     fn malformed(&mut self, mut path: Vec<u8>) {
         match (path.len(), self.rng.below(3)) {
@@ -242,8 +291,9 @@ impl<'a> Run<'a> {
             _ => self.path(),
         };
         match self.rng.below(200) {
-            0..=89 => self.put(&path),
-            90..=143 => self.delete(&path),
+            0..=74 => self.put(&path),
+            75..=119 => self.delete(&path),
+            120..=143 => self.careful(&path),
             144..=149 => self.malformed(path),
             150..=173 => self.read(&path),
             174..=183 => self.check(),

@@ -177,6 +177,21 @@ pub fn large_image(rng: &mut Rng) -> Built {
 /// one in five is nested down to level eight.
 pub fn worn_plan(rng: &mut Rng) -> ImagePlan {
     let limit = random_limit(rng).min(1_000);
+    plan_with_free_pages(limit, |count, rng| [0, 0, 1, count][rng.below(4)], rng)
+}
+
+/// A plan like a worn one, of up to so many pages, but with some pages free.
+pub fn roomy_plan(most_pages: usize, rng: &mut Rng) -> ImagePlan {
+    let limit = random_limit(rng).min(most_pages);
+    plan_with_free_pages(limit, |count, rng| 1 + [1, 3, 8, count][rng.below(4)], rng)
+}
+
+/// A worn plan of up to so many pages, with so many free pages at least, by those that a random shape has.
+fn plan_with_free_pages(
+    limit: usize,
+    free_pages: impl FnOnce(usize, &mut Rng) -> usize,
+    rng: &mut Rng,
+) -> ImagePlan {
     let (page_length, page_count) = random_sizes(rng, limit);
     let geometry = geometry(page_length, page_count);
     let shape = if rng.chance(20) {
@@ -187,7 +202,7 @@ pub fn worn_plan(rng: &mut Rng) -> ImagePlan {
     let shape = Shape {
         scattered: rng.chance(85),
         least_entries: rng.between(1, 4),
-        free_pages: [0, 0, 1, shape.free_pages][rng.below(4)],
+        free_pages: free_pages(shape.free_pages, rng),
         odd_packet_percent: [15, 60, 60, 90][rng.below(4)],
         ..shape
     };

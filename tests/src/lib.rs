@@ -5,8 +5,9 @@
 //! have an owner table that is longer than needed, those of `both` one of any length.
 //!
 //! `generators` has what they are called with, `trials` makes the calls with generated images, `edit_runs` makes long runs of calls on one image,
-//! `plans` works out what edits leave, `puts` has what puts are called with and what they meet, `trees` has small trees, `dumps` makes dumps and
-//! runs the program `list`, `declarations` reads the header and what must agree with it.
+//! `plans` works out what edits leave, `puts` has what puts are called with and what they meet, `write_orders` works out the page writes of careful
+//! edits, `stops` stops them after each, `trees` has small trees, `dumps` makes dumps and runs the program `list`, `declarations` reads the header
+//! and what must agree with it.
 
 pub mod agreed;
 pub mod both;
@@ -17,8 +18,10 @@ pub mod generators;
 pub mod library;
 pub mod plans;
 pub mod puts;
+pub mod stops;
 pub mod trees;
 pub mod trials;
+pub mod write_orders;
 
 use std::collections::BTreeMap;
 use std::ops::Range;
@@ -26,7 +29,7 @@ use std::ops::Range;
 use referee::builder::pages::Pages;
 use referee::builder::plan::Built;
 use referee::rng::Rng;
-use referee::{Answer, Length, Listing, Totals};
+use referee::{Answer, Length, Listing, Mended, Totals, Writes};
 
 /// What an owner table holds before a call, so that untouched bytes are seen.
 const BEFORE: u8 = 0xC7;
@@ -100,6 +103,43 @@ pub fn numbers(bytes: &[u8]) -> Vec<u16> {
 /// An answer of number and page.
 pub fn answer(number: u32, page: u32) -> Answer {
     Answer { number, page }
+}
+
+/// The answer of a careful call that was done: the writes made, and whether any are left.
+pub fn writes(made: u32, left: bool) -> Writes {
+    Writes {
+        number: 0,
+        page: 0,
+        made,
+        left: u32::from(left),
+    }
+}
+
+/// The answer of a careful call that was refused.
+pub fn no_writes(number: u32, page: u32) -> Writes {
+    Writes {
+        number,
+        page,
+        ..Writes::default()
+    }
+}
+
+/// The answer of a mend that was done.
+pub fn mended(cleared: u32) -> Mended {
+    Mended {
+        number: 0,
+        page: 0,
+        cleared,
+    }
+}
+
+/// The answer of a mend that was refused.
+pub fn not_mended(number: u32, page: u32) -> Mended {
+    Mended {
+        number,
+        page,
+        cleared: 0,
+    }
 }
 
 impl Button {
@@ -221,41 +261,78 @@ impl Button {
 
     /// Format, with the owner table; a refusal changes nothing.
     pub fn format(&mut self, local: bool) -> (Answer, Vec<u16>) {
-        self.change(|page_length, page_count, image, table| {
+        self.edit(|page_length, page_count, image, table| {
             agreed::format(page_length, page_count, image, table, u32::from(local))
         })
     }
 
     /// Put, with the owner table; a refusal changes nothing.
     pub fn put(&mut self, path: &[u8], bytes: &[u8]) -> (Answer, Vec<u16>) {
-        self.change(|page_length, page_count, image, table| {
+        self.edit(|page_length, page_count, image, table| {
             agreed::put(page_length, page_count, image, path, bytes, table)
         })
     }
 
     /// Delete, with the owner table; a refusal changes nothing.
     pub fn delete(&mut self, path: &[u8]) -> (Answer, Vec<u16>) {
-        self.change(|page_length, page_count, image, table| {
+        self.edit(|page_length, page_count, image, table| {
             agreed::delete(page_length, page_count, image, path, table)
         })
     }
 
-    /// Runs an edit: the table tells of the image as it then stands.
-    fn change(
+    /// Careful put with so many writes allowed, with the owner table; a refusal changes nothing.
+    pub fn careful_put(&mut self, path: &[u8], bytes: &[u8], allowed: u32) -> (Writes, Vec<u16>) {
+        self.change(
+            |writes: &Writes| writes.number,
+            |page_length, page_count, image, table| {
+                agreed::careful_put(page_length, page_count, image, path, bytes, table, allowed)
+            },
+        )
+    }
+
+    /// Careful delete with so many writes allowed, with the owner table; a refusal changes nothing.
+    pub fn careful_delete(&mut self, path: &[u8], allowed: u32) -> (Writes, Vec<u16>) {
+        self.change(
+            |writes: &Writes| writes.number,
+            |page_length, page_count, image, table| {
+                agreed::careful_delete(page_length, page_count, image, path, table, allowed)
+            },
+        )
+    }
+
+    /// Mend, with the owner table; a refusal changes nothing.
+    pub fn mend(&mut self) -> (Mended, Vec<u16>) {
+        self.change(
+            |mended: &Mended| mended.number,
+            |page_length, page_count, image, table| {
+                agreed::mend(page_length, page_count, image, table)
+            },
+        )
+    }
+
+    /// Runs an edit that answers number and page.
+    fn edit(
         &mut self,
         call: impl FnOnce(u32, u32, &mut [u8], &mut [u8]) -> Answer,
     ) -> (Answer, Vec<u16>) {
+        self.change(|done: &Answer| done.number, call)
+    }
+
+    /// Runs a call that may change the image: the table tells of the image as it then stands.
+    fn change<T>(
+        &mut self,
+        number: impl Fn(&T) -> u32,
+        call: impl FnOnce(u32, u32, &mut [u8], &mut [u8]) -> T,
+    ) -> (T, Vec<u16>) {
         let (page_length, page_count) = (self.page_length, self.page_count);
         let image = &mut self.image;
-        let (done, owners) = with_table(
-            page_count,
-            |done: &Answer| done.number,
-            |table| call(page_length, page_count, image, table),
-        );
-        if done.number != 1 {
+        let (told, owners) = with_table(page_count, &number, |table| {
+            call(page_length, page_count, image, table)
+        });
+        if number(&told) != 1 {
             assert_eq!(owners, self.check().1, "owners of the image as it stands");
         }
-        (done, owners)
+        (told, owners)
     }
 
     /// Demands one refusal of the image from every call that checks it.
@@ -278,6 +355,15 @@ impl Button {
         assert_eq!(self.clone().delete(b"A   \x01").0, refusal);
         // A malformed path is met after the image's fault.
         assert_eq!(self.clone().put(b"bad", b"x").0, refusal);
+        let writes = no_writes(number, page);
+        for allowed in [0, 1, u32::MAX] {
+            let put = self.clone().careful_put(b"A   \x01", b"x", allowed).0;
+            let delete = self.clone().careful_delete(b"A   \x01", allowed).0;
+            assert_eq!((put, delete), (writes, writes));
+        }
+        if number != 13 {
+            assert_eq!(self.clone().mend().0, not_mended(number, page));
+        }
     }
 }
 

@@ -1,7 +1,7 @@
 //! The library's calls, with their answers as the second program's types.
 
 use owfs::raw;
-use referee::{Answer, Length, Listing, Totals};
+use referee::{Answer, Length, Listing, Mended, Totals, Writes};
 
 pub use owfs::crc16;
 
@@ -10,6 +10,16 @@ fn answer(told: raw::Answer) -> Answer {
     Answer {
         number: told.number,
         page: told.page,
+    }
+}
+
+/// The answer of a careful call.
+fn writes(told: raw::Writes) -> Writes {
+    Writes {
+        number: told.number,
+        page: told.page,
+        made: told.made,
+        left: told.left,
     }
 }
 
@@ -97,4 +107,41 @@ pub fn delete(
     owners: &mut [u8],
 ) -> Answer {
     answer(raw::delete(page_length, page_count, image, path, owners))
+}
+
+/// Makes or replaces a file by at most `allowed` page writes.
+pub fn careful_put(
+    page_length: u32,
+    page_count: u32,
+    image: &mut [u8],
+    path: &[u8],
+    bytes: &[u8],
+    owners: &mut [u8],
+    allowed: u32,
+) -> Writes {
+    let (p, n) = (page_length, page_count);
+    writes(raw::careful_put(p, n, image, path, bytes, owners, allowed))
+}
+
+/// Deletes a file by at most `allowed` page writes.
+pub fn careful_delete(
+    page_length: u32,
+    page_count: u32,
+    image: &mut [u8],
+    path: &[u8],
+    owners: &mut [u8],
+    allowed: u32,
+) -> Writes {
+    let (p, n) = (page_length, page_count);
+    writes(raw::careful_delete(p, n, image, path, owners, allowed))
+}
+
+/// Clears the marks of pages that no chain has.
+pub fn mend(page_length: u32, page_count: u32, image: &mut [u8], owners: &mut [u8]) -> Mended {
+    let told = raw::mend(page_length, page_count, image, owners);
+    Mended {
+        number: told.number,
+        page: told.page,
+        cleared: told.cleared,
+    }
 }

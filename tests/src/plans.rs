@@ -136,6 +136,15 @@ pub fn page_with_space(geometry: &Geometry, directory: &DirectoryPlan) -> Option
         })
 }
 
+/// The pages that no chain has, rising.
+fn free_pages(plan: &ImagePlan) -> Vec<usize> {
+    let mut taken = vec![false; plan.page_count as usize];
+    for page in plan.used_pages() {
+        taken[page] = true;
+    }
+    (0..taken.len()).filter(|&page| !taken[page]).collect()
+}
+
 /// What a put meets that nothing but room could refuse.
 pub struct Room {
     pub geometry: Geometry,
@@ -162,20 +171,25 @@ impl Room {
             Some(Item::File(file)) => Some(file.clone()),
             _ => None,
         };
-        let mut taken = vec![false; plan.page_count as usize];
-        for page in plan.used_pages() {
-            taken[page] = true;
-        }
-        for &page in old.iter().flat_map(|file| &file.chain.pages) {
-            taken[page] = false;
-        }
+        let mut free = free_pages(plan);
+        free.extend(old.iter().flat_map(|file| &file.chain.pages));
+        free.sort_unstable();
         let geometry = geometry(plan.page_length, plan.page_count);
         Ok(Room {
             geometry,
             counts: directory.counts.clone(),
             space: page_with_space(&geometry, directory).filter(|_| old.is_none()),
             old,
-            free: (0..taken.len()).filter(|&page| !taken[page]).collect(),
+            free,
+        })
+    }
+
+    /// What a careful put of this path meets: no page of the replaced file may be taken.
+    pub fn careful(plan: &ImagePlan, path: &[u8]) -> Result<Room, u32> {
+        let room = Room::of(plan, path)?;
+        Ok(Room {
+            free: free_pages(plan),
+            ..room
         })
     }
 
@@ -205,7 +219,22 @@ impl Room {
 /// goes to the end of the first directory page with space; if none has, the lowest free page joins the directory's end. The file
 /// then has the lowest free pages, rising, all packets full but the last.
 pub fn plan_with(plan: &ImagePlan, path: &[u8], bytes: &[u8]) -> Result<ImagePlan, u32> {
-    let room = Room::of(plan, path)?;
+    plan_with_room(plan, &Room::of(plan, path)?, path, bytes)
+}
+
+/// The plan after a careful put with every write made, or the number of its refusal, 14 to 17: as after a put, but the replaced chain does not
+/// count as free.
+pub fn careful_plan_with(plan: &ImagePlan, path: &[u8], bytes: &[u8]) -> Result<ImagePlan, u32> {
+    plan_with_room(plan, &Room::careful(plan, path)?, path, bytes)
+}
+
+/// The plan after a put that meets this room, or 17.
+fn plan_with_room(
+    plan: &ImagePlan,
+    room: &Room,
+    path: &[u8],
+    bytes: &[u8],
+) -> Result<ImagePlan, u32> {
     if room.pages_needed(bytes.len()) > room.free.len() {
         return Err(17);
     }

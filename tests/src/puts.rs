@@ -163,9 +163,19 @@ pub fn tight_bytes(room: &Room, rng: &mut Rng) -> Vec<u8> {
     rng.bytes(length)
 }
 
-/// Bytes for a put of this path: of a random length, sometimes those of the file that is replaced, or changed in one of them.
+/// Bytes for a put of this path.
 pub fn random_bytes(plan: &ImagePlan, path: &[u8], rng: &mut Rng) -> Vec<u8> {
-    let Ok(room) = Room::of(plan, path) else {
+    bytes_for(Room::of(plan, path), rng)
+}
+
+/// Bytes for a careful put of this path.
+pub fn careful_bytes(plan: &ImagePlan, path: &[u8], rng: &mut Rng) -> Vec<u8> {
+    bytes_for(Room::careful(plan, path), rng)
+}
+
+/// Bytes for a put that meets this room, or a refusal: of a random length, sometimes those of the file that is replaced, or changed in one of them.
+fn bytes_for(room: Result<Room, u32>, rng: &mut Rng) -> Vec<u8> {
+    let Ok(room) = room else {
         let length = rng.below(100);
         return rng.bytes(length);
     };

@@ -5,10 +5,10 @@ use crate::generators::{
     random_path, Case, Made, Wanted,
 };
 use crate::plans::{formatted_plan, may_be_local, overlaid};
-use crate::{answer, both, Button, Tally};
+use crate::{answer, both, mended, not_mended, Button, Tally};
 use referee::geometry::Geometry;
 use referee::rng::Rng;
-use referee::{Answer, Length, Listing};
+use referee::{Answer, Length, Listing, Writes};
 
 /// The calls with one image, and the counts of what was met.
 pub struct Trial<'a> {
@@ -18,13 +18,16 @@ pub struct Trial<'a> {
 }
 
 impl Trial<'_> {
-    /// Every call: those that only read, a format, and some puts and deletes, each of a copy of the image.
+    /// Every call: those that only read, a format, a mend, and some puts and deletes, plain and careful, each of a copy of the image.
     pub fn all_calls(&mut self) {
         self.reads();
         self.format();
+        self.mend();
         for _ in 0..2 {
             self.put();
             self.delete();
+            self.careful_put();
+            self.careful_delete();
         }
     }
 
@@ -139,11 +142,16 @@ impl Trial<'_> {
         }
     }
 
+    /// Bytes for a put.
+    fn file_bytes(&mut self) -> Vec<u8> {
+        let length = [0, self.rng.below(60), self.rng.below(3_000)][self.rng.below(3)];
+        self.rng.bytes(length)
+    }
+
     /// A put.
     pub fn put(&mut self) {
         let path = random_path(&self.case.built, self.rng).path;
-        let length = [0, self.rng.below(60), self.rng.below(3_000)][self.rng.below(3)];
-        let bytes = self.rng.bytes(length);
+        let bytes = self.file_bytes();
         let mut button = self.case.button.clone();
         let owner_bytes = self.owner_bytes();
         let told = both::put(&mut button, owner_bytes, &path, &bytes, self.rng);
@@ -162,6 +170,53 @@ impl Trial<'_> {
         self.demand(owner_bytes, told);
     }
 
+    /// A careful put.
+    fn careful_put(&mut self) {
+        let path = random_path(&self.case.built, self.rng).path;
+        let bytes = self.file_bytes();
+        let allowed = random_allowed(self.rng);
+        let mut button = self.case.button.clone();
+        let owner_bytes = self.owner_bytes();
+        let told = both::careful_put(&mut button, owner_bytes, &path, &bytes, allowed, self.rng);
+        self.demand_writes("careful put", owner_bytes, told, allowed);
+    }
+
+    /// A careful delete.
+    fn careful_delete(&mut self) {
+        let path = random_path(&self.case.built, self.rng).path;
+        let allowed = random_allowed(self.rng);
+        let mut button = self.case.button.clone();
+        let owner_bytes = self.owner_bytes();
+        let told = both::careful_delete(&mut button, owner_bytes, &path, allowed, self.rng);
+        self.demand_writes("careful delete", owner_bytes, told, allowed);
+    }
+
+    /// Counts the answer of a careful call; a known refusal has no writes, and no more are made than allowed.
+    fn demand_writes(&mut self, call: &str, owner_bytes: usize, told: Writes, allowed: u32) {
+        self.tally.add(format!("{call} {}", told.number));
+        self.demand(owner_bytes, answer(told.number, told.page));
+        assert!(told.made <= allowed && (told.left == 0 || told.made == allowed));
+        if told.number != 0 {
+            assert_eq!((told.made, told.left), (0, 0), "no writes in a refusal");
+        }
+    }
+
+    /// A mend: it refuses what the check refuses, but for marks that no chain has.
+    fn mend(&mut self) {
+        let mut button = self.case.button.clone();
+        let owner_bytes = self.owner_bytes();
+        let told = both::mend(&mut button, owner_bytes, self.rng);
+        self.tally.add(format!("mend {}", told.number));
+        match self.case.known_refusal(owner_bytes) {
+            Some(refusal) if refusal.number == 13 => {
+                assert!(told.cleared > 0 || answer(told.number, told.page) == refusal);
+            }
+            Some(refusal) => assert_eq!(told, not_mended(refusal.number, refusal.page)),
+            None if self.known_accepted(owner_bytes) => assert_eq!(told, mended(0)),
+            None => {}
+        }
+    }
+
     /// A format.
     fn format(&mut self) {
         let (label, local) = labelled_local(self.rng);
@@ -170,6 +225,16 @@ impl Trial<'_> {
         let owner_bytes = self.owner_bytes();
         let told = format_known(&mut button, owner_bytes, local, self.rng);
         self.tally.add(format!("format {}", told.number));
+    }
+}
+
+/// A number of writes to allow: often few, sometimes none or any number.
+pub fn random_allowed(rng: &mut Rng) -> u32 {
+    match rng.below(8) {
+        0 => 0,
+        1 => u32::MAX,
+        2 => rng.next_u64() as u32 >> rng.below(32),
+        _ => rng.below(9) as u32,
     }
 }
 

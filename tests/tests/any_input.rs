@@ -3,10 +3,11 @@
 //! Programs: the library and the second program. Each call is made by both; every answer and every lent byte is compared.
 //! The archive is made by `rt staticlib owfs`.
 
-use common::{agreed, answer, Button, Seed};
+use common::{agreed, answer, no_writes, Button, Seed};
 use referee::builder::pages::Pages;
 use referee::builder::random::random_packets;
 use referee::rng::Rng;
+use referee::{Answer, Mended, Writes};
 
 /// A number for P or N that is often just inside or outside its limits.
 fn random_number(rng: &mut Rng, limits: &[u32]) -> u32 {
@@ -26,37 +27,128 @@ fn random_length(rng: &mut Rng, fitting: u64) -> usize {
     }
 }
 
-/// Calls every function once with the same arguments.
-fn call_all(p: u32, n: u32, image: &[u8], table_length: usize, path: &[u8], rng: &mut Rng) {
-    let mut table = vec![0x44; table_length];
-    let totals = agreed::check(p, n, image, &mut table);
-    assert!(totals.number <= 13);
-    let position = rng.next_u64() as u32 >> rng.below(32);
-    let listing = agreed::list(p, n, image, &mut table, position);
-    let mut out = vec![0; rng.below(300)];
-    let length = agreed::read(p, n, image, path, &mut out, &mut table);
-    let length_of_bytes = rng.below(3_000);
-    let bytes = rng.bytes(length_of_bytes);
-    let mut put_image = image.to_vec();
-    let put = agreed::put(p, n, &mut put_image, path, &bytes, &mut table);
-    let mut delete_image = image.to_vec();
-    let delete = agreed::delete(p, n, &mut delete_image, path, &mut table);
-    let mut format_image = image.to_vec();
-    let local = rng.below(2) as u32;
-    let format = agreed::format(p, n, &mut format_image, &mut table, local);
-    assert!([0, 1, 4].contains(&format.number));
-    for (number, changed) in [
-        (put.number, &put_image),
-        (delete.number, &delete_image),
-        (format.number, &format_image),
-    ] {
-        assert!(number == 0 || changed == image);
+/// What all calls are called with.
+struct Lent {
+    page_length: u32,
+    page_count: u32,
+    image: Vec<u8>,
+    table: Vec<u8>,
+    path: Vec<u8>,
+}
+
+/// Any numbers and bytes.
+fn random_lent(rng: &mut Rng) -> Lent {
+    let page_length = random_number(rng, &[0, 31, 32, 33, 64, 256, 257]);
+    let counts = [0, 1, 2, 16, 31, 32, 33, 256, 257, 65_535, 65_536];
+    let page_count = random_number(rng, &counts);
+    let fitting = u64::from(page_length) * u64::from(page_count);
+    let image_length = random_length(rng, fitting);
+    let table_length = random_length(rng, 2 * u64::from(page_count));
+    let image = rng.bytes(image_length);
+    let path_length = rng.below(50);
+    Lent {
+        page_length,
+        page_count,
+        image,
+        table: vec![0x44; table_length],
+        path: rng.bytes(path_length),
     }
-    if totals.number != 0 {
-        let fault = answer(totals.number, totals.page);
-        assert_eq!((put, delete), (fault, fault));
-        assert_eq!(answer(listing.number, listing.page), fault);
-        assert_eq!(answer(length.number, length.page), fault);
+}
+
+impl Lent {
+    /// Calls every function once.
+    fn call_all(&mut self, rng: &mut Rng) {
+        let (p, n) = (self.page_length, self.page_count);
+        let totals = agreed::check(p, n, &self.image, &mut self.table);
+        assert!(totals.number <= 13);
+        let verdict = answer(totals.number, totals.page);
+        self.call_queries(verdict, rng);
+        let length_of_bytes = rng.below(3_000);
+        let bytes = rng.bytes(length_of_bytes);
+        self.call_edits(verdict, &bytes);
+        self.call_careful(verdict, &bytes, rng);
+        self.call_mend(verdict);
+        self.call_format(rng);
+    }
+
+    /// Calls list and read: they refuse what the check refuses.
+    fn call_queries(&mut self, verdict: Answer, rng: &mut Rng) {
+        let (p, n, image) = (self.page_length, self.page_count, &self.image);
+        let position = rng.next_u64() as u32 >> rng.below(32);
+        let listing = agreed::list(p, n, image, &mut self.table, position);
+        let mut out = vec![0; rng.below(300)];
+        let length = agreed::read(p, n, image, &self.path, &mut out, &mut self.table);
+        if verdict.number != 0 {
+            assert_eq!(answer(listing.number, listing.page), verdict);
+            assert_eq!(answer(length.number, length.page), verdict);
+        }
+    }
+
+    /// Calls put and delete: they refuse what the check refuses.
+    fn call_edits(&mut self, verdict: Answer, bytes: &[u8]) {
+        let put = self.edit(
+            |told: &Answer| told.number,
+            |p, n, image, path, table| agreed::put(p, n, image, path, bytes, table),
+        );
+        let delete = self.edit(|told: &Answer| told.number, agreed::delete);
+        if verdict.number != 0 {
+            assert_eq!((put, delete), (verdict, verdict));
+        }
+    }
+
+    /// Calls careful put and careful delete: they refuse what the check refuses, without a write.
+    fn call_careful(&mut self, verdict: Answer, bytes: &[u8], rng: &mut Rng) {
+        let allowed = rng.next_u64() as u32 >> rng.below(32);
+        let put = self.edit(
+            |told: &Writes| told.number,
+            |p, n, image, path, table| {
+                agreed::careful_put(p, n, image, path, bytes, table, allowed)
+            },
+        );
+        let delete = self.edit(
+            |told: &Writes| told.number,
+            |p, n, image, path, table| agreed::careful_delete(p, n, image, path, table, allowed),
+        );
+        if verdict.number != 0 {
+            let refused = no_writes(verdict.number, verdict.page);
+            assert_eq!((put, delete), (refused, refused));
+        }
+    }
+
+    /// Calls mend: it refuses what the check refuses, but for 13.
+    fn call_mend(&mut self, verdict: Answer) {
+        let mended = self.edit(
+            |told: &Mended| told.number,
+            |p, n, image, _, table| agreed::mend(p, n, image, table),
+        );
+        assert!(mended.number <= 13);
+        if verdict.number != 0 {
+            let is_fault = answer(mended.number, mended.page) == verdict;
+            assert!(is_fault || verdict.number == 13);
+        }
+    }
+
+    /// Calls format.
+    fn call_format(&mut self, rng: &mut Rng) {
+        let local = rng.below(2) as u32;
+        let format = self.edit(
+            |told: &Answer| told.number,
+            |p, n, image, _, table| agreed::format(p, n, image, table, local),
+        );
+        assert!([0, 1, 4].contains(&format.number));
+    }
+
+    /// Makes an edit of a copy of the image; a refusal changes nothing.
+    fn edit<T>(
+        &mut self,
+        number: impl Fn(&T) -> u32,
+        call: impl FnOnce(u32, u32, &mut [u8], &[u8], &mut [u8]) -> T,
+    ) -> T {
+        let (p, n) = (self.page_length, self.page_count);
+        let mut image = self.image.clone();
+        let told = call(p, n, &mut image, &self.path, &mut self.table);
+        assert!(number(&told) == 0 || image == self.image);
+        told
     }
 }
 
@@ -65,25 +157,7 @@ fn calls_with_any_arguments_answer_and_refusals_change_nothing() {
     for seed in 50_000..56_000 {
         let _seed = Seed(seed);
         let mut rng = Rng::new(seed);
-        let page_length = random_number(&mut rng, &[0, 31, 32, 33, 64, 256, 257]);
-        let page_count = random_number(
-            &mut rng,
-            &[0, 1, 2, 16, 31, 32, 33, 256, 257, 65_535, 65_536],
-        );
-        let fitting = u64::from(page_length) * u64::from(page_count);
-        let image_length = random_length(&mut rng, fitting);
-        let table_length = random_length(&mut rng, 2 * u64::from(page_count));
-        let image = rng.bytes(image_length);
-        let path_length = rng.below(50);
-        let path = rng.bytes(path_length);
-        call_all(
-            page_length,
-            page_count,
-            &image,
-            table_length,
-            &path,
-            &mut rng,
-        );
+        random_lent(&mut rng).call_all(&mut rng);
     }
 }
 

@@ -1,7 +1,7 @@
-//! The library called by a C program, the largest directory with a limited stack, and an example of firmware with what it prints.
+//! The library called by a C program, the largest directory with a limited stack, and two examples of firmware with what they print.
 //!
 //! Programs: the library, by the C program `tests/c/calls.c`, compiled here with warnings as errors, and the second program, whose answers and lent
-//! bytes the C program must print; `tests/c/firmware.c`, which calls the library alone and prints a known text.
+//! bytes the C program must print; `tests/c/firmware.c` and `tests/c/pulled.c`, which call the library alone and print known texts.
 //! The archive is made by `rt staticlib owfs`.
 
 use std::fs;
@@ -13,10 +13,12 @@ use common::generators::{
     damaged_case, fault_case, labelled_local, labelled_out_bytes, labelled_owner_bytes,
     labelled_position, largest_image, random_path, sound_case, Case, Made,
 };
+use common::trials::random_allowed;
 use common::{Button, Seed, Tally};
 use referee::builder::plan::Built;
 use referee::builder::random::random_name;
 use referee::rng::Rng;
+use referee::{Answer, Length, Listing, Mended, Totals, Writes};
 
 /// What the C program's owner table and output hold before a call.
 const BEFORE: u8 = 0xC7;
@@ -51,107 +53,167 @@ enum Call {
         owner_bytes: usize,
         path: Vec<u8>,
     },
+    CarefulPut {
+        owner_bytes: usize,
+        path: Vec<u8>,
+        bytes: Vec<u8>,
+        allowed: u32,
+    },
+    CarefulDelete {
+        owner_bytes: usize,
+        path: Vec<u8>,
+        allowed: u32,
+    },
+    Mend {
+        owner_bytes: usize,
+    },
 }
 
 impl Call {
-    /// The call as the C program reads it.
-    fn bytes(&self) -> Vec<u8> {
+    /// The bytes of its owner table.
+    fn owner_bytes(&self) -> usize {
         match self {
-            Call::Check { owner_bytes } => request(b'c', &[*owner_bytes as u32]),
-            Call::List {
-                owner_bytes,
-                position,
-            } => request(b'l', &[*owner_bytes as u32, *position]),
-            Call::Read {
-                owner_bytes,
-                path,
-                out_bytes,
-            } => {
-                let lengths = [*owner_bytes as u32, path.len() as u32, *out_bytes as u32];
-                let mut bytes = request(b'r', &lengths);
-                bytes.extend(path);
-                bytes
-            }
-            Call::Format { owner_bytes, local } => request(b'f', &[*owner_bytes as u32, *local]),
-            Call::Put {
-                owner_bytes,
-                path,
-                bytes,
-            } => {
-                let lengths = [*owner_bytes as u32, path.len() as u32, bytes.len() as u32];
-                [request(b'p', &lengths).as_slice(), path, bytes].concat()
-            }
-            Call::Delete { owner_bytes, path } => {
-                let mut bytes = request(b'd', &[*owner_bytes as u32, path.len() as u32]);
-                bytes.extend(path);
-                bytes
-            }
+            Call::Check { owner_bytes }
+            | Call::List { owner_bytes, .. }
+            | Call::Read { owner_bytes, .. }
+            | Call::Format { owner_bytes, .. }
+            | Call::Put { owner_bytes, .. }
+            | Call::Delete { owner_bytes, .. }
+            | Call::CarefulPut { owner_bytes, .. }
+            | Call::CarefulDelete { owner_bytes, .. }
+            | Call::Mend { owner_bytes } => *owner_bytes,
         }
+    }
+
+    /// Its path; no bytes if it has none.
+    fn path(&self) -> &[u8] {
+        match self {
+            Call::Read { path, .. }
+            | Call::Put { path, .. }
+            | Call::Delete { path, .. }
+            | Call::CarefulPut { path, .. }
+            | Call::CarefulDelete { path, .. } => path,
+            _ => &[],
+        }
+    }
+
+    /// The bytes of the file to put; none if it puts none.
+    fn file(&self) -> &[u8] {
+        match self {
+            Call::Put { bytes, .. } | Call::CarefulPut { bytes, .. } => bytes,
+            _ => &[],
+        }
+    }
+
+    /// The bytes of its output.
+    fn out_bytes(&self) -> usize {
+        match self {
+            Call::Read { out_bytes, .. } => *out_bytes,
+            _ => 0,
+        }
+    }
+
+    /// The call as the C program reads it: letter and numbers, then path and file.
+    fn bytes(&self) -> Vec<u8> {
+        let [owners, path, file, out] = [
+            self.owner_bytes(),
+            self.path().len(),
+            self.file().len(),
+            self.out_bytes(),
+        ]
+        .map(|length| length as u32);
+        let request = match *self {
+            Call::Check { .. } => request(b'c', &[owners]),
+            Call::List { position, .. } => request(b'l', &[owners, position]),
+            Call::Read { .. } => request(b'r', &[owners, path, out]),
+            Call::Format { local, .. } => request(b'f', &[owners, local]),
+            Call::Put { .. } => request(b'p', &[owners, path, file]),
+            Call::Delete { .. } => request(b'd', &[owners, path]),
+            Call::CarefulPut { allowed, .. } => request(b'P', &[owners, path, file, allowed]),
+            Call::CarefulDelete { allowed, .. } => request(b'D', &[owners, path, allowed]),
+            Call::Mend { .. } => request(b'm', &[owners]),
+        };
+        [&request, self.path(), self.file()].concat()
     }
 
     /// The lines that the C program must print, from the second program's answer; an edit is left in the button.
     fn expected(&self, button: &mut Button) -> String {
+        let mut owners = vec![BEFORE; self.owner_bytes()];
+        let mut out = vec![BEFORE; self.out_bytes()];
+        let first = self.answer_line(button, &mut owners, &mut out);
+        let last = match self {
+            Call::Check { .. } | Call::List { .. } => String::new(),
+            Call::Read { .. } => hex(&out),
+            _ => hex(&button.image),
+        };
+        format!("{first}{}{last}", hex(&owners))
+    }
+
+    /// The line of the second program's answer; an edit is left in the button.
+    fn answer_line(&self, button: &mut Button, owners: &mut [u8], out: &mut [u8]) -> String {
         let (p, n, image) = (button.page_length, button.page_count, &mut button.image);
-        match self {
-            Call::Check { owner_bytes } => {
-                let mut owners = vec![BEFORE; *owner_bytes];
-                let told = referee::check(p, n, image, &mut owners);
-                let fields = [told.page, told.used, told.files, told.directories];
-                format!("{}{}", line('c', told.number, &fields), hex(&owners))
+        let (path, file) = (self.path(), self.file());
+        match *self {
+            Call::Check { .. } => check_line(referee::check(p, n, image, owners)),
+            Call::List { position, .. } => list_line(referee::list(p, n, image, owners, position)),
+            Call::Read { .. } => read_line(referee::read(p, n, image, path, out, owners)),
+            Call::Format { local, .. } => {
+                edit_line('f', referee::format(p, n, image, owners, local))
             }
-            Call::List {
-                owner_bytes,
-                position,
-            } => {
-                let mut owners = vec![BEFORE; *owner_bytes];
-                let told = referee::list(p, n, image, &mut owners, *position);
-                let fields = [
-                    told.page,
-                    told.level,
-                    told.name,
-                    told.extension,
-                    told.attribute,
-                    told.start,
-                    told.pages,
-                    told.length,
-                ];
-                format!("{}{}", line('l', told.number, &fields), hex(&owners))
+            Call::Put { .. } => edit_line('p', referee::put(p, n, image, path, file, owners)),
+            Call::Delete { .. } => edit_line('d', referee::delete(p, n, image, path, owners)),
+            Call::CarefulPut { allowed, .. } => {
+                let told = referee::careful_put(p, n, image, path, file, owners, allowed);
+                careful_line('P', told)
             }
-            Call::Read {
-                owner_bytes,
-                path,
-                out_bytes,
-            } => {
-                let mut owners = vec![BEFORE; *owner_bytes];
-                let mut out = vec![BEFORE; *out_bytes];
-                let told = referee::read(p, n, image, path, &mut out, &mut owners);
-                let first = line('r', told.number, &[told.page, told.length]);
-                format!("{first}{}{}", hex(&owners), hex(&out))
+            Call::CarefulDelete { allowed, .. } => {
+                let told = referee::careful_delete(p, n, image, path, owners, allowed);
+                careful_line('D', told)
             }
-            Call::Format { owner_bytes, local } => {
-                let mut owners = vec![BEFORE; *owner_bytes];
-                let told = referee::format(p, n, image, &mut owners, *local);
-                let first = line('f', told.number, &[told.page]);
-                format!("{first}{}{}", hex(&owners), hex(image))
-            }
-            Call::Put {
-                owner_bytes,
-                path,
-                bytes,
-            } => {
-                let mut owners = vec![BEFORE; *owner_bytes];
-                let told = referee::put(p, n, image, path, bytes, &mut owners);
-                let first = line('p', told.number, &[told.page]);
-                format!("{first}{}{}", hex(&owners), hex(image))
-            }
-            Call::Delete { owner_bytes, path } => {
-                let mut owners = vec![BEFORE; *owner_bytes];
-                let told = referee::delete(p, n, image, path, &mut owners);
-                let first = line('d', told.number, &[told.page]);
-                format!("{first}{}{}", hex(&owners), hex(image))
-            }
+            Call::Mend { .. } => mend_line(referee::mend(p, n, image, owners)),
         }
     }
+}
+
+/// The line of a check.
+fn check_line(told: Totals) -> String {
+    let fields = [told.page, told.used, told.files, told.directories];
+    line('c', told.number, &fields)
+}
+
+/// The line of a listing.
+fn list_line(told: Listing) -> String {
+    let fields = [
+        told.page,
+        told.level,
+        told.name,
+        told.extension,
+        told.attribute,
+        told.start,
+        told.pages,
+        told.length,
+    ];
+    line('l', told.number, &fields)
+}
+
+/// The line of a read.
+fn read_line(told: Length) -> String {
+    line('r', told.number, &[told.page, told.length])
+}
+
+/// The line of a format, a put or a delete.
+fn edit_line(letter: char, told: Answer) -> String {
+    line(letter, told.number, &[told.page])
+}
+
+/// The line of a careful put or a careful delete.
+fn careful_line(letter: char, told: Writes) -> String {
+    line(letter, told.number, &[told.page, told.made, told.left])
+}
+
+/// The line of a mend.
+fn mend_line(told: Mended) -> String {
+    line('m', told.number, &[told.page, told.cleared])
 }
 
 /// A letter and numbers of 4 bytes, low byte first.
@@ -282,51 +344,88 @@ fn random_put(case: &Case, rng: &mut Rng) -> (Vec<u8>, Vec<u8>) {
     (path, rng.bytes(length))
 }
 
-/// Some calls with a generated image, puts and deletes among them; near the end there may be a format.
+/// A careful put or a careful delete, which may be stopped.
+fn random_careful(case: &Case, owner_bytes: usize, rng: &mut Rng) -> Call {
+    let allowed = random_allowed(rng);
+    if rng.chance(60) {
+        let (path, bytes) = random_put(case, rng);
+        return Call::CarefulPut {
+            owner_bytes,
+            path,
+            bytes,
+            allowed,
+        };
+    }
+    Call::CarefulDelete {
+        owner_bytes,
+        path: random_path(&case.built, rng).path,
+        allowed,
+    }
+}
+
+/// A listing of a position near the entries that there are.
+fn random_list(case: &Case, owner_bytes: usize, rng: &mut Rng, tally: &mut Tally) -> Call {
+    let (label, position) = labelled_position(case.built.entries.len(), rng);
+    tally.add(label);
+    Call::List {
+        owner_bytes,
+        position,
+    }
+}
+
+/// A read of a path near what the image holds, into an output of any length.
+fn random_read(case: &Case, owner_bytes: usize, rng: &mut Rng, tally: &mut Tally) -> Call {
+    let wanted = random_path(&case.built, rng);
+    let (label, out_bytes) = labelled_out_bytes(wanted.file_bytes, rng);
+    tally.add(label);
+    Call::Read {
+        owner_bytes,
+        path: wanted.path,
+        out_bytes,
+    }
+}
+
+/// A format with a local bitmap or a bitmap file.
+fn random_format(owner_bytes: usize, rng: &mut Rng, tally: &mut Tally) -> Call {
+    let (label, local) = labelled_local(rng);
+    tally.add(label);
+    Call::Format { owner_bytes, local }
+}
+
+/// Any call but a format.
+fn random_call(case: &Case, owner_bytes: usize, rng: &mut Rng, tally: &mut Tally) -> Call {
+    match rng.below(16) {
+        0 => Call::Check { owner_bytes },
+        1..=3 => {
+            let (path, bytes) = random_put(case, rng);
+            Call::Put {
+                owner_bytes,
+                path,
+                bytes,
+            }
+        }
+        4 | 5 => {
+            let path = random_path(&case.built, rng).path;
+            Call::Delete { owner_bytes, path }
+        }
+        6 | 7 => random_list(case, owner_bytes, rng, tally),
+        10..=13 => random_careful(case, owner_bytes, rng),
+        14 | 15 => Call::Mend { owner_bytes },
+        _ => random_read(case, owner_bytes, rng, tally),
+    }
+}
+
+/// Some calls with a generated image, puts, deletes, careful ones and mends among them; near the end there may be a format.
 fn random_calls(case: &Case, rng: &mut Rng, tally: &mut Tally) -> Vec<Call> {
     let mut calls = Vec::new();
-    let format_at = if rng.chance(50) { 14 } else { usize::MAX };
-    for place in 0..16 {
+    let format_at = if rng.chance(50) { 22 } else { usize::MAX };
+    for place in 0..24 {
         let (label, owner_bytes) = labelled_owner_bytes(case.button.page_count, rng);
         tally.add(label);
-        if place == format_at {
-            let (label, local) = labelled_local(rng);
-            tally.add(label);
-            calls.push(Call::Format { owner_bytes, local });
-            continue;
-        }
-        calls.push(match rng.below(10) {
-            0 => Call::Check { owner_bytes },
-            1..=3 => {
-                let (path, bytes) = random_put(case, rng);
-                Call::Put {
-                    owner_bytes,
-                    path,
-                    bytes,
-                }
-            }
-            4 | 5 => {
-                let path = random_path(&case.built, rng).path;
-                Call::Delete { owner_bytes, path }
-            }
-            6 | 7 => {
-                let (label, position) = labelled_position(case.built.entries.len(), rng);
-                tally.add(label);
-                Call::List {
-                    owner_bytes,
-                    position,
-                }
-            }
-            _ => {
-                let wanted = random_path(&case.built, rng);
-                let (label, out_bytes) = labelled_out_bytes(wanted.file_bytes, rng);
-                tally.add(label);
-                Call::Read {
-                    owner_bytes,
-                    path: wanted.path,
-                    out_bytes,
-                }
-            }
+        calls.push(if place == format_at {
+            random_format(owner_bytes, rng, tally)
+        } else {
+            random_call(case, owner_bytes, rng, tally)
         });
     }
     calls
@@ -366,6 +465,9 @@ fn answers_in_c_are_the_second_programs() {
     tally.demand_numbers("f", 5, [0, 1, 4]);
     tally.demand_numbers("p", 5, 0..=17);
     tally.demand_numbers("d", 5, (0..=13).chain([14, 15, 16]));
+    tally.demand_numbers("P", 5, 0..=17);
+    tally.demand_numbers("D", 5, 0..=16);
+    tally.demand_numbers("m", 5, 0..=13);
 }
 
 /// 50,000 entries in the root, and the file of the image for the C program.
@@ -382,9 +484,17 @@ fn largest() -> &'static (Built, PathBuf) {
 
 /// Runs one call with the largest directory and a limited stack.
 fn with_limited_stack(call: &Call, what: &str) {
+    all_with_limited_stack(&[call], what);
+}
+
+/// Runs calls after each other with the largest directory and a limited stack.
+fn all_with_limited_stack(calls: &[&Call], what: &str) {
     let (built, image) = largest();
-    let output = run(limited(image), image, &call.bytes(), what);
-    printed(&output, &call.expected(&mut Button::from(built)));
+    let mut button = Button::from(built);
+    let input: Vec<u8> = calls.iter().flat_map(|call| call.bytes()).collect();
+    let expected = calls.iter().map(|call| call.expected(&mut button));
+    let expected: String = expected.collect();
+    printed(&run(limited(image), image, &input, what), &expected);
 }
 
 #[test]
@@ -452,6 +562,46 @@ fn replacement_in_50000_entries_runs_on_a_limited_stack() {
     with_limited_stack(&call, "replace");
 }
 
+#[test]
+fn careful_delete_from_50000_entries_runs_on_a_limited_stack() {
+    let call = Call::CarefulDelete {
+        owner_bytes: 131_071,
+        path: last_path(),
+        allowed: 3,
+    };
+    with_limited_stack(&call, "careful-delete");
+}
+
+/// A careful put of a new file on three pages, and of the last file replaced by one on all pages that are free.
+#[test]
+fn careful_put_to_50000_entries_runs_on_a_limited_stack() {
+    let free = 65_535 - largest().0.totals.used as usize;
+    for (path, length, what) in [
+        (b"NEW'\x63".to_vec(), 2 * 251 + 1, "careful-put"),
+        (last_path(), 251 * free, "careful-replace"),
+    ] {
+        let call = Call::CarefulPut {
+            owner_bytes: 131_070,
+            path,
+            bytes: vec![0xA5; length],
+            allowed: u32::MAX,
+        };
+        with_limited_stack(&call, what);
+    }
+}
+
+/// A mend of what a stopped delete leaves.
+#[test]
+fn mend_of_50000_entries_runs_on_a_limited_stack() {
+    let owner_bytes = 131_070;
+    let stopped = Call::CarefulDelete {
+        owner_bytes,
+        path: last_path(),
+        allowed: 1,
+    };
+    all_with_limited_stack(&[&stopped, &Call::Mend { owner_bytes }], "mend");
+}
+
 /// Format is refused over the largest directory, whose owners it tells, and done with a bitmap file.
 #[test]
 fn format_over_50000_entries_runs_on_a_limited_stack() {
@@ -504,4 +654,21 @@ fn example_of_firmware_is_c99_and_prints_each_step() {
     let program = compiled("firmware.c", &["-std=c99", "-pedantic"]);
     let output = Command::new(program).output().expect("the example runs");
     printed(&output, FIRMWARE);
+}
+
+/// What the example with a button that is pulled prints.
+const PULLED: &str = "\
+16 pages of 32 bytes, bitmap in page 0: 19 edits, 69 pulls, 50 mends, 50 pulls while mending
+32 pages of 64 bytes, bitmap in page 0: 19 edits, 85 pulls, 66 mends, 66 pulls while mending
+24 pages of 32 bytes, bitmap file: 19 edits, 76 pulls, 57 mends, 57 pulls while mending
+16 pages of 32 bytes, scattered bitmap file, files in a directory: 19 edits, 72 pulls, 53 mends, 75 pulls while mending
+320 pages of 32 bytes, bitmap file of two pages: 19 edits, 288 pulls, 269 mends, 501 pulls while mending
+";
+
+/// The example is C99 without a warning; its button is pulled after every page write of every edit and of every mend.
+#[test]
+fn example_with_a_button_that_is_pulled_loses_no_file() {
+    let program = compiled("pulled.c", &["-std=c99", "-pedantic"]);
+    let output = Command::new(program).output().expect("the example runs");
+    printed(&output, PULLED);
 }

@@ -3,45 +3,63 @@
 //! Programs: the library and the second program. Each call is made by both; every answer and every lent byte is compared.
 //! The archive is made by `rt staticlib owfs`.
 
-use common::{agreed, answer, numbers, Button};
+use common::{agreed, answer, no_writes, not_mended, numbers, Button};
 use referee::builder::pages::{path, Pages};
 use referee::{Answer, Length, Listing, Totals};
 
-/// The number that every call answers to these arguments; image, output and table stay as they are.
+/// Every call answers 1 to these arguments; image, output and table stay as they are.
 fn refused_with_1(page_length: u32, page_count: u32, image_length: usize, table_length: usize) {
-    let before = vec![0x3C; image_length];
-    let mut image = before.clone();
+    let mut image = vec![0x3C; image_length];
     let mut table = vec![0x99; table_length];
-    let mut out = [0x77; 16];
-    let (p, n) = (page_length, page_count);
-    let one = answer(1, 0);
+    queries_refused_with_1(page_length, page_count, &image, &mut table);
+    edits_refused_with_1(page_length, page_count, &mut image, &mut table);
+    careful_refused_with_1(page_length, page_count, &mut image, &mut table);
+    assert!(image.iter().all(|&byte| byte == 0x3C));
+    assert!(table.iter().all(|&byte| byte == 0x99));
+}
+
+/// Check, list and read answer 1; the output stays as it is.
+fn queries_refused_with_1(p: u32, n: u32, image: &[u8], table: &mut [u8]) {
     let totals = Totals {
         number: 1,
         ..Totals::default()
     };
-    assert_eq!(agreed::check(p, n, &image, &mut table), totals);
+    assert_eq!(agreed::check(p, n, image, table), totals);
     let listing = Listing {
         number: 1,
         ..Listing::default()
     };
-    assert_eq!(agreed::list(p, n, &image, &mut table, 0), listing);
+    assert_eq!(agreed::list(p, n, image, table, 0), listing);
     let length = Length {
         number: 1,
         ..Length::default()
     };
-    let read = agreed::read(p, n, &image, b"A   \x01", &mut out, &mut table);
+    let mut out = [0x77; 16];
+    let read = agreed::read(p, n, image, b"A   \x01", &mut out, table);
     assert_eq!(read, length);
+    assert_eq!(out, [0x77; 16]);
+}
+
+/// Format, put and delete answer 1.
+fn edits_refused_with_1(p: u32, n: u32, image: &mut [u8], table: &mut [u8]) {
+    let one = answer(1, 0);
     for local in [0, 1, u32::MAX] {
-        let formatted = agreed::format(p, n, &mut image, &mut table, local);
-        assert_eq!(formatted, one);
+        assert_eq!(agreed::format(p, n, image, table, local), one);
     }
     let path = b"A   \x01";
-    let put = agreed::put(p, n, &mut image, path, b"x", &mut table);
-    assert_eq!(put, one);
-    assert_eq!(agreed::delete(p, n, &mut image, path, &mut table), one);
-    assert_eq!(image, before);
-    assert_eq!(out, [0x77; 16]);
-    assert!(table.iter().all(|&byte| byte == 0x99));
+    assert_eq!(agreed::put(p, n, image, path, b"x", table), one);
+    assert_eq!(agreed::delete(p, n, image, path, table), one);
+}
+
+/// Careful put, careful delete and mend answer 1.
+fn careful_refused_with_1(p: u32, n: u32, image: &mut [u8], table: &mut [u8]) {
+    let path = b"A   \x01";
+    for allowed in [0, 1, u32::MAX] {
+        let put = agreed::careful_put(p, n, image, path, b"x", table, allowed);
+        let delete = agreed::careful_delete(p, n, image, path, table, allowed);
+        assert_eq!((put, delete), (no_writes(1, 0), no_writes(1, 0)));
+    }
+    assert_eq!(agreed::mend(p, n, image, table), not_mended(1, 0));
 }
 
 #[test]
@@ -129,6 +147,14 @@ fn path_refused(path: &[u8], number: u32) {
     let (delete, owners) = button.delete(path);
     assert_eq!(delete, answer(number, 0), "delete {path:?}");
     assert_eq!(owners[..7], SAMPLE_OWNERS);
+    for allowed in [0, 9] {
+        let (put, owners) = button.careful_put(path, b"new", allowed);
+        assert_eq!(put, no_writes(number, 0), "careful put {path:?}");
+        assert_eq!(owners[..7], SAMPLE_OWNERS);
+        let (delete, owners) = button.careful_delete(path, allowed);
+        assert_eq!(delete, no_writes(number, 0), "careful delete {path:?}");
+        assert_eq!(owners[..7], SAMPLE_OWNERS);
+    }
 }
 
 #[test]

@@ -9,34 +9,36 @@ use common::puts::{used_plan, DONE, ENTRIES, ROOM};
 use common::{run_seeds, Seed, Tally};
 use referee::rng::Rng;
 
+/// Page length and page count of the formatted images, and 1 for a local bitmap.
+const BUTTONS: [(u32, u32, u32); 21] = [
+    (32, 2, 1),
+    (32, 2, 0),
+    (32, 3, 0),
+    (32, 16, 1),
+    (32, 16, 0),
+    (33, 31, 1),
+    (32, 31, 0),
+    (32, 32, 1),
+    (38, 32, 0),
+    (40, 60, 0),
+    (64, 100, 0),
+    (32, 224, 0),
+    (32, 225, 0),
+    (39, 256, 0),
+    (32, 257, 0),
+    (32, 300, 0),
+    (128, 24, 1),
+    (255, 31, 1),
+    (256, 32, 1),
+    (256, 300, 0),
+    (48, 1_000, 0),
+];
+
 /// Runs on formatted images: with a local bitmap and with a bitmap file, with one-byte and with two-byte page numbers.
 #[test]
 fn runs_on_formatted_images_are_as_planned() {
     let mut tally = Tally::default();
-    let buttons = [
-        (32, 2, 1),
-        (32, 2, 0),
-        (32, 3, 0),
-        (32, 16, 1),
-        (32, 16, 0),
-        (33, 31, 1),
-        (32, 31, 0),
-        (32, 32, 1),
-        (38, 32, 0),
-        (40, 60, 0),
-        (64, 100, 0),
-        (32, 224, 0),
-        (32, 225, 0),
-        (39, 256, 0),
-        (32, 257, 0),
-        (32, 300, 0),
-        (128, 24, 1),
-        (255, 31, 1),
-        (256, 32, 1),
-        (256, 300, 0),
-        (48, 1_000, 0),
-    ];
-    for (place, (page_length, page_count, local)) in buttons.into_iter().enumerate() {
+    for (place, (page_length, page_count, local)) in BUTTONS.into_iter().enumerate() {
         let seed = 0xB000_0000 + place as u64;
         let _seed = Seed(seed);
         let mut rng = Rng::new(seed);
@@ -50,6 +52,9 @@ fn runs_on_formatted_images_are_as_planned() {
     tally.demand_numbers("read", 100, [0, 15, 18]);
     tally.demand_numbers("check", 100, [0]);
     tally.demand_numbers("list", 100, [0, 15]);
+    tally.demand_numbers("careful put", 50, [0, 15, 17]);
+    tally.demand_numbers("careful delete", 50, [0, 15]);
+    tally.demand(100, &["careful edits stopped"]);
 }
 
 /// Runs on generated images: nested directories, scattered chains, odd packets, read-only files.
@@ -70,4 +75,7 @@ fn runs_on_generated_images_are_as_planned() {
     tally.demand_numbers("read", 100, [0, 15, 18]);
     tally.demand_numbers("check", 100, [0]);
     tally.demand_numbers("list", 20, [0, 15]);
+    tally.demand_numbers("careful put", 50, 14..=17);
+    tally.demand_numbers("careful delete", 20, 14..=16);
+    tally.demand(300, &["careful edits stopped"]);
 }

@@ -31,25 +31,30 @@ fn rattle() -> Declarations {
 }
 
 #[test]
-fn the_header_declares_seven_functions_and_four_structs() {
+fn the_header_declares_ten_functions_and_six_structs() {
     let declared = of_header(&header());
     let names: Vec<&str> = declared.keys().map(String::as_str).collect();
     let expected = [
+        "owfs_careful_delete",
+        "owfs_careful_put",
         "owfs_check",
         "owfs_crc16",
         "owfs_delete",
         "owfs_format",
         "owfs_list",
+        "owfs_mend",
         "owfs_put",
         "owfs_read",
         "struct owfs_answer",
         "struct owfs_entry",
         "struct owfs_length",
+        "struct owfs_mended",
         "struct owfs_totals",
+        "struct owfs_writes",
     ];
     assert_eq!(names, expected);
     let counts: Vec<usize> = declared.values().map(|one| one.items.len()).collect();
-    assert_eq!(counts, [6, 3, 8, 7, 7, 10, 10, 2, 9, 3, 5]);
+    assert_eq!(counts, [9, 11, 6, 3, 8, 7, 7, 6, 10, 10, 2, 9, 3, 3, 5, 4]);
 }
 
 #[test]
@@ -65,7 +70,7 @@ fn the_rattle_exports_are_the_headers() {
 }
 
 /// Changes of the header, each with the start of a line that must tell it.
-const CHANGES: [(&str, &str, &str); 10] = [
+const CHANGES: [(&str, &str, &str); 13] = [
     (
         "uint32_t used;",
         "uint16_t used;",
@@ -99,6 +104,17 @@ const CHANGES: [(&str, &str, &str); 10] = [
         "owfs_read, item 7",
     ),
     ("uint32_t position", "uint32_t place", "owfs_list, item 6"),
+    ("uint32_t made;", "", "struct owfs_writes: 4 items"),
+    (
+        "uint32_t cleared;",
+        "uint32_t marks;",
+        "struct owfs_mended, item 2",
+    ),
+    (
+        "uint32_t allowed);",
+        "size_t allowed);",
+        "owfs_careful_put, item 10",
+    ),
     (
         "owfs_delete(",
         "owfs_remove(",

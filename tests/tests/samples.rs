@@ -1,13 +1,21 @@
 //! Every dump in `samples/` with the text that stands beside it.
 //!
-//! Programs: the second program in one test, the program `list` in another. `rt check` and `rt ci` make `list`.
+//! Programs: the second program in one test, the program `list` in another; both the second program and the library mend the sample of a stopped put.
+//! `rt check` and `rt ci` make `list`, `rt staticlib owfs` the archive.
 
 use std::fs;
 use std::path::{Path, PathBuf};
 
-use common::dumps::list_program;
-use common::Tally;
+use common::dumps::{dump, list_program};
+use common::{answer, mended, writes, Button, Tally};
+use referee::builder::pages::path;
 use referee::list_text;
+
+/// A sample dump.
+fn sample(name: &str) -> Vec<u8> {
+    let folder = PathBuf::from(env!("CARGO_MANIFEST_DIR")).join("../samples");
+    fs::read(folder.join(name)).unwrap_or_else(|error| panic!("{name}: {error}"))
+}
 
 /// The sample dumps.
 fn dumps() -> Vec<PathBuf> {
@@ -53,4 +61,25 @@ fn every_number_has_a_sample() {
     }
     tally.demand(5, &["accepted"]);
     tally.demand_numbers("refused", 1, (1..=13).chain([19]));
+}
+
+/// The sample of a put that was stopped after three of its six writes, marks and two pages of the file, and the one that a mend makes of it.
+#[test]
+fn stopped_put_and_mended_one_are_made_by_a_careful_put_and_a_mend() {
+    let log = path(&[], "LOG", 7);
+    let mut button = Button::formatted(32, 16, true);
+    let old = b"Monday 12, Tuesday 15, Wednesday 9";
+    let new = b"Monday 12, Tuesday 15, Wednesday 9, Thursday 11, Friday 14, Saturday 3";
+    assert_eq!(button.put(&path(&[], "DEMO", 12), b"TEST").0, answer(0, 0));
+    assert_eq!(button.put(&log, old).0, answer(0, 0));
+    let whole = button.clone().careful_put(&log, new, u32::MAX).0;
+    assert_eq!(whole, writes(6, false));
+    assert_eq!(button.careful_put(&log, new, 3).0, writes(3, true));
+    assert_eq!(dump(32, 16, 8, &button.image), sample("stopped-put.dump"));
+    assert_eq!(button.mend().0, mended(3));
+    assert_eq!(
+        dump(32, 16, 8, &button.image),
+        sample("stopped-put-mended.dump")
+    );
+    assert_eq!(button.read(&log), (0, old.to_vec()));
 }

@@ -8,8 +8,9 @@ use common::generators::{
     labelled_position, random_path, sound_case, Case, Wanted,
 };
 use common::plans::is_path;
+use common::trials::random_allowed;
 use common::{run_seeds, Button, Tally};
-use owfs::{Bitmap, Entry, Geometry, Kind, Listed, Name, Refusal, Totals};
+use owfs::{Bitmap, Entry, Geometry, Kind, Listed, Name, Refusal, Totals, Writes};
 use referee::builder::plan::{Built, BuiltEntry};
 use referee::builder::random::random_name;
 use referee::rng::Rng;
@@ -20,6 +21,15 @@ fn result<T>(number: u32, page: u32, told: T) -> Result<T, Refusal> {
         0 => Ok(told),
         _ => Err(Refusal { number, page }),
     }
+}
+
+/// The result that the wrapper gives for the answer of a careful call.
+fn writes(told: referee::Writes) -> Result<Writes, Refusal> {
+    let writes = Writes {
+        made: told.made,
+        left: told.left == 1,
+    };
+    result(told.number, told.page, writes)
 }
 
 /// The stored name of an entry.
@@ -161,9 +171,48 @@ impl<'a> Pair<'a> {
         self.same("delete", expected.number);
     }
 
+    /// A careful put.
+    fn careful_put(&mut self, path: &[u8], bytes: &[u8], allowed: u32) {
+        let (p, n) = (self.geometry.page_length, self.geometry.page_count);
+        let (image, owners) = (&mut self.expected_image, &mut self.expected_owners);
+        let expected = referee::careful_put(p, n, image, path, bytes, owners, allowed);
+        let (image, owners) = (&mut self.image, &mut self.owners);
+        let told = owfs::careful_put(self.geometry, image, path, bytes, owners, allowed);
+        assert_eq!(told, writes(expected));
+        self.same("careful put", expected.number);
+    }
+
+    /// A careful delete.
+    fn careful_delete(&mut self, path: &[u8], allowed: u32) {
+        let (p, n) = (self.geometry.page_length, self.geometry.page_count);
+        let (image, owners) = (&mut self.expected_image, &mut self.expected_owners);
+        let expected = referee::careful_delete(p, n, image, path, owners, allowed);
+        let (image, owners) = (&mut self.image, &mut self.owners);
+        let told = owfs::careful_delete(self.geometry, image, path, owners, allowed);
+        assert_eq!(told, writes(expected));
+        self.same("careful delete", expected.number);
+    }
+
+    /// A mend.
+    fn mend(&mut self) {
+        let (p, n) = (self.geometry.page_length, self.geometry.page_count);
+        let (image, owners) = (&mut self.expected_image, &mut self.expected_owners);
+        let expected = referee::mend(p, n, image, owners);
+        let told = owfs::mend(self.geometry, &mut self.image, &mut self.owners);
+        assert_eq!(
+            told,
+            result(expected.number, expected.page, expected.cleared)
+        );
+        self.same("mend", expected.number);
+        if expected.cleared > 0 {
+            self.tally.add("marks cleared");
+        }
+    }
+
     /// Every call, the format last.
     fn all_calls(&mut self, built: &Built, rng: &mut Rng) {
         self.check();
+        self.mend();
         self.list(labelled_position(built.entries.len(), rng).1);
         let Wanted {
             path, file_bytes, ..
@@ -174,6 +223,11 @@ impl<'a> Pair<'a> {
             let path = random_path(built, rng).path;
             self.put(&path, &rng.bytes(length));
             self.delete(&random_path(built, rng).path);
+            let path = random_path(built, rng).path;
+            self.careful_put(&path, &rng.bytes(length), random_allowed(rng));
+            self.mend();
+            self.careful_delete(&random_path(built, rng).path, random_allowed(rng));
+            self.mend();
         }
         self.format([Bitmap::Local, Bitmap::File][rng.below(2)]);
         self.check();
@@ -189,6 +243,10 @@ fn demand_every_number(tally: &Tally) {
     tally.demand_numbers("format", 20, [0, 1, 4]);
     tally.demand_numbers("put", 20, 0..=17);
     tally.demand_numbers("delete", 20, 0..=16);
+    tally.demand_numbers("careful put", 20, 0..=17);
+    tally.demand_numbers("careful delete", 20, 0..=16);
+    tally.demand_numbers("mend", 20, 0..=13);
+    tally.demand(100, &["marks cleared"]);
 }
 
 /// Sound images, images with faults, arguments that do not fit, any bytes.

@@ -1,6 +1,9 @@
 -- Laws of the exported answers: their numbers fit 32 bits, and they say through bytes what the calls say.
-pub mod EditFaults
+pub mod CallFaults
+pub mod TableFront
+pub mod EffectLaws
 pub mod SmallLaws
 pub mod CallLaws
+pub mod CarefulAnswers
 pub mod TreeLaws
 pub mod Telling

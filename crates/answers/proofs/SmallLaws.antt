@@ -25,7 +25,7 @@ use Rattle.rules.specs.Owners.{totals}
 use Rattle.rules.specs.Listing.{linesOf, lineAt}
 use Rattle.rules.specs.Paths.{fileKey, Found, nothing, aFile, aDirectory, find, rootPlace}
 use Rattle.rules.specs.TargetLaws.{reached}
-use Rattle.rules.specs.Calls.{bytesOf, fileAt, readBytes, lengthOf, asked, inGeometry, shape, done, changed, checkCall, listCall, readCall, formatCall, putCall, deleteCall}
+use Rattle.rules.specs.Calls.{bytesOf, fileAt, readBytes, lengthOf, asked, inGeometry, Effect, plainly, effective, checkCall, listCall, readCall, formatCall, putCall, deleteCall}
 use Rattle.rules.specs.RefusalLaws.{Refuses}
 use Rattle.rules.specs.FuelLaws.{check-faults}
 use Rattle.rules.specs.CallLaws.{asked-fits, asked-invalid, read-faults}
@@ -37,7 +37,8 @@ use Rattle.chain.proofs.Following.{first-stands, small-view}
 use Rattle.listing.specs.KnownTree.{Below}
 use Rattle.listing.proofs.Accepting.{accepted-stands}
 use Rattle.lookup.proofs.Resolving.{FoundAt, find-stands, place-below}
-use Rattle.answers.proofs.EditFaults.{some-pages, EditFaults, format-told, delete-told, put-told}
+use Rattle.answers.proofs.CallFaults.{some-pages, CallFaults, format-told, delete-told, put-told}
+use Rattle.answers.proofs.EffectLaws.{small-effective}
 use Rattle.answers.specs.Small.{Small, TotalsSmall, LineSmall, LengthSmall, DoneSmall}
 
 -- an answer is small if it is for every accepted image
@@ -151,25 +152,17 @@ module _ (P N : ℕ) (image t : List ℕ) where
 
 -- ---- an edit
 module _ (P N : ℕ) (image t : List ℕ) where
-  done-small : (g : Geometry) → g .pages ≤ 65535 → (r : Res (List ℕ)) → Refuses 1 18 (g .pages + 33) r → Small DoneSmall (done P N image t g r .0)
-  done-small g few (ok after) h = tt
-  done-small g few (err n p) h = omega (arith, h .page n p refl)
-
-  pub small-changed : (edit : Geometry → Res (List ℕ)) → EditFaults image edit → Small DoneSmall (changed P N image t edit .0)
-  small-changed edit h = go (shape P N image t) refl
-    where
-      go : (s : Shape) → shape P N image t ≡ s → Small DoneSmall (inGeometry s (err 1 0, image, t) (λ g. done P N image t g (edit g)) .0)
-      go Invalid e = omega arith
-      go (Fits g) e = let f = fit-of P N image t g e in done-small g (f .valid .few) (edit g) (h g f)
+  pub small-done : (call : Geometry → Res (Effect (Unit {0}))) → CallFaults image call → Small DoneSmall (effective P N image t call .0)
+  small-done call h = small-effective P N image t DoneSmall call h (λ g f x e. tt)
 
   pub format-small : (local : Bool) (q : Res (Unit {0})) (after x : List ℕ) → (q, after, x) ≡ formatCall P N image t local → Small DoneSmall q
   unfolding formatCall
-  format-small local q after x e = subst (Small DoneSmall) (sym (ap (λ (y : Res (Unit {0}) × List ℕ × List ℕ). y .0) e)) (small-changed (λ g. format g local image) (format-told image local))
+  format-small local q after x e = subst (Small DoneSmall) (sym (ap (λ (y : Res (Unit {0}) × List ℕ × List ℕ). y .0) e)) (small-done (λ g. plainly (format g local image)) (format-told image local))
 
   pub delete-small : (path : List ℕ) (q : Res (Unit {0})) (after x : List ℕ) → (q, after, x) ≡ deleteCall P N image t path → Small DoneSmall q
   unfolding deleteCall
-  delete-small path q after x e = subst (Small DoneSmall) (sym (ap (λ (y : Res (Unit {0}) × List ℕ × List ℕ). y .0) e)) (small-changed (λ g. delete g path image) (delete-told image path))
+  delete-small path q after x e = subst (Small DoneSmall) (sym (ap (λ (y : Res (Unit {0}) × List ℕ × List ℕ). y .0) e)) (small-done (λ g. plainly (delete g path image)) (delete-told image path))
 
   pub put-small : (path bytes : List ℕ) (q : Res (Unit {0})) (after x : List ℕ) → (q, after, x) ≡ putCall P N image t path bytes → Small DoneSmall q
   unfolding putCall
-  put-small path bytes q after x e = subst (Small DoneSmall) (sym (ap (λ (y : Res (Unit {0}) × List ℕ × List ℕ). y .0) e)) (small-changed (λ g. put g path bytes image) (put-told image path bytes))
+  put-small path bytes q after x e = subst (Small DoneSmall) (sym (ap (λ (y : Res (Unit {0}) × List ℕ × List ℕ). y .0) e)) (small-done (λ g. plainly (put g path bytes image)) (put-told image path bytes))

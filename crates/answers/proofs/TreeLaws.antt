@@ -25,7 +25,7 @@ use Rattle.rules.specs.Listing.{linesOf, lineAt}
 use Rattle.rules.specs.Format.{format}
 use Rattle.rules.specs.Put.{put}
 use Rattle.rules.specs.Delete.{delete}
-use Rattle.rules.specs.Calls.{readBytes, lengthOf, filled, inGeometry, asked, done as doneCall, changed, checkCall, listCall, readCall, formatCall, putCall, deleteCall}
+use Rattle.rules.specs.Calls.{readBytes, lengthOf, filled, inGeometry, asked, Effect, plainly, effective, checkCall, listCall, readCall, formatCall, putCall, deleteCall}
 use Rattle.rules.specs.CallLaws.{asked-fits, asked-invalid, read-faults}
 use Rattle.rules.specs.Paths.{pathOf}
 use Rattle.rules.specs.Candidate.{NotReadOnly, PutFile}
@@ -34,7 +34,8 @@ use Rattle.reading_theorems.specs.CheckCall.{asked-tells, tells-said}
 use Rattle.editing_theorems.specs.Demand3.{demand-said}
 use Rattle.editing_theorems.specs.Promised.{format-stated, delete-stated, put-stated, leaves-said}
 use Rattle.owners.specs.TableBytes.{numbersOf}
-use Rattle.answers.proofs.EditFaults.{some-pages, EditFaults, format-told, delete-told, put-told}
+use Rattle.answers.proofs.CallFaults.{some-pages, CallFaults, format-told, delete-told, put-told}
+use Rattle.answers.proofs.EffectLaws.{effective-number}
 use Rattle.answers.specs.declared.OwfsTotals.{OwfsTotals}
 use Rattle.answers.specs.declared.OwfsEntry.{OwfsEntry}
 use Rattle.answers.specs.declared.OwfsLength.{OwfsLength}
@@ -92,20 +93,9 @@ module _ (P N : ℕ) (image owners : List ℕ) (bytes : Bytes image) where
       (λ z. done P N image table f (read-faults path out) (λ x. lengthFor (lengthOf x) .number) (λ n p. refl) (sym (ap (λ (x : OwfsLength). x .number) q) ∙ z)) (asked-tells P N image table bytes f)
 
 -- ---- an edit: the number told is 0 exactly when it is done
-module _ (P N : ℕ) (image table : List ℕ) (edit : Geometry → Res (List ℕ)) (h : EditFaults image edit) where
+module _ (P N : ℕ) (image table : List ℕ) (edit : Geometry → Res (Effect (Unit {0}))) (h : CallFaults image edit) where
   abbrev call : Res (Unit {0}) × List ℕ × List ℕ
-  call = changed P N image table edit
-
-  edit-number : (n p : ℕ) → call .0 ≡ err n p → 1 ≤ n
-  edit-number n p e = go (geometryOf P N (length image) (length table)) refl e
-    where
-      left : (g : Geometry) → Fit g image → (r : Res (List ℕ)) → edit g ≡ r → doneCall P N image table g r .0 ≡ err n p → 1 ≤ n
-      left g f (ok after) q e = clash (sym e)
-      left g f (err m o) q e = let i : m ≡ n = cc in omega (arith, h g f .number m o q .0)
-
-      go : (s : Shape) → geometryOf P N (length image) (length table) ≡ s → inGeometry s (err 1 0, image, table) (λ g. doneCall P N image table g (edit g)) .0 ≡ err n p → 1 ≤ n
-      go Invalid q e = let i : 1 ≡ n = cc in omega arith
-      go (Fits g) q e = left g (fit-of P N image table g q) (edit g) refl e
+  call = effective P N image table edit
 
   module _ (r : OwfsAnswer) (told : r ≡ answerFor (call .0)) where
     told-as : (q : Res (Unit {0})) → call .0 ≡ q → r ≡ answerFor q
@@ -116,7 +106,7 @@ module _ (P N : ℕ) (image table : List ℕ) (edit : Geometry → Res (List ℕ
       where
         go : (q : Res (Unit {0})) → call .0 ≡ q → r .number ≡ 0 → call .0 ≡ ok tt
         go (ok u) k z = k
-        go (err n p) k z = absurd (omega (arith, edit-number n p k, ap (λ (x : OwfsAnswer). x .number) (told-as (err n p) k), z))
+        go (err n p) k z = absurd (omega (arith, effective-number P N image table edit h n p k, ap (λ (x : OwfsAnswer). x .number) (told-as (err n p) k), z))
 
     pub edit-told : (m o : ℕ) → 1 ≤ m → (r ≡ record { number = m; page = o }) ↔ (call .0 ≡ err m o)
     edit-told m o some = (go (call .0) refl, λ k. told-as (err m o) k)
@@ -133,10 +123,10 @@ module _ (P N : ℕ) (image owners : List ℕ) (bytes : Bytes image) where
   unfolding formatAnswer formatCall
   formats local r after b e =
       let t = numbersOf owners in
-      let f : Geometry → Res (List ℕ) = λ g. format g (asksLocal local) image in
-      let h : EditFaults image f = format-told image (asksLocal local) in
-      let told : r ≡ answerFor (changed P N image t f .0) = ap (λ (x : OwfsAnswer × List ℕ × List ℕ). x .0) e in
-      let left : after ≡ changed P N image t f .1 = ap (λ (x : OwfsAnswer × List ℕ × List ℕ). x .1) e in
+      let f : Geometry → Res (Effect (Unit {0})) = λ g. plainly (format g (asksLocal local) image) in
+      let h : CallFaults image f = format-told image (asksLocal local) in
+      let told : r ≡ answerFor (effective P N image t f .0) = ap (λ (x : OwfsAnswer × List ℕ × List ℕ). x .0) e in
+      let left : after ≡ effective P N image t f .1 = ap (λ (x : OwfsAnswer × List ℕ × List ℕ). x .1) e in
       let d = edit-done P N image t f h r told in
       let k = format-stated P N image t bytes (asksLocal local) in (
         rw left (leaves-said d (k .0)),
@@ -148,10 +138,10 @@ module _ (P N : ℕ) (image owners : List ℕ) (bytes : Bytes image) where
   unfolding deleteAnswer deleteCall
   deletes path r after b e =
       let t = numbersOf owners in
-      let f : Geometry → Res (List ℕ) = λ g. delete g path image in
-      let h : EditFaults image f = delete-told image path in
-      let told : r ≡ answerFor (changed P N image t f .0) = ap (λ (x : OwfsAnswer × List ℕ × List ℕ). x .0) e in
-      let left : after ≡ changed P N image t f .1 = ap (λ (x : OwfsAnswer × List ℕ × List ℕ). x .1) e in
+      let f : Geometry → Res (Effect (Unit {0})) = λ g. plainly (delete g path image) in
+      let h : CallFaults image f = delete-told image path in
+      let told : r ≡ answerFor (effective P N image t f .0) = ap (λ (x : OwfsAnswer × List ℕ × List ℕ). x .0) e in
+      let left : after ≡ effective P N image t f .1 = ap (λ (x : OwfsAnswer × List ℕ × List ℕ). x .1) e in
       rw left (leaves-said (edit-done P N image t f h r told) (delete-stated P N image t bytes path))
 
   pub puts : (path text : List ℕ) → Bytes path → Bytes text → (r : OwfsAnswer) (after b : List ℕ) → (r, after, b) ≡ putAnswer P N image owners path text
@@ -159,10 +149,10 @@ module _ (P N : ℕ) (image owners : List ℕ) (bytes : Bytes image) where
   unfolding putAnswer putCall
   puts path text pb db r after b e =
       let t = numbersOf owners in
-      let f : Geometry → Res (List ℕ) = λ g. put g path text image in
-      let h : EditFaults image f = put-told image path text in
-      let told : r ≡ answerFor (changed P N image t f .0) = ap (λ (x : OwfsAnswer × List ℕ × List ℕ). x .0) e in
-      let left : after ≡ changed P N image t f .1 = ap (λ (x : OwfsAnswer × List ℕ × List ℕ). x .1) e in
+      let f : Geometry → Res (Effect (Unit {0})) = λ g. plainly (put g path text image) in
+      let h : CallFaults image f = put-told image path text in
+      let told : r ≡ answerFor (effective P N image t f .0) = ap (λ (x : OwfsAnswer × List ℕ × List ℕ). x .0) e in
+      let left : after ≡ effective P N image t f .1 = ap (λ (x : OwfsAnswer × List ℕ × List ℕ). x .1) e in
       let d = edit-done P N image t f h r told in
       let k = put-stated P N image t bytes path text pb db in
       rw left (leaves-said d (k .0), demand-said P N image t (pathOf path) NotReadOnly (PutFile text) d (edit-told P N image t f h r told 17 0 (omega arith)) (k .1))

@@ -5,13 +5,18 @@ use Prim.Native.Nat.{ℕ}
 use lib.Dec.{eqb}
 use Rattle.rules.specs.declared.Totals.{Totals}
 use Rattle.rules.specs.declared.Line.{Line}
+use Rattle.rules.specs.declared.WriteCount.{WriteCount}
 use Rattle.rules.specs.Result.{Res, ok, err}
+use Rattle.rules.specs.PageSets.{bit}
 use Rattle.rules.specs.Calls.{checkCall, listCall, readCall, formatCall, putCall, deleteCall}
+use Rattle.rules.specs.Careful.{carefulPutCall, carefulDeleteCall, mendCall}
 use Rattle.owners.specs.TableBytes.{numbersOf, bytesWith}
 use Rattle.answers.specs.declared.OwfsTotals.{OwfsTotals}
 use Rattle.answers.specs.declared.OwfsEntry.{OwfsEntry}
 use Rattle.answers.specs.declared.OwfsLength.{OwfsLength}
 use Rattle.answers.specs.declared.OwfsAnswer.{OwfsAnswer}
+use Rattle.answers.specs.declared.OwfsWrites.{OwfsWrites}
+use Rattle.answers.specs.declared.OwfsMended.{OwfsMended}
 
 -- 0 and what is told, or the number and page of a refusal; every other field is 0
 abbrev pub totalsFor : Res Totals → OwfsTotals
@@ -40,6 +45,18 @@ abbrev pub answerFor : Res (Unit {0}) → OwfsAnswer
 answerFor (ok u) = record { number = 0; page = 0 }
 answerFor (err n p) = record { number = n; page = p }
 
+abbrev pub writesFor : Res WriteCount → OwfsWrites
+writesFor (ok c) = record { number = 0; page = 0; made = c .made; left = bit (c .left) }
+writesFor (err n p) = record { number = n; page = p; made = 0; left = 0 }
+
+abbrev pub mendedFor : Res ℕ → OwfsMended
+mendedFor (ok n) = record { number = 0; page = 0; cleared = n }
+mendedFor (err n p) = record { number = n; page = p; cleared = 0 }
+
+-- the writes that such an answer tells of
+abbrev pub countTold : OwfsWrites → WriteCount
+countTold w = record { made = w .made; left = eqb (w .left) 1 }
+
 -- any number but 0 asks for a local bitmap
 abbrev pub asksLocal : ℕ → Bool
 asksLocal n = not (eqb n 0)
@@ -63,3 +80,13 @@ module _ (P N : ℕ) (image owners : List ℕ) where
 
   unfoldable pub deleteAnswer : List ℕ → OwfsAnswer × List ℕ × List ℕ
   deleteAnswer path = let r = deleteCall P N image (numbersOf owners) path in (answerFor (r .0), r .1, bytesWith (r .2) owners)
+
+  -- the careful calls, which may make so many page writes, and the mend
+  unfoldable pub carefulPutAnswer : List ℕ → List ℕ → ℕ → OwfsWrites × List ℕ × List ℕ
+  carefulPutAnswer path bytes k = let r = carefulPutCall P N image (numbersOf owners) k path bytes in (writesFor (r .0), r .1, bytesWith (r .2) owners)
+
+  unfoldable pub carefulDeleteAnswer : List ℕ → ℕ → OwfsWrites × List ℕ × List ℕ
+  carefulDeleteAnswer path k = let r = carefulDeleteCall P N image (numbersOf owners) k path in (writesFor (r .0), r .1, bytesWith (r .2) owners)
+
+  unfoldable pub mendAnswer : OwfsMended × List ℕ × List ℕ
+  mendAnswer = let r = mendCall P N image (numbersOf owners) in (mendedFor (r .0), r .1, bytesWith (r .2) owners)

@@ -2,6 +2,7 @@
 use Prim.Native.Nat.{ℕ, _<_}
 use Rattle.rules.specs.declared.Totals.{Totals}
 use Rattle.rules.specs.declared.Line.{Line}
+use Rattle.rules.specs.declared.WriteCount.{WriteCount}
 use Rattle.rules.specs.Result.{Res, ok, err}
 
 -- the numbers of an answer are small
@@ -20,3 +21,6 @@ LengthSmall n = n < 16777216
 
 abbrev pub DoneSmall : Unit {0} → Type 0
 DoneSmall u = Unit {0}
+
+abbrev pub WritesSmall : WriteCount → Type 0
+WritesSmall c = c .made < 4294967296

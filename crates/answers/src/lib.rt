@@ -1,12 +1,15 @@
 // What the exported calls answer: plain numbers of 32 bits.
 use rules::Checked;
 use rules::Edited;
+use rules::Halted;
 use rules::Length;
 use rules::Listed;
+use rules::Mended;
 ghost use mathlib.Core.Path.{_≡_};
-ghost use Rattle.rules.specs.Answers.{checkResult, editResult, lineResult, lengthResult};
-ghost use Rattle.answers.specs.ExportedAnswers.{totalsFor, entryFor, lengthFor, answerFor};
-ghost use Rattle.answers.specs.Small.{Small, TotalsSmall, LineSmall, LengthSmall, DoneSmall};
+ghost use Rattle.rules.specs.Answers.{checkResult, editResult, lineResult, lengthResult, countResult, mendResult};
+ghost use Rattle.rules.specs.PageSets.{bit};
+ghost use Rattle.answers.specs.ExportedAnswers.{totalsFor, entryFor, lengthFor, answerFor, writesFor, mendedFor};
+ghost use Rattle.answers.specs.Small.{Small, TotalsSmall, LineSmall, LengthSmall, DoneSmall, WritesSmall};
 
 // What check answers: 0 and the totals, or the number of a refusal and its page.
 #[repr(C)]
@@ -46,6 +49,23 @@ pub struct OwfsLength {
 pub struct OwfsAnswer {
     pub number: u32,
     pub page: u32,
+}
+
+// What a careful edit answers: 0, the page writes made, and 1 if any are left, else 0; or the number of a refusal and its page.
+#[repr(C)]
+pub struct OwfsWrites {
+    pub number: u32,
+    pub page: u32,
+    pub made: u32,
+    pub left: u32,
+}
+
+// What a mend answers: 0 and the marks cleared, or the number of a refusal and its page.
+#[repr(C)]
+pub struct OwfsMended {
+    pub number: u32,
+    pub page: u32,
+    pub cleared: u32,
 }
 
 // An answer of the check as the caller sees it.
@@ -131,6 +151,56 @@ pub fn tell_answer(answer: Edited) -> OwfsAnswer
         Edited::Refused(number, page) => OwfsAnswer {
             number: number as u32,
             page: page as u32,
+        },
+    }
+}
+
+// 1 for yes, 0 for no.
+fn one_if(yes: bool) -> u32
+    ensures { λ r. ⌜ r ≡ bit yes ⌝ }
+{
+    if yes {
+        return 1;
+    }
+    0
+}
+
+// An answer of a careful edit as the caller sees it.
+pub fn tell_writes(answer: Halted) -> OwfsWrites
+    requires { ⌜ Small WritesSmall (countResult answer) ⌝ }
+    ensures { λ r. ⌜ r ≡ writesFor (countResult answer) ⌝ }
+{
+    match answer {
+        Halted::Done(count) => OwfsWrites {
+            number: 0,
+            page: 0,
+            made: count.made as u32,
+            left: one_if(count.left),
+        },
+        Halted::Refused(number, page) => OwfsWrites {
+            number: number as u32,
+            page: page as u32,
+            made: 0,
+            left: 0,
+        },
+    }
+}
+
+// An answer of a mend as the caller sees it.
+pub fn tell_mended(answer: Mended) -> OwfsMended
+    requires { ⌜ Small LengthSmall (mendResult answer) ⌝ }
+    ensures { λ r. ⌜ r ≡ mendedFor (mendResult answer) ⌝ }
+{
+    match answer {
+        Mended::Done(cleared) => OwfsMended {
+            number: 0,
+            page: 0,
+            cleared: cleared as u32,
+        },
+        Mended::Refused(number, page) => OwfsMended {
+            number: number as u32,
+            page: page as u32,
+            cleared: 0,
         },
     }
 }

@@ -42,10 +42,10 @@ module _ (bytes : List ℕ) (at : ℕ) (table : List ℕ) where
   right-on k h e j l = elim (hits j k) [ same i z ↦ rw i e | other i z ↦ h j (omega arith) ]
 
   module _ (raw used : List ℕ) (stands : (i : ℕ) → i < length bytes → getD raw (at + i) 0 ≡ getD bytes i 0) (r : Represents table used) where
-    used-bit : (j : ℕ) → pageBit table 0 j ≡ bit (mem j used)
+    pub used-bit : (j : ℕ) → pageBit table 0 j ≡ bit (mem j used)
     used-bit j = marked table 0 used (marks-none table used r) j
 
-    bit-is : (k : ℕ) → k < 8 * length bytes → bitAt raw (8 * at + k) ≡ getD bytes (k / 8) 0 / 2 ^ (k % 8) % 2
+    pub bit-is : (k : ℕ) → k < 8 * length bytes → bitAt raw (8 * at + k) ≡ getD bytes (k / 8) 0 / 2 ^ (k % 8) % 2
     bit-is k h =
         let e : 8 * at + k ≡ 8 * (at + k / 8) + k % 8 = omega arith in
         ap (bitAt raw) e ∙ bit-of raw (at + k / 8) (k % 8) (omega arith) ∙ ap (λ (x : ℕ). x / 2 ^ (k % 8) % 2) (stands (k / 8) (omega arith))

@@ -22,11 +22,12 @@ use Rattle.chain.specs.declared.Step.{Step}
 use Rattle.chain.specs.declared.Step.the-variants as step
 use Rattle.chain.specs.Steps.{firstStep, stepOf}
 use Rattle.chain.specs.KnownChain.{ChainAt}
-use Rattle.chain.proofs.Following.{Passed, passes-data, ReadTo, read-first, bytes-up, split-whole, read-end, read-on}
+use Rattle.chain.proofs.Following.{Passed, ReadTo, read-first, bytes-up, read-end, read-on}
 use Rattle.bitmap.specs.declared.Bits.{Bits}
 use Rattle.bitmap.specs.declared.Bits.the-variants as bits
 use Rattle.bitmap.specs.Bits.{Part, ComparesPart}
 use Rattle.bitmap.proofs.BitLaws.{judged-same, judged-differ}
+use Rattle.bitmap.proofs.PagesRead.{stands, length-is, turned}
 
 -- what holds before a page of a chain of so many pages is compared
 pub record Comparing (g : Geometry) (v : View) (raw used : List ℕ) (total : ℕ) (c : Cursor) : Type 0 where
@@ -43,24 +44,11 @@ module _ (g : Geometry) (image : List ℕ) (fit : Fit g image) where
       record { read = read-first g v start c ls e d; agree = λ j h. absurd (omega arith) }
 
   module _ (raw used : List ℕ) (total : ℕ) (c d : Cursor) (bytes : List ℕ) (C : Comparing g v raw used total c) (t : Passed c d (C .read .more) bytes) where
-    abbrev others : List Link
-    others = t .others
-
-    whole : raw ≡ C .read .done ++ (bytes ++ content others)
-    whole = split-whole g image fit total raw c d (C .read) bytes t
-
-    pub stands : (i : ℕ) → i < length bytes → getD raw (c .bytes + i) 0 ≡ getD bytes i 0
-    stands i h =
-        ap₂ (λ (l : List ℕ) (n : ℕ). getD l (n + i) 0) whole (C .read .passed) ∙ getD-append-add (C .read .done) (bytes ++ content others) i 0 ∙ List·getD-append bytes (content others) 0 i h
-
-    length-is : length raw ≡ c .bytes + (length bytes + length (content others))
-    length-is = ap length whole ∙ length-append (C .read .done) (bytes ++ content others) ∙ ap₂ (λ (x y : ℕ). x + y) (sym (C .read .passed)) (length-append bytes (content others))
-
     agree-below : (n e : ℕ) → IsLowest raw used (8 * c .bytes) n e → (j : ℕ) → j < e → bitAt raw j ≡ bit (mem j used)
     agree-below n e l j h = elim (decLt j (8 * c .bytes)) [ yes q ↦ C .agree j q | no q ↦ l .agree j (omega arith) h ]
 
     pub differs : (e : ℕ) → Part raw used (8 * c .bytes) (8 * length bytes) (bits.Differ e) → judgeBits raw used ≡ err 13 e
-    differs e l = judged-differ raw used e (omega (arith, l .1, length-is)) (agree-below (8 * length bytes) e (l .0)) (λ q. l .0 .differs (l .1) q)
+    differs e l = judged-differ raw used e (omega (arith, l .1, length-is g image fit raw total c d bytes (C .read) t)) (agree-below (8 * length bytes) e (l .0)) (λ q. l .0 .differs (l .1) q)
 
     module _ (l : Part raw used (8 * c .bytes) (8 * length bytes) bits.Same) where
       pub same-all : d .page ≡ 0 → judgeBits raw used ≡ ok tt
@@ -76,21 +64,15 @@ module _ (g : Geometry) (image : List ℕ) (fit : Fit g image) where
   -- one page of the chain compared, as the code reads it
   module _ {raw used : List ℕ} {total : ℕ} {c : Cursor} (C : Comparing g v raw used total c) {size : ℕ} {d : Cursor} {s : Step} (m : s ≡ step.Page size d) (o : s ≡ stepOf g v c)
       {page : List ℕ} (e : page ≡ pageOf g (c .page) image) {bytes : List ℕ} (i : bytes ≡ take size (drop 1 page)) where
-    turned : Passed c d (C .read .more) bytes
-    turned = passes-data g image fit total c (C .read .more) (C .read .following) size d s m o page e bytes i
-
-    pub in-bounds : (c .bytes ≤ 16777216) × (length bytes ≤ 256)
-    in-bounds = (omega (arith, C .read .following .counted .few, C .read .following .counted .small), omega (arith, turned .small))
-
     module _ (table : List ℕ) (R : Represents table used) (r : Bits) (p : ComparesPart bytes (c .bytes) table r) where
       part : (s : Bits) → r ≡ s → Part raw used (8 * c .bytes) (8 * length bytes) s
-      part s q = subst (Part raw used (8 * c .bytes) (8 * length bytes)) q (p raw used (stands raw used total c d bytes C turned) R)
+      part s q = subst (Part raw used (8 * c .bytes) (8 * length bytes)) q (p raw used (stands g image fit raw total c d bytes (C .read) (turned g image fit (C .read) m o e i)) R)
 
       pub answer-differ : (n : ℕ) → r ≡ bits.Differ n → judgeBits raw used ≡ err 13 n
-      answer-differ n q = differs raw used total c d bytes C turned n (part (bits.Differ n) q)
+      answer-differ n q = differs raw used total c d bytes C (turned g image fit (C .read) m o e i) n (part (bits.Differ n) q)
 
       pub answer-same : r ≡ bits.Same → d .page ≡ 0 → judgeBits raw used ≡ ok tt
-      answer-same q z = same-all raw used total c d bytes C turned (part bits.Same q) z
+      answer-same q z = same-all raw used total c d bytes C (turned g image fit (C .read) m o e i) (part bits.Same q) z
 
       pub compare-on : r ≡ bits.Same → (d .page ≡ 0 → ⊥) → total ≤ g .pages → Comparing g v raw used total d
-      compare-on q z u = same-on raw used total c d bytes C turned (part bits.Same q) z u
+      compare-on q z u = same-on raw used total c d bytes C (turned g image fit (C .read) m o e i) (part bits.Same q) z u

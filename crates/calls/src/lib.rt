@@ -2,11 +2,13 @@
 use answers::OwfsAnswer;
 use answers::OwfsEntry;
 use answers::OwfsLength;
+use answers::OwfsMended;
 use answers::OwfsTotals;
+use answers::OwfsWrites;
 ghost use mathlib.Core.Path.{_≡_};
 ghost use Prim.Native.Nat.{_/_, min};
 ghost use lib.ListN.{length};
-ghost use Rattle.answers.specs.ExportedAnswers.{checkAnswer, listAnswer, readAnswer, formatAnswer, putAnswer, deleteAnswer};
+ghost use Rattle.answers.specs.ExportedAnswers.{checkAnswer, listAnswer, readAnswer, formatAnswer, putAnswer, deleteAnswer, carefulPutAnswer, carefulDeleteAnswer, mendAnswer};
 
 // Checks an image over a table for the numbers of its owner bytes.
 pub fn check_over(
@@ -115,4 +117,60 @@ pub fn delete_over(
     let answer = delete::delete(image, size, pages, path, table);
     owners::store(table, stored);
     answers::tell_answer(answer)
+}
+
+// Puts bytes at a path over such a table with at most so many page writes.
+pub fn careful_put_over(
+    size: u32,
+    pages: u32,
+    image: &mut [u8],
+    path: &[u8],
+    bytes: &[u8],
+    table: &mut [u16],
+    stored: &mut [u8],
+    allowed: u32,
+) -> OwfsWrites
+    requires { ⌜ length (now table) ≡ min (length (now stored) / 2) 65535 ⌝ }
+    ensures { λ r. ⌜ (r, now (image .exit), now (stored .exit)) ≡ carefulPutAnswer size pages (now (image .entry)) (now (stored .entry)) (now (path .entry)) (now (bytes .entry)) allowed ⌝ }
+{
+    owners::load(stored, table);
+    let answer = careful::put(image, size, pages, path, bytes, table, allowed as usize);
+    owners::store(table, stored);
+    answers::tell_writes(answer)
+}
+
+// Deletes the file at a path over such a table with at most so many page writes.
+pub fn careful_delete_over(
+    size: u32,
+    pages: u32,
+    image: &mut [u8],
+    path: &[u8],
+    table: &mut [u16],
+    stored: &mut [u8],
+    allowed: u32,
+) -> OwfsWrites
+    requires { ⌜ length (now table) ≡ min (length (now stored) / 2) 65535 ⌝ }
+    ensures { λ r. ⌜ (r, now (image .exit), now (stored .exit)) ≡ carefulDeleteAnswer size pages (now (image .entry)) (now (stored .entry)) (now (path .entry)) allowed ⌝ }
+{
+    owners::load(stored, table);
+    let answer = careful::delete(image, size, pages, path, table, allowed as usize);
+    owners::store(table, stored);
+    answers::tell_writes(answer)
+}
+
+// Mends an image over such a table.
+pub fn mend_over(
+    size: u32,
+    pages: u32,
+    image: &mut [u8],
+    table: &mut [u16],
+    stored: &mut [u8],
+) -> OwfsMended
+    requires { ⌜ length (now table) ≡ min (length (now stored) / 2) 65535 ⌝ }
+    ensures { λ r. ⌜ (r, now (image .exit), now (stored .exit)) ≡ mendAnswer size pages (now (image .entry)) (now (stored .entry)) ⌝ }
+{
+    owners::load(stored, table);
+    let answer = mend::mend(image, size, pages, table);
+    owners::store(table, stored);
+    answers::tell_mended(answer)
 }

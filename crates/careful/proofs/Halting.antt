@@ -12,7 +12,8 @@ use Rattle.rules.specs.declared.WriteCount.{WriteCount}
 use Rattle.rules.specs.Result.{Res, ok, err, andThen}
 use Rattle.rules.specs.ResultLaws.{then-ok, then-err}
 use Rattle.rules.specs.Answers.{countResult}
-use Rattle.rules.specs.Careful.{Effect, haltedAt}
+use Rattle.rules.specs.Calls.{Effect}
+use Rattle.rules.specs.Careful.{haltedAt}
 use Rattle.careful_theorems.specs.HaltLaws.{limitedTo, all-spent, halt-tells}
 use Rattle.edit.specs.declared.Outcome.{Outcome}
 use Rattle.edit.specs.declared.Outcome.the-variants as outcome

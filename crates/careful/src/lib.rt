@@ -46,7 +46,7 @@ fn put_marked(
 }
 
 // Puts a file: the bitmap that marks its pages, its pages, its entry, the bitmap without the chain that it replaces. No page in use is taken. 17.
-pub fn put_file(
+fn put_file(
     image: &mut [u8],
     g: Geometry,
     file: NewFile,
@@ -167,9 +167,9 @@ fn delete_in(
     match volume::check_table(image, g, table) {
         Checked::Refused(number, page) => Halted::Refused(number, page),
         Checked::Done(_) => {
-            let outcome = delete::delete_path(image, g, path, table, Budget::limited(allowed));
+            let deleted = delete::delete_path(image, g, path, table, Budget::limited(allowed));
             volume::check_table(image, g, table);
-            halted(outcome, allowed)
+            halted(deleted, allowed)
         }
     }
 }

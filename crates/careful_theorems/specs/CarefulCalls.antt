@@ -18,7 +18,7 @@ use Rattle.geometry.specs.Number.{Bytes}
 use Rattle.packet.specs.Packet.{afterWrites}
 use Rattle.rules.specs.declared.WriteCount.{WriteCount}
 use Rattle.rules.specs.Result.{Res, ok, err, andThen, andAfter, refuse-unless}
-use Rattle.rules.specs.ResultLaws.{ok-inj, clash, then-ok, then-err, refuse-true, refuse-false}
+use Rattle.rules.specs.ResultLaws.{ok-inj, clash, on-then, on-refuse, then-ok, then-err, refuse-true, refuse-false}
 use Rattle.rules.specs.PageSets.{bit, count, mem}
 use Rattle.rules.specs.PageSetLaws.{mem-false, range-above}
 use Rattle.rules.specs.Chain.{viewsOf}
@@ -26,8 +26,9 @@ use Rattle.rules.specs.Tree.{Image, mapPages, used}
 use Rattle.rules.specs.Bitmap.{bitAt, lowestDifference}
 use Rattle.rules.specs.BitmapLaws.{difference-agree}
 use Rattle.rules.specs.Check.{Scan, judgeBits, scan, check}
-use Rattle.rules.specs.Calls.{inGeometry, shape}
-use Rattle.rules.specs.Careful.{Effect, carefulPut, carefulDelete, allMendable, unowned, mendWrites, mend, effect, carefulPutCall, carefulDeleteCall, mendCall, noWrites, countOf, clearedOf}
+use Rattle.rules.specs.Calls.{Effect, shape, effect, effective}
+use Rattle.rules.specs.CallLaws.{effective-refused}
+use Rattle.rules.specs.Careful.{carefulPut, carefulDelete, allMendable, unowned, mendWrites, mend, carefulPutCall, carefulDeleteCall, mendCall, noWrites, countOf, clearedOf}
 use Rattle.rules.specs.CarefulPromises.{IsDone, CarefullyPuts, CarefullyDeletes, Mends}
 use Rattle.reading_theorems.specs.Accepted.{scanned-iff}
 use Rattle.careful_theorems.specs.MarkLaws.{Left, all-mendable}
@@ -68,6 +69,12 @@ module _ (g : Geometry) (image : List ℕ) (fit : Fit g image) (bytes : Bytes im
   same-fault : {A B : Type 0} (a b n p : ℕ) → _≡_ {A = Res A} (err a b) (err n p) → _≡_ {A = Res B} (err a b) (err n p)
   same-fault a b n p e = let q : a ≡ n = cc in let r : b ≡ p = cc in cc
 
+  -- an accepted image has its pages marked
+  pub accepted-mendable : (i : Image) → check g (viewsOf g image) ≡ ok i
+      → (s : Scan) × (scan g (viewsOf g image) ≡ ok s) × (allMendable (g .pages) (s .raw) (used (s .image)) 0 (8 * length (s .raw)) ≡ true)
+  unfolding check judgeBits
+  accepted-mendable i e = on-then _ _ _ e λ s q e. on-refuse _ _ _ _ _ e λ a _. (s, q, agree-mendable s q (eqb-true _ _ a))
+
   -- where the check refuses, a mend is done or refuses alike
   pub data Alike (n p : ℕ) : Type 0 where
     mended : (x : Effect ℕ) → mend g image ≡ ok x → Alike n p
@@ -96,14 +103,12 @@ module _ (P N : ℕ) (image table : List ℕ) where
   effect-ok g (err n p) x e = clash e
 
   -- a refusal leaves the image
-  effect-refused : {A : Type 0} (call : Geometry → Res (Effect A)) (sh : Shape) → (IsDone (inGeometry sh (err 1 0, image, table) (λ g. effect P N image table g (call g)) .0) → ⊥)
-      → inGeometry sh (err 1 0, image, table) (λ g. effect P N image table g (call g)) .1 ≡ image
-  effect-refused call Invalid h = refl
-  effect-refused {A} call (Fits g) h = go (call g) h
+  halted-refused : {A : Type 0} (call : Geometry → Res (Effect A)) → (IsDone (effective P N image table call .0) → ⊥) → effective P N image table call .1 ≡ image
+  halted-refused {A} call h = go (effective P N image table call .0) refl
     where
-      go : (r : Res (Effect A)) → (IsDone (effect P N image table g r .0) → ⊥) → effect P N image table g r .1 ≡ image
-      go (ok s) h = absurd (h (s .answer, refl))
-      go (err m q) h = refl
+      go : (r : Res A) → effective P N image table call .0 ≡ r → effective P N image table call .1 ≡ image
+      go (ok x) e = absurd (h (x, e))
+      go (err n p) e = effective-refused P N image table (shape P N image table) call n p e
 
   told-none : (r : Res WriteCount) → (IsDone r → ⊥) → countOf r ≡ noWrites
   told-none (ok c) h = absurd (h (c, refl))
@@ -135,7 +140,7 @@ module _ (P N : ℕ) (image table : List ℕ) where
       done = λ g f h.
           let q : carefulPutCall P N image table k path bytes ≡ effect P N image table g (carefulPut g k path bytes image) = rw f refl in
           rw (ap countOf (h .1), q) (careful-put g k path bytes image _ (fit-of P N image table g f) imageBytes p b (effect-ok g (carefulPut g k path bytes image) (h .0) (rw q at (h .1))));
-      refused = λ h. (effect-refused (λ g. carefulPut g k path bytes image) (shape P N image table) h, told-none _ h);
+      refused = λ h. (halted-refused (λ g. carefulPut g k path bytes image) h, told-none _ h);
     }
 
     pub careful-delete-stated : (k : ℕ) (path : List ℕ)
@@ -145,7 +150,7 @@ module _ (P N : ℕ) (image table : List ℕ) where
       done = λ g f h.
           let q : carefulDeleteCall P N image table k path ≡ effect P N image table g (carefulDelete g k path image) = rw f refl in
           rw (ap countOf (h .1), q) (careful-delete g k path image _ (fit-of P N image table g f) imageBytes (effect-ok g (carefulDelete g k path image) (h .0) (rw q at (h .1))));
-      refused = λ h. (effect-refused (λ g. carefulDelete g k path image) (shape P N image table) h, told-none _ h);
+      refused = λ h. (halted-refused (λ g. carefulDelete g k path image) h, told-none _ h);
     }
 
     pub mend-stated : Mends P N image table (IsDone (mendCall P N image table .0)) (λ r. mendCall P N image table .0 ≡ r) (clearedOf (mendCall P N image table .0)) (mendCall P N image table .1)
@@ -166,7 +171,7 @@ module _ (P N : ℕ) (image table : List ℕ) where
           } in
           let r = mend-of g image (s .image .tree) (mapPages (s .image .map)) l in
           (r .mended .answer, ap (λ (w : Res ℕ × List ℕ × List ℕ). w .0) q ∙ ap (λ (x : Res (Effect ℕ)). effect P N image table g x .0) (r .is));
-      refused = λ h. (effect-refused (λ g. mend g image) (shape P N image table) h, cleared-none _ h);
+      refused = λ h. (halted-refused (λ g. mend g image) h, cleared-none _ h);
       fault = λ g f n p c h.
           let q : mendCall P N image table ≡ effect P N image table g (mend g image) = rw f refl in
           elim (mend-alike g image (fit-of P N image table g f) imageBytes n p c) [

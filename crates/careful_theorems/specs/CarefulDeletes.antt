@@ -16,7 +16,8 @@ use Rattle.rules.specs.Paths.{Found, nothing, aFile, fileKey}
 use Rattle.rules.specs.Delete.{remove, removeEdit, deleteEdit}
 use Rattle.rules.specs.EditLaws.{remove-own}
 use Rattle.rules.specs.Candidate.{atPath, filePath}
-use Rattle.rules.specs.Careful.{Effect, haltedAt, carefulWrites, carefulDelete}
+use Rattle.rules.specs.Calls.{Effect}
+use Rattle.rules.specs.Careful.{haltedAt, carefulWrites, carefulDelete}
 use Rattle.rules.specs.CarefulPromises.{CarefullyDeleted}
 use Rattle.editing_theorems.specs.Contexts.{filledAll}
 use Rattle.editing_theorems.specs.EditedImage.{place-shaped, tree-edited}

@@ -20,7 +20,8 @@ use Rattle.rules.specs.Tree.{Label, keyOf, Items, end, page, file, dir, directo
 use Rattle.rules.specs.WellFormed.{IsDirectory}
 use Rattle.rules.specs.Writes.{Edit}
 use Rattle.rules.specs.Put.{insert, replace, itemsAfter}
-use Rattle.rules.specs.Careful.{Effect, haltedAt, carefulWrites, carefulPut}
+use Rattle.rules.specs.Calls.{Effect}
+use Rattle.rules.specs.Careful.{haltedAt, carefulWrites, carefulPut}
 use Rattle.rules.specs.CarefulPromises.{CarefullyPut}
 use Rattle.editing_theorems.specs.Contexts.{filledAll}
 use Rattle.editing_theorems.specs.PutLaws.{Asked, kept, kept-old, label, extra, wanted, chain, after, theEdit, edit-is, located, here-shaped, taken, own-then, length-chain, pages-then, result, one-edit}

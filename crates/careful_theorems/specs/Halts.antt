@@ -23,13 +23,13 @@ use Rattle.rules.specs.Writes.{editWrites}
 use Rattle.rules.specs.Candidate.{lookUp, rootLabel, atPath}
 use Rattle.rules.specs.Demand2.{reach}
 use Rattle.rules.specs.Careful.{haltedAt, carefulWrites}
-use Rattle.rules.specs.CarefulPromises.{pageWritten, Unowned, StoppedAt}
+use Rattle.rules.specs.CarefulPromises.{HasTree, pageWritten, Unowned, StoppedAt}
 use Rattle.reading_theorems.specs.CheckComplete.{scan-complete}
 use Rattle.reading_theorems.specs.Directory.{own-links}
 use Rattle.editing_theorems.specs.AfterWrites.{WritesFit, rest-of-page}
 use Rattle.editing_theorems.specs.MadeWrites.{made-fits, made-rest}
 use Rattle.careful_theorems.specs.MapStops.{MarkedImage, fits-take}
-use Rattle.careful_theorems.specs.MarkLaws.{Left, accepted, stray, check-left}
+use Rattle.careful_theorems.specs.MarkLaws.{Left, accepted, marked-free, check-left}
 use Rattle.careful_theorems.specs.MendLaws.{mend-of}
 use Rattle.careful_theorems.specs.VisibleWrite.{Turned, none, some}
 use Rattle.careful_theorems.specs.Stops.{take-whole, CarefulEdit, theEdit, after, marks, t′, control, old, new, turn, none-stands}
@@ -42,6 +42,11 @@ err-number {A} {n} {p} {m} {q} e = (cc, cc)
 pub same-paths : (i j : Image) → i .tree ≡ j .tree → (ks : List ℕ) → atPath ks i ≡ atPath ks j
 unfolding atPath
 same-paths i j e ks = ap (λ (t : Items). lookUp ks (aDirectory rootLabel t)) e
+
+left-tree : (g : Geometry) (image : List ℕ) (t : Items) (ps : List ℕ) → Left g image t ps → HasTree g image t
+left-tree g image t ps l =
+    let i : Image = record { tree = t; map = l .map } in
+    (record { image = i; raw = l .bits }, scan-complete g (l .stands .fits .valid) (viewsOf g image) (l .bits) i (l .stands .holds), refl)
 
 module _ (g : Geometry) (image : List ℕ) (before after : Image) (well : WellFormed g image before) (maps : mapPages (after .map) ≡ mapPages (before .map)) (target : List ℕ) (ws : List Write) (w : Write)
     (inTarget : 1 ≤ count (pageWritten w) target) (st : Stop g image ws w (before .tree) (after .tree) (mapPages (before .map))) (done : WellFormed g (afterWrites g ws image) after) (k : ℕ) where
@@ -67,6 +72,8 @@ module _ (g : Geometry) (image : List ℕ) (before after : Image) (well : WellFo
         back = st .back;
         one = st .made-is;
         of-target = inTarget;
+        old-until = λ j h. left-tree g _ _ _ (st .before j h);
+        new-from = λ j h. left-tree g _ _ _ (st .from j h);
         left = record { image = i; raw = l .bits };
         scanned = scan-complete g (l .stands .fits .valid) (viewsOf g now) (l .bits) i (l .stands .holds);
         old = o;
@@ -74,7 +81,7 @@ module _ (g : Geometry) (image : List ℕ) (before after : Image) (well : WellFo
         same-map = l .mapPages-same;
         faults = λ a p e. elim (check-left g now t (mapPages (before .map)) l) [
           | accepted q ↦ clash (sym e ∙ q)
-          | stray d q x y z ↦
+          | marked-free d q x y z ↦
               let f = err-number (sym e ∙ q) in
               (f .0, subst (Unowned g (record { image = i; raw = l .bits })) (sym (f .1)) (record { page = x; marked = y; no-owner = z }))
         ];

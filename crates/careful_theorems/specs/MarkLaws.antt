@@ -21,7 +21,7 @@ use Rattle.rules.specs.PageSetLaws.{mem-true, mem-false}
 use Rattle.rules.specs.Chain.{viewsOf}
 use Rattle.rules.specs.Tree.{Items, allPages, Map, inRoot, inFile, mapPages, Image, used}
 use Rattle.rules.specs.Bitmap.{bitAt, lowestDifference, bitmapFrom, mapSize, bitmapOf, remap}
-use Rattle.rules.specs.BitmapLaws.{length-bitmap, bytes-bitmap, bits-bitmap, IsLowest, lowest, pages-remap}
+use Rattle.rules.specs.BitmapLaws.{bit-most, length-bitmap, bytes-bitmap, bits-bitmap, IsLowest, lowest, pages-remap}
 use Rattle.rules.specs.Check.{judgeBits, scan, check}
 use Rattle.rules.specs.WellFormed.{MapHolds, WellFormedWith, WellFormed}
 use Rattle.rules.specs.Writes.{mapWrites}
@@ -75,10 +75,6 @@ unfolding allMendable
 all-mendable N raw us k zero h = refl
 all-mendable N raw us k (suc n) h = rw (h k (omega arith) (omega arith)) (all-mendable N raw us (k + 1) n (λ x p q. h x (omega arith) (omega arith)))
 
-pub bit-most : (bits : List ℕ) (x : ℕ) → bitAt bits x ≤ 1
-unfolding bitAt
-bit-most bits x = omega arith
-
 pub covers-mendable : (N : ℕ) (bits us : List ℕ) → Covers N bits us → (x : ℕ) → x < 8 * length bits → mendable N bits us x ≡ true
 covers-mendable N bits us c x l = elim (decLt x N) [
   | yes q ↦ rw (lt-ltb x N q, choose-true) (elim (decLt 0 (count x us)) [
@@ -123,7 +119,7 @@ mend-left g image t ps l =
 -- ---- the check of it: accepted, or 13 with a page that is marked and that no chain owns
 pub data Checked (g : Geometry) (image bits us : List ℕ) (i : Image) : Type 0 where
   accepted : check g (viewsOf g image) ≡ ok i → Checked g image bits us i
-  stray : (p : ℕ) → check g (viewsOf g image) ≡ err 13 p → p < g .pages → bitAt bits p ≡ 1 → count p us ≡ 0 → Checked g image bits us i
+  marked-free : (p : ℕ) → check g (viewsOf g image) ≡ err 13 p → p < g .pages → bitAt bits p ≡ 1 → count p us ≡ 0 → Checked g image bits us i
 
 module _ (g : Geometry) (image : List ℕ) (t : Items) (ps : List ℕ) (l : Left g image t ps) where
   abbrev i : Image
@@ -155,4 +151,4 @@ module _ (g : Geometry) (image : List ℕ) (t : Items) (ps : List ℕ) (l : Left
           ] in
           let y : bitAt bits d ≡ 0 → ⊥ = λ y. low .differs (omega arith) (y ∙ sym (ap bit (mem-false d (used i) z))) in
           let m : bitAt bits d ≡ 1 = elim (decLt 0 (bitAt bits d)) [ yes q ↦ omega (arith, bit-most bits d) | no q ↦ absurd (y (omega arith)) ] in
-          stray d (simp (scanned, then-ok, e, refuse-false, then-err)) (elim (decLt d (g .pages)) [ yes q ↦ q | no q ↦ absurd (y (l .covers .above d (omega arith) n)) ]) m z
+          marked-free d (simp (scanned, then-ok, e, refuse-false, then-err)) (elim (decLt d (g .pages)) [ yes q ↦ q | no q ↦ absurd (y (l .covers .above d (omega arith) n)) ]) m z

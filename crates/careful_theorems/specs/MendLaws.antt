@@ -22,7 +22,7 @@ use Rattle.rules.specs.PageSetLaws.{mem-true, mem-false, range-of, free-length}
 use Rattle.rules.specs.Chain.{viewsOf}
 use Rattle.rules.specs.Tree.{Items, mapPages, Image, used}
 use Rattle.rules.specs.Bitmap.{bitAt, mapSize, bitmapOf}
-use Rattle.rules.specs.BitmapLaws.{length-bitmap, bytes-bitmap}
+use Rattle.rules.specs.BitmapLaws.{bit-most, length-bitmap, bytes-bitmap}
 use Rattle.rules.specs.Check.{Scan, scan, check}
 use Rattle.rules.specs.Writes.{mapWrites}
 use Rattle.reading_theorems.specs.Accepted.{scanned-iff}
@@ -30,9 +30,10 @@ use Rattle.reading_theorems.specs.CheckComplete.{scan-complete}
 use Rattle.editing_theorems.specs.AfterWrites.{length-after-writes}
 use Rattle.editing_theorems.specs.MadeWrites.{made-rest}
 use Rattle.editing_theorems.specs.NewChains.{range-more}
-use Rattle.rules.specs.Careful.{Effect, mendable, allMendable, unowned, mendWrites, mend}
+use Rattle.rules.specs.Calls.{Effect}
+use Rattle.rules.specs.Careful.{mendable, allMendable, unowned, mendWrites, mend}
 use Rattle.careful_theorems.specs.MapStops.{map-fit}
-use Rattle.careful_theorems.specs.MarkLaws.{map-room, Left, bit-most, mend-left}
+use Rattle.careful_theorems.specs.MarkLaws.{map-room, Left, mend-left}
 use Rattle.rules.specs.CarefulPromises.{Covers, bitsSet, MendDone}
 
 -- ---- the number
@@ -60,10 +61,10 @@ free-used us (suc n) =
 used-all : (us : List ℕ) (N n : ℕ) → N ≤ n → Within N us → usedFrom us 0 n ≡ length us
 used-all us N n h w = omega (arith, free-used us n, free-length us n (λ x. omega (arith, w x, range-more x N n h)))
 
-strays-sum : (raw us : List ℕ) (k n : ℕ) → ((x : ℕ) → k ≤ x → x < k + n → bit (mem x us) ≤ bitAt raw x) → unowned raw us k n + usedFrom us k n ≡ bitsSet raw k n
+unowned-sum : (raw us : List ℕ) (k n : ℕ) → ((x : ℕ) → k ≤ x → x < k + n → bit (mem x us) ≤ bitAt raw x) → unowned raw us k n + usedFrom us k n ≡ bitsSet raw k n
 unfolding unowned
-strays-sum raw us k zero h = refl
-strays-sum raw us k (suc n) h = omega (arith, h k (omega arith) (omega arith), strays-sum raw us (k + 1) n (λ x p q. h x (omega arith) (omega arith)))
+unowned-sum raw us k zero h = refl
+unowned-sum raw us k (suc n) h = omega (arith, h k (omega arith) (omega arith), unowned-sum raw us (k + 1) n (λ x p q. h x (omega arith) (omega arith)))
 
 covered-bit : (N : ℕ) (raw us : List ℕ) → Covers N raw us → (x : ℕ) → bit (mem x us) ≤ bitAt raw x
 covered-bit N raw us c x = elim (decLt 0 (count x us)) [
@@ -71,8 +72,8 @@ covered-bit N raw us c x = elim (decLt 0 (count x us)) [
   | no q ↦ rw (mem-false x us (omega arith)) (omega arith)
 ]
 
-pub strays-are : (N n : ℕ) (raw us : List ℕ) → Covers N raw us → N ≤ n → Within N us → unowned raw us 0 n + length us ≡ bitsSet raw 0 n
-strays-are N n raw us c h w = omega (arith, strays-sum raw us 0 n (λ x p q. covered-bit N raw us c x), used-all us N n h w)
+pub unowned-are : (N n : ℕ) (raw us : List ℕ) → Covers N raw us → N ≤ n → Within N us → unowned raw us 0 n + length us ≡ bitsSet raw 0 n
+unowned-are N n raw us c h w = omega (arith, unowned-sum raw us 0 n (λ x p q. covered-bit N raw us c x), used-all us N n h w)
 
 -- ---- what a mend leaves
 pub record MendLeft (g : Geometry) (image : List ℕ) (t : Items) : Type 0 where
@@ -107,7 +108,7 @@ mend-of g image t ps l =
         sized = length-after-writes g (mapWrites g new t m) f image (s .fits);
         written = refl;
         rest = made-rest g (mapWrites g new t m) f image (s .fits) (s .areBytes);
-        number = strays-are (g .pages) (8 * length bits) bits (used i) (l .covers) (omega (arith, map-room g bits m (s .holds .map), s .holds .room)) (s .holds .apart);
+        number = unowned-are (g .pages) (8 * length bits) bits (used i) (l .covers) (omega (arith, map-room g bits m (s .holds .map), s .holds .room)) (s .holds .apart);
       };
       tree-is = refl;
     }

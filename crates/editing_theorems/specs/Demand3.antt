@@ -24,7 +24,7 @@ use Rattle.rules.specs.RefusalLaws.{Refuses}
 use Rattle.rules.specs.CallLaws.{put-target-faults}
 use Rattle.rules.specs.FuelLaws.{check-faults}
 use Rattle.rules.specs.Candidate.{Accepted, OnlyRoom, NotReadOnly, Exists, atPath, targetPath, filePath, PutFile, Candidate, chainPages, pagesInUse, CandidateFor, Demand3}
-use Rattle.rules.specs.Calls.{inGeometry, shape, done, putCall}
+use Rattle.rules.specs.Calls.{inGeometry, shape, plainly, effect, putCall}
 use Rattle.reading_theorems.specs.Accepted.{accepted-iff, accepted}
 use Rattle.geometry.specs.ShapeLaws.{fit-of}
 use Rattle.editing_theorems.specs.CallEdits.{done-ok}
@@ -135,7 +135,7 @@ module _ (P N : ℕ) (image table path bytes : List ℕ) (o : OnlyRoom P N image
       (no-entry-more g path bytes image after p ks (λ f. n (f ∙ ap filePath q)) (subst (λ (j : Image). Exists (atPath ks j)) (sym t) x))
 
   -- ---- the call: answer, image and owner table
-  call-is : putCall P N image table path bytes ≡ done P N image table g (put g path bytes image)
+  call-is : putCall P N image table path bytes ≡ effect P N image table g (plainly (put g path bytes image))
   unfolding putCall
   call-is = rw (o .right) refl
 
@@ -180,7 +180,7 @@ module _ (P N : ℕ) (image table path bytes : List ℕ) where
   not-17 low high most r h k e = absurd (omega (arith, h .number 17 0 e .1))
 
   put-met : (g : Geometry) → shape P N image table ≡ Fits g → (r : Res (List ℕ)) → put g path bytes image ≡ r
-      → (done P N image table g r .0 ≡ ok tt) ⊎ (done P N image table g r .0 ≡ err 17 0) → OnlyRoom P N image table (pathOf path) NotReadOnly
+      → (effect P N image table g (plainly r) .0 ≡ ok tt) ⊎ (effect P N image table g (plainly r) .0 ≡ err 17 0) → OnlyRoom P N image table (pathOf path) NotReadOnly
   unfolding put
   put-met g s (ok after) e h = on-then _ _ _ e λ i c e. on-then _ _ _ e λ x t e. on-put-target path (i .tree) x t λ t u w. room-met g s i c x t u w
   put-met g s (err n p) e (inl h) = clash h
@@ -191,8 +191,8 @@ module _ (P N : ℕ) (image table path bytes : List ℕ) where
       on-put-target path (i .tree) x t λ t u w. room-met g s i c x t u w
 
   call-met : (s : Shape) → shape P N image table ≡ s
-      → (inGeometry s (err 1 0, image, table) (λ g. done P N image table g (put g path bytes image)) .0 ≡ ok tt)
-      ⊎ (inGeometry s (err 1 0, image, table) (λ g. done P N image table g (put g path bytes image)) .0 ≡ err 17 0) → OnlyRoom P N image table (pathOf path) NotReadOnly
+      → (inGeometry s (err 1 0, image, table) (λ g. effect P N image table g (plainly (put g path bytes image))) .0 ≡ ok tt)
+      ⊎ (inGeometry s (err 1 0, image, table) (λ g. effect P N image table g (plainly (put g path bytes image))) .0 ≡ err 17 0) → OnlyRoom P N image table (pathOf path) NotReadOnly
   call-met Invalid e (inl h) = clash h
   call-met Invalid e (inr h) = absurd (let z : _≡_ {A = ℕ} 1 17 = cc in omega arith)
   call-met (Fits g) e h = put-met g e (put g path bytes image) refl h

@@ -10,7 +10,7 @@ use Rattle.geometry.specs.declared.Shape.the-variants.{Fits, Invalid}
 use Rattle.geometry.specs.Number.{Bytes}
 use Rattle.rules.specs.Result.{Res, ok, err}
 use Rattle.rules.specs.Format.{format}
-use Rattle.rules.specs.Calls.{inGeometry, shape, done, formatCall, putCall, deleteCall}
+use Rattle.rules.specs.Calls.{inGeometry, shape, plainly, effect, formatCall, putCall, deleteCall}
 use Rattle.rules.specs.CallLaws.{format-refused, put-refused, delete-refused}
 use Rattle.rules.specs.Promises.{Leaves, Formats, Deletes, Puts}
 use Rattle.editing_theorems.specs.FormatLaws.{format-fault}
@@ -29,7 +29,7 @@ refusal-of (err n p) h = record { number = n; page = p; is = refl }
 
 module _ (P N : ℕ) (image table : List ℕ) where
   -- ---- format
-  fault-4 : (g : Geometry) (local : Bool) (r : Res (List ℕ)) → format g local image ≡ r → (done P N image table g r .0 ≡ ok tt → ⊥) → done P N image table g r .0 ≡ err 4 0
+  fault-4 : (g : Geometry) (local : Bool) (r : Res (List ℕ)) → format g local image ≡ r → (effect P N image table g (plainly r) .0 ≡ ok tt → ⊥) → effect P N image table g (plainly r) .0 ≡ err 4 0
   fault-4 g local (ok after) q h = absurd (h refl)
   fault-4 g local (err n p) q h = let f = format-fault g local image n p q in ap₂ (λ (m o : ℕ). err m o) (f .0) (f .1)
 
@@ -38,7 +38,7 @@ module _ (P N : ℕ) (image table : List ℕ) where
   only-1-or-4 local h = go (shape P N image table) h
     where
       call : Shape → Res (Unit {0})
-      call s = inGeometry s (err 1 0, image, table) (λ g. done P N image table g (format g local image)) .0
+      call s = inGeometry s (err 1 0, image, table) (λ g. effect P N image table g (plainly (format g local image))) .0
 
       go : (s : Shape) → (call s ≡ ok tt → ⊥) → (call s ≡ err 1 0) ⊎ (call s ≡ err 4 0)
       go Invalid h = inl refl

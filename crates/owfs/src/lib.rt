@@ -2,7 +2,9 @@
 use answers::OwfsAnswer;
 use answers::OwfsEntry;
 use answers::OwfsLength;
+use answers::OwfsMended;
 use answers::OwfsTotals;
+use answers::OwfsWrites;
 use geometry::MOST_OWNERS;
 ghost use mathlib.Core.Path.{_≡_};
 ghost use Prim.Native.Nat.{_/_, min};
@@ -10,8 +12,9 @@ ghost use Rattle.crc16.specs.Crc16.{crc16};
 ghost use Rattle.rules.specs.Listing.{lineAt, linesOf};
 ghost use Rattle.rules.specs.Calls.{readBytes, lengthOf, filled};
 ghost use Rattle.rules.specs.Promises.{Accepts, TellsTree, Formats, Puts, Deletes};
+ghost use Rattle.rules.specs.CarefulPromises.{CarefullyPuts, CarefullyDeletes, Mends};
 ghost use Rattle.owners.specs.TableBytes.{numbersOf};
-ghost use Rattle.answers.specs.ExportedAnswers.{entryFor, lengthFor, answerFor, asksLocal, checkAnswer, listAnswer, readAnswer, formatAnswer, putAnswer, deleteAnswer};
+ghost use Rattle.answers.specs.ExportedAnswers.{entryFor, lengthFor, answerFor, asksLocal, mendedFor, countTold, checkAnswer, listAnswer, readAnswer, formatAnswer, putAnswer, deleteAnswer, carefulPutAnswer, carefulDeleteAnswer, mendAnswer};
 
 // The CRC-16 register after the bytes of a slice, not inverted.
 #[no_mangle]
@@ -126,4 +129,66 @@ pub extern "C" fn owfs_delete(
     let n = count(owners.len());
     let mut table = [0u16; MOST_OWNERS];
     calls::delete_over(size, pages, image, path, &mut table[..n], owners)
+}
+
+// Puts bytes at a path in an order of page writes that may stop after any of them, and makes at most so many. Fills the owner table.
+#[no_mangle]
+pub extern "C" fn owfs_careful_put(
+    size: u32,
+    pages: u32,
+    image: &mut [u8],
+    path: &[u8],
+    bytes: &[u8],
+    owners: &mut [u8],
+    allowed: u32,
+) -> OwfsWrites
+    ensures { λ r. ⌜ (r, now (image .exit), now (owners .exit)) ≡ carefulPutAnswer size pages (now (image .entry)) (now (owners .entry)) (now (path .entry)) (now (bytes .entry)) allowed ⌝ }
+    ensures { λ r. ⌜ CarefullyPuts size pages (now (image .entry)) (numbersOf (now (owners .entry))) allowed (now (path .entry)) (now (bytes .entry)) (r .number ≡ 0) (countTold r) (now (image .exit)) ⌝ }
+{
+    let n = count(owners.len());
+    let mut table = [0u16; MOST_OWNERS];
+    calls::careful_put_over(
+        size,
+        pages,
+        image,
+        path,
+        bytes,
+        &mut table[..n],
+        owners,
+        allowed,
+    )
+}
+
+// Deletes the file at a path in an order of page writes that may stop after any of them, and makes at most so many. Fills the owner table.
+#[no_mangle]
+pub extern "C" fn owfs_careful_delete(
+    size: u32,
+    pages: u32,
+    image: &mut [u8],
+    path: &[u8],
+    owners: &mut [u8],
+    allowed: u32,
+) -> OwfsWrites
+    ensures { λ r. ⌜ (r, now (image .exit), now (owners .exit)) ≡ carefulDeleteAnswer size pages (now (image .entry)) (now (owners .entry)) (now (path .entry)) allowed ⌝ }
+    ensures { λ r. ⌜ CarefullyDeletes size pages (now (image .entry)) (numbersOf (now (owners .entry))) allowed (now (path .entry)) (r .number ≡ 0) (countTold r) (now (image .exit)) ⌝ }
+{
+    let n = count(owners.len());
+    let mut table = [0u16; MOST_OWNERS];
+    calls::careful_delete_over(size, pages, image, path, &mut table[..n], owners, allowed)
+}
+
+// Clears the marks of pages that no chain owns, which a stopped careful edit leaves. Fills the owner table.
+#[no_mangle]
+pub extern "C" fn owfs_mend(
+    size: u32,
+    pages: u32,
+    image: &mut [u8],
+    owners: &mut [u8],
+) -> OwfsMended
+    ensures { λ r. ⌜ (r, now (image .exit), now (owners .exit)) ≡ mendAnswer size pages (now (image .entry)) (now (owners .entry)) ⌝ }
+    ensures { λ r. ⌜ Mends size pages (now (image .entry)) (numbersOf (now (owners .entry))) (r .number ≡ 0) (λ x. r ≡ mendedFor x) (r .cleared) (now (image .exit)) ⌝ }
+{
+    let n = count(owners.len());
+    let mut table = [0u16; MOST_OWNERS];
+    calls::mend_over(size, pages, image, &mut table[..n], owners)
 }

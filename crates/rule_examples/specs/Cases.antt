@@ -57,7 +57,7 @@ shown at n (ok image) = take n (drop at image)
 shown at n (err number p) = number ∷ []
 
 -- the number of an answer
-abbrev numberOf : {A : Type 0} → Res A → ℕ
+abbrev pub numberOf : {A : Type 0} → Res A → ℕ
 numberOf (ok a) = 0
 numberOf (err n p) = n
 
@@ -74,7 +74,7 @@ valueOf (ok n) = n
 valueOf (err n p) = 100 + n
 
 -- a file of so many bytes after format
-fileOf : ℕ → Res (List ℕ)
+unfoldable pub fileOf : ℕ → Res (List ℕ)
 fileOf n = andThen formatted (put g DEMO (replicate n 0x41))
 
 threeFiles : Res (List ℕ)

@@ -28,6 +28,10 @@ bit-le : (b : Bool) → bit b ≤ 1
 bit-le true = omega arith
 bit-le false = omega arith
 
+pub bit-most : (bits : List ℕ) (x : ℕ) → bitAt bits x ≤ 1
+unfolding bitAt
+bit-most bits x = omega arith
+
 pub length-bitmap : (used : List ℕ) (k n : ℕ) → length (bitmapFrom used k n) ≡ n
 unfolding bitmapFrom
 length-bitmap used k zero = refl

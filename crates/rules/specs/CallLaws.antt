@@ -18,35 +18,38 @@ use Rattle.rules.specs.Owners.{tableAfter}
 use Rattle.rules.specs.Format.{format}
 use Rattle.rules.specs.Put.{putTarget, putEdit, put}
 use Rattle.rules.specs.Delete.{deleteTarget, delete}
-use Rattle.rules.specs.Calls.{inGeometry, fileAt, readBytes, lengthOf, filled, shape, asked, done, checkCall, listCall, readCall, formatCall, putCall, deleteCall}
+use Rattle.rules.specs.Calls.{inGeometry, fileAt, readBytes, lengthOf, filled, shape, asked, Effect, plainly, effect, changed, checkCall, listCall, readCall, formatCall, putCall, deleteCall}
 
 filled-refused : (out : List ℕ) (r : Res (List ℕ)) (n p : ℕ) → lengthOf r ≡ err n p → filled out r ≡ out
 filled-refused out (ok bytes) n p e = clash (sym e)
 filled-refused out (err m q) n p e = refl
 
 module _ (P N : ℕ) (image table : List ℕ) where
-  done-refused : (g : Geometry) (r : Res (List ℕ)) (n p : ℕ) → done P N image table g r .0 ≡ err n p → done P N image table g r .1 ≡ image
-  done-refused g (ok after) n p e = clash (sym e)
-  done-refused g (err m q) n p e = refl
+  effect-refused : {A : Type 0} (g : Geometry) (r : Res (Effect A)) (n p : ℕ) → effect P N image table g r .0 ≡ err n p → effect P N image table g r .1 ≡ image
+  effect-refused g (ok x) n p e = clash (sym e)
+  effect-refused g (err m q) n p e = refl
 
-  -- an edit in any geometry
-  changed-refused : (s : Shape) (edit : Geometry → Res (List ℕ)) (n p : ℕ)
-      → inGeometry s (err 1 0, image, table) (λ g. done P N image table g (edit g)) .0 ≡ err n p
-      → inGeometry s (err 1 0, image, table) (λ g. done P N image table g (edit g)) .1 ≡ image
-  changed-refused Invalid edit n p e = refl
-  changed-refused (Fits g) edit n p e = done-refused g (edit g) n p e
+  -- a call that may change the image, in any geometry
+  pub effective-refused : {A : Type 0} (s : Shape) (call : Geometry → Res (Effect A)) (n p : ℕ)
+      → inGeometry s (err 1 0, image, table) (λ g. effect P N image table g (call g)) .0 ≡ err n p
+      → inGeometry s (err 1 0, image, table) (λ g. effect P N image table g (call g)) .1 ≡ image
+  effective-refused Invalid call n p e = refl
+  effective-refused (Fits g) call n p e = effect-refused g (call g) n p e
+
+  changed-refused : (edit : Geometry → Res (List ℕ)) (n p : ℕ) → changed P N image table edit .0 ≡ err n p → changed P N image table edit .1 ≡ image
+  changed-refused edit n p e = effective-refused (shape P N image table) (λ g. plainly (edit g)) n p e
 
   pub format-refused : (local : Bool) (n p : ℕ) → formatCall P N image table local .0 ≡ err n p → formatCall P N image table local .1 ≡ image
   unfolding formatCall
-  format-refused local n p e = changed-refused (shape P N image table) (λ g. format g local image) n p e
+  format-refused local n p e = changed-refused (λ g. format g local image) n p e
 
   pub put-refused : (path bytes : List ℕ) (n p : ℕ) → putCall P N image table path bytes .0 ≡ err n p → putCall P N image table path bytes .1 ≡ image
   unfolding putCall
-  put-refused path bytes n p e = changed-refused (shape P N image table) (λ g. put g path bytes image) n p e
+  put-refused path bytes n p e = changed-refused (λ g. put g path bytes image) n p e
 
   pub delete-refused : (path : List ℕ) (n p : ℕ) → deleteCall P N image table path .0 ≡ err n p → deleteCall P N image table path .1 ≡ image
   unfolding deleteCall
-  delete-refused path n p e = changed-refused (shape P N image table) (λ g. delete g path image) n p e
+  delete-refused path n p e = changed-refused (λ g. delete g path image) n p e
 
   pub read-refused : (path out : List ℕ) (n p : ℕ) → readCall P N image table path out .0 ≡ err n p → readCall P N image table path out .1 ≡ out
   unfolding readCall
@@ -99,7 +102,7 @@ put-target-faults path t =
     refuses-then _ _ (refuses-within 14 16 1 (omega arith) (omega arith) (omega arith) (target-faults path t)) λ x _.
     refuses-then _ _ (refuses-within 14 16 1 (omega arith) (omega arith) (omega arith) (writable-faults _)) λ _ _. refuses-ok
 
-delete-target-faults : (path : List ℕ) (t : Items) → Refuses 14 16 1 (deleteTarget path t)
+pub delete-target-faults : (path : List ℕ) (t : Items) → Refuses 14 16 1 (deleteTarget path t)
 unfolding deleteTarget
 delete-target-faults path t =
     refuses-then _ _ (refuses-within 14 16 1 (omega arith) (omega arith) (omega arith) (target-faults path t)) λ x _.

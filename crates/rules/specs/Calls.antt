@@ -52,6 +52,16 @@ abbrev pub filled : List ℕ → Res (List ℕ) → List ℕ
 filled out (ok bytes) = bytes ++ drop (length bytes) out
 filled out (err n p) = out
 
+-- what a call that is done answers, and the image that it leaves
+pub record Effect (A : Type 0) : Type 0 where
+  pub answer : A
+  pub image : List ℕ
+
+-- an edit that answers no more than that it is done
+abbrev pub plainly : Res (List ℕ) → Res (Effect (Unit {0}))
+plainly (ok after) = ok (record { answer = tt; image = after })
+plainly (err n p) = err n p
+
 module _ (P N : ℕ) (image table : List ℕ) where
   abbrev pub shape : Shape
   shape = geometryOf P N (length image) (length table)
@@ -76,13 +86,16 @@ module _ (P N : ℕ) (image table : List ℕ) where
   unfoldable pub readCall : List ℕ → List ℕ → Res ℕ × List ℕ × List ℕ
   readCall path out = let r = asked (readBytes path out) in (lengthOf (r .0), filled out (r .0), r .1)
 
-  -- an edit: the answer, the image and the owner table of the image as it then stands
-  abbrev pub done : Geometry → Res (List ℕ) → Res (Unit {0}) × List ℕ × List ℕ
-  done g (ok after) = (ok tt, after, tableFor g after)
-  done g (err n p) = (err n p, image, tableFor g image)
+  -- a call that may change the image: the answer, the image and the owner table of the image as it then stands
+  abbrev pub effect : {A : Type 0} → Geometry → Res (Effect A) → Res A × List ℕ × List ℕ
+  effect g (ok x) = (ok (x .answer), x .image, tableFor g (x .image))
+  effect g (err n p) = (err n p, image, tableFor g image)
+
+  abbrev pub effective : {A : Type 0} → (Geometry → Res (Effect A)) → Res A × List ℕ × List ℕ
+  effective call = inGeometry shape (err 1 0, image, table) (λ g. effect g (call g))
 
   abbrev pub changed : (Geometry → Res (List ℕ)) → Res (Unit {0}) × List ℕ × List ℕ
-  changed edit = inGeometry shape (err 1 0, image, table) (λ g. done g (edit g))
+  changed edit = effective (λ g. plainly (edit g))
 
   unfoldable pub formatCall : Bool → Res (Unit {0}) × List ℕ × List ℕ
   formatCall local = changed (λ g. format g local image)

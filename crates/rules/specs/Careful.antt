@@ -17,12 +17,7 @@ use Rattle.rules.specs.Check.{Scan, scan, check}
 use Rattle.rules.specs.Writes.{mapWrites, Edit, edited, editWrites}
 use Rattle.rules.specs.Put.{putTarget, putEdit}
 use Rattle.rules.specs.Delete.{deleteTarget, deleteEdit}
-use Rattle.rules.specs.Calls.{inGeometry, shape, tableFor}
-
--- what a call that is done answers, and the image that it leaves
-pub record Effect (A : Type 0) : Type 0 where
-  pub answer : A
-  pub image : List ℕ
+use Rattle.rules.specs.Calls.{Effect, effective}
 
 -- ordered page writes of which at most k may be made: the first k of those that change a packet; how many they are, and whether any are left
 unfoldable pub haltedAt : Geometry → ℕ → List Write → List ℕ → Effect WriteCount
@@ -81,22 +76,14 @@ mend g image = do
 
 -- ---- the calls: for every input the answer and all lent memory afterwards
 module _ (P N : ℕ) (image table : List ℕ) where
-  -- the answer, the image and the owner table of the image as it then stands
-  abbrev pub effect : {A : Type 0} → Geometry → Res (Effect A) → Res A × List ℕ × List ℕ
-  effect g (ok x) = (ok (x .answer), x .image, tableFor P N image table g (x .image))
-  effect g (err n p) = (err n p, image, tableFor P N image table g image)
-
-  abbrev pub effective : {A : Type 0} → (Geometry → Res (Effect A)) → Res A × List ℕ × List ℕ
-  effective call = inGeometry (shape P N image table) (err 1 0, image, table) (λ g. effect g (call g))
-
   unfoldable pub carefulPutCall : ℕ → List ℕ → List ℕ → Res WriteCount × List ℕ × List ℕ
-  carefulPutCall k path bytes = effective (λ g. carefulPut g k path bytes image)
+  carefulPutCall k path bytes = effective P N image table (λ g. carefulPut g k path bytes image)
 
   unfoldable pub carefulDeleteCall : ℕ → List ℕ → Res WriteCount × List ℕ × List ℕ
-  carefulDeleteCall k path = effective (λ g. carefulDelete g k path image)
+  carefulDeleteCall k path = effective P N image table (λ g. carefulDelete g k path image)
 
   unfoldable pub mendCall : Res ℕ × List ℕ × List ℕ
-  mendCall = effective (λ g. mend g image)
+  mendCall = effective P N image table (λ g. mend g image)
 
 -- in a refusal the counts are 0 and no write is left
 abbrev pub noWrites : WriteCount

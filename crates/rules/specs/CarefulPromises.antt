@@ -14,7 +14,7 @@ use Rattle.rules.specs.declared.WriteCount.{WriteCount}
 use Rattle.rules.specs.Result.{Res, ok, err}
 use Rattle.rules.specs.PageSets.{count, freePages}
 use Rattle.rules.specs.Chain.{viewsOf, pages}
-use Rattle.rules.specs.Tree.{ownPages, mapPages, Image, used}
+use Rattle.rules.specs.Tree.{Items, ownPages, mapPages, Image, used}
 use Rattle.rules.specs.Bitmap.{bitAt}
 use Rattle.rules.specs.Check.{Scan, scan, check}
 use Rattle.rules.specs.WellFormed.{WellFormed}
@@ -23,7 +23,8 @@ use Rattle.rules.specs.Put.{putEdit}
 use Rattle.rules.specs.Delete.{deleteEdit}
 use Rattle.rules.specs.Candidate.{atPath}
 use Rattle.rules.specs.Demand2.{reach, EditDone, PathIn, DeleteShows, PutShows}
-use Rattle.rules.specs.Careful.{Effect, haltedAt, carefulWrites, mendWrites, mend, noWrites}
+use Rattle.rules.specs.Calls.{Effect}
+use Rattle.rules.specs.Careful.{haltedAt, carefulWrites, mendWrites, mend, noWrites}
 
 -- an answer that is done
 abbrev pub IsDone : {A : Type 0} → Res A → Type 0
@@ -68,6 +69,10 @@ pub record MendDone (g : Geometry) (image : List ℕ) (cleared : ℕ) (after : L
   -- the marks cleared: the marks less the pages in use
   pub number : cleared + length (used (was .image)) ≡ bitsSet (was .raw) 0 (8 * length (was .raw))
 
+-- the first half of the check finds this tree in an image
+abbrev pub HasTree : Geometry → List ℕ → Items → Type 0
+HasTree g image t = (s : Scan) × (scan g (viewsOf g image) ≡ ok s) × (s .image .tree ≡ t)
+
 -- an edit from one tree to another by the ordered page writes ws, of which at most k may be made; `target` has the pages of the directory edited
 pub record StoppedAt (g : Geometry) (image : List ℕ) (before after : Image) (target : List ℕ) (ws : List Write) (k : ℕ) (told : WriteCount) (now : List ℕ) : Type 0 where
   -- the writes made and the image are those of the first k of them that change a packet
@@ -78,7 +83,10 @@ pub record StoppedAt (g : Geometry) (image : List ℕ) (before after : Image) (t
   pub back : List Write
   pub one : made g ws image ≡ front ++ (visible ∷ back)
   pub of-target : 1 ≤ count (pageWritten visible) target
-  -- the first half of the check finds no fault: before that write the old tree, from it on the new one
+  -- whatever number of them is made: the old tree without that write, the new one from it on
+  pub old-until : (j : ℕ) → j ≤ length front → HasTree g (afterWrites g (take j (made g ws image)) image) (before .tree)
+  pub new-from : (j : ℕ) → length front < j → HasTree g (afterWrites g (take j (made g ws image)) image) (after .tree)
+  -- so the first half of the check finds no fault in what is left
   pub left : Scan
   pub scanned : scan g (viewsOf g now) ≡ ok left
   pub old : k ≤ length front → left .image .tree ≡ before .tree

@@ -165,7 +165,8 @@ module _ (g : Geometry) (vs : Views) (some : 0 < g .pages) where
       (λ _ q. on-refuse _ _ _ _ _ q λ g₁ q. on-then _ _ _ q λ ls w q. on-refuse _ _ _ _ _ q λ g₂ q. on-refuse _ _ _ _ _ q λ g₃ q.
       subst (λ (m : Map). 8 * length (rawBits h m) ≤ g .pages + 32) (ok-inj q) (omega (arith, eqb-true (length (content ls)) (bitmapSize g) g₃)))
 
-  raw-short : (s : Scan) → scan g vs ≡ ok s → 8 * length (s .raw) ≤ g .pages + 32
+  -- a bitmap has a bit for every page, and no more than 32 others
+  pub raw-short : (s : Scan) → scan g vs ≡ ok s → 8 * length (s .raw) ≤ g .pages + 32
   unfolding scan scanWith
   raw-short s q = on-then _ _ _ q λ x a q. on-then _ _ _ q λ h b q. on-then _ _ _ q λ m c q. on-then _ _ _ q λ t d q.
       subst (λ (s : Scan). 8 * length (s .raw) ≤ g .pages + 32) (ok-inj q) (map-short h m (head-short (x .bytes) h b) c)

@@ -33,4 +33,5 @@ pub mod TreeLaws
 pub mod RefusalLaws
 pub mod FuelLaws
 pub mod CallLaws
+pub mod CarefulLaws
 pub mod DigitLaws

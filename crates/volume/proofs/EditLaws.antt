@@ -14,15 +14,14 @@ use Rattle.rules.specs.Chain.{Views, viewsOf}
 use Rattle.rules.specs.Tree.{Image}
 use Rattle.rules.specs.Check.{check}
 use Rattle.rules.specs.Owners.{tableAfter}
-use Rattle.rules.specs.Calls.{inGeometry, done, changed}
+use Rattle.rules.specs.Calls.{inGeometry, Effect, plainly, effect, effective, changed}
 use Rattle.rules.specs.declared.Checked.{Checked}
 use Rattle.rules.specs.declared.Checked.the-variants as w
 use Rattle.rules.specs.declared.Edited.{Edited}
 use Rattle.rules.specs.declared.Edited.the-variants as edited
 use Rattle.volume.specs.Scans.{TableChecked}
 use Rattle.rules.specs.Answers.{editResult}
-use Rattle.rules.specs.Careful.{Effect, effect, effective}
-use Rattle.volume.specs.Edits.{leaves, effectOf, TableOf, EditLeaves, EffectLeaves}
+use Rattle.volume.specs.Edits.{effectOf, TableOf, EditLeaves, EffectLeaves}
 
 -- the table that a check fills, and what stands past it
 table-told : (g : Geometry) (vs : Views) (r : Checked) (u table : List ℕ) → TableChecked g vs r u → u ++ drop (g .pages) table ≡ tableAfter (g .pages) (check g vs) table
@@ -34,35 +33,22 @@ pub fit-same : (g : Geometry) (a b : List ℕ) → Fit g a → length b ≡ leng
 fit-same g a b f e = record { valid = f .valid; whole = e ∙ f .whole }
 
 module _ (g : Geometry) (image : List ℕ) (r : Checked) (u : List ℕ) (K : TableChecked g (viewsOf g image) r u) where
-  -- the check's fault is the answer of an edit that checks first
-  pub fault-leaves : (rule : Res (List ℕ)) → ((n p : ℕ) → check g (viewsOf g image) ≡ err n p → rule ≡ err n p) → (n p : ℕ) → r ≡ w.Refused n p → EditLeaves g image rule (edited.Refused n p) image u
-  fault-leaves rule h n p e = record { answers = sym (ap (leaves image) (h n p (subst (λ (x : Checked). TableChecked g (viewsOf g image) x u) e K .0))); check = r; checked = K }
-
+  -- the check's fault is the answer of a call that checks first
   pub fault-effect : {A : Type 0} (rule : Res (Effect A)) → ((n p : ℕ) → check g (viewsOf g image) ≡ err n p → rule ≡ err n p) → (n p : ℕ) → r ≡ w.Refused n p → EffectLeaves g image rule (err n p) image u
   fault-effect rule h n p e = record { answers = sym (ap (effectOf image) (h n p (subst (λ (x : Checked). TableChecked g (viewsOf g image) x u) e K .0))); check = r; checked = K }
+
+  pub fault-leaves : (rule : Res (List ℕ)) → ((n p : ℕ) → check g (viewsOf g image) ≡ err n p → rule ≡ err n p) → (n p : ℕ) → r ≡ w.Refused n p → EditLeaves g image rule (edited.Refused n p) image u
+  fault-leaves rule h n p e = fault-effect (plainly rule) (λ a b q. ap plainly (h a b q)) n p e
 
   pub table-of : (h : (i : ℕ) → getD image i 0 < 256) (t : Totals) → r ≡ w.Done t → TableOf g image u
   table-of h t e = let k = subst (λ (x : Checked). TableChecked g (viewsOf g image) x u) e K in record { bytes = bytes-from image h; tree = k .0; accepted = k .1; table-is = k .3 }
 
 module _ (P N : ℕ) (image table : List ℕ) where
-  done-leaves : (g : Geometry) (x : Res (List ℕ)) → (leaves image x .0, leaves image x .1, tableAfter (g .pages) (check g (viewsOf g (leaves image x .1))) table) ≡ done P N image table g x
-  done-leaves g (ok after) = refl
-  done-leaves g (err n p) = refl
-
-  -- an edit in the geometry that the sizes give
-  pub changed-leaves : (g : Geometry) → geometryOf P N (length image) (length table) ≡ Fits g → (edit : Geometry → Res (List ℕ)) (r : Edited) (after u : List ℕ) → EditLeaves g image (edit g) r after u
-      → (editResult r, after, u ++ drop (g .pages) table) ≡ changed P N image table edit
-  changed-leaves g e edit r after u k =
-      let a = k .answers in
-      ap₂ (λ (x : Res (Unit {0}) × List ℕ) (y : List ℕ). (x .0, x .1, y)) a (table-told g (viewsOf g after) (k .check) u table (k .checked)
-      ∙ ap (λ (x : Res (Unit {0}) × List ℕ). tableAfter (g .pages) (check g (viewsOf g (x .1))) table) a)
-      ∙ done-leaves g (edit g) ∙ sym (ap (λ (s : Shape). inGeometry s (err 1 0, image, table) (λ g. done P N image table g (edit g))) e)
-
-  -- a call that answers something
   effect-leaves : {A : Type 0} (g : Geometry) (x : Res (Effect A)) → (effectOf image x .0, effectOf image x .1, tableAfter (g .pages) (check g (viewsOf g (effectOf image x .1))) table) ≡ effect P N image table g x
   effect-leaves g (ok x) = refl
   effect-leaves g (err n p) = refl
 
+  -- a call that may change the image, in the geometry that the sizes give
   pub effective-leaves : {A : Type 0} (g : Geometry) → geometryOf P N (length image) (length table) ≡ Fits g → (call : Geometry → Res (Effect A)) (answer : Res A) (after u : List ℕ)
       → EffectLeaves g image (call g) answer after u → (answer, after, u ++ drop (g .pages) table) ≡ effective P N image table call
   effective-leaves {A} g e call answer after u k =
@@ -70,3 +56,7 @@ module _ (P N : ℕ) (image table : List ℕ) where
       ap₂ (λ (x : Res A × List ℕ) (y : List ℕ). (x .0, x .1, y)) a (table-told g (viewsOf g after) (k .check) u table (k .checked)
       ∙ ap (λ (x : Res A × List ℕ). tableAfter (g .pages) (check g (viewsOf g (x .1))) table) a)
       ∙ effect-leaves g (call g) ∙ sym (ap (λ (s : Shape). inGeometry s (err 1 0, image, table) (λ g. effect P N image table g (call g))) e)
+
+  pub changed-leaves : (g : Geometry) → geometryOf P N (length image) (length table) ≡ Fits g → (edit : Geometry → Res (List ℕ)) (r : Edited) (after u : List ℕ) → EditLeaves g image (edit g) r after u
+      → (editResult r, after, u ++ drop (g .pages) table) ≡ changed P N image table edit
+  changed-leaves g e edit r after u k = effective-leaves g e (λ g. plainly (edit g)) (editResult r) after u k

@@ -3,3 +3,4 @@ pub mod MapLaws
 pub mod ScanLaws
 pub mod CheckLaws
 pub mod EditLaws
+pub mod SurveyLaws

@@ -12,21 +12,20 @@ use Rattle.rules.specs.Owners.{owners}
 use Rattle.rules.specs.declared.Checked.{Checked}
 use Rattle.rules.specs.declared.Edited.{Edited}
 use Rattle.rules.specs.Answers.{editResult}
-use Rattle.rules.specs.Careful.{Effect}
+use Rattle.rules.specs.Calls.{Effect, plainly}
 use Rattle.volume.specs.Scans.{TableChecked}
 
--- the answer of an edit and the image that it leaves
-abbrev pub leaves : List ℕ → Res (List ℕ) → Res (Unit {0}) × List ℕ
-leaves image (ok after) = (ok tt, after)
-leaves image (err n p) = (err n p, image)
-
-abbrev pub Answered : List ℕ → Res (List ℕ) → Edited → List ℕ → Type 0
-Answered image rule r after = _≡_ {A = Res (Unit {0}) × List ℕ} (editResult r, after) (leaves image rule)
-
--- the answer of a call that answers something, and the image that it leaves
+-- the answer of a call that may change the image, and the image that it leaves
 abbrev pub effectOf : {A : Type 0} → List ℕ → Res (Effect A) → Res A × List ℕ
 effectOf image (ok x) = (ok (x .answer), x .image)
 effectOf image (err n p) = (err n p, image)
+
+-- and of an edit that answers no more than that it is done
+abbrev pub leaves : List ℕ → Res (List ℕ) → Res (Unit {0}) × List ℕ
+leaves image rule = effectOf image (plainly rule)
+
+abbrev pub Answered : List ℕ → Res (List ℕ) → Edited → List ℕ → Type 0
+Answered image rule r after = _≡_ {A = Res (Unit {0}) × List ℕ} (editResult r, after) (leaves image rule)
 
 -- the image is accepted, and the table tells of it
 pub record TableOf (g : Geometry) (image table : List ℕ) : Type 0 where
@@ -35,14 +34,11 @@ pub record TableOf (g : Geometry) (image table : List ℕ) : Type 0 where
   pub accepted : check g (viewsOf g image) ≡ ok tree
   pub table-is : table ≡ owners (g .pages) tree
 
--- an edit in its geometry: its answer, the image, and the table of the image as it then stands
-pub record EditLeaves (g : Geometry) (image : List ℕ) (rule : Res (List ℕ)) (r : Edited) (after table : List ℕ) : Type 0 where
-  pub answers : Answered image rule r after
-  pub check : Checked
-  pub checked : TableChecked g (viewsOf g after) check table
-
--- a call that answers something, in its geometry
+-- such a call in its geometry: its answer, the image, and the table of the image as it then stands
 pub record EffectLeaves {A : Type 0} (g : Geometry) (image : List ℕ) (rule : Res (Effect A)) (answer : Res A) (after table : List ℕ) : Type 0 where
   pub answers : _≡_ {A = Res A × List ℕ} (answer, after) (effectOf image rule)
   pub check : Checked
   pub checked : TableChecked g (viewsOf g after) check table
+
+abbrev pub EditLeaves : Geometry → List ℕ → Res (List ℕ) → Edited → List ℕ → List ℕ → Type 0
+EditLeaves g image rule r after table = EffectLeaves g image (plainly rule) (editResult r) after table

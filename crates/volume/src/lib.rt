@@ -1,5 +1,6 @@
 // The whole image: the check in two halves, over the owner table.
 use bitmap::Bits;
+use bitmap::Survey;
 use chain::Claim;
 use directory::control::Kind;
 use directory::control::Root;
@@ -26,6 +27,7 @@ ghost use Rattle.rules.specs.Chain.{viewsOf};
 ghost use Rattle.rules.specs.Promises.{Accepts};
 ghost use Rattle.rules.specs.Answers.{checkResult};
 ghost use Rattle.volume.specs.Scans.{rootOf, MapClaimed, RootWalked, Scanned, IsScanned, BitsCompared, TableChecked};
+ghost use Rattle.volume.specs.Surveyed.{BitsSurveyed, TableSurveyed};
 ghost use Rattle.rules.specs.Calls.{checkCall};
 
 // `ROOT`, the first byte lowest.
@@ -132,6 +134,39 @@ fn compare(image: &[u8], g: Geometry, root: Root, table: &[u16]) -> Bits
             bitmap::compare_local(&page[at..end], table)
         }
         Root::Remote(start, _) => bitmap::compare_chain(image, g, start, table),
+    }
+}
+
+// The marks of the bitmap where the root's control field places it.
+fn survey(image: &[u8], g: Geometry, root: Root, table: &[u16]) -> Survey
+    requires { ⌜ Fit g (now image) ⌝ }
+    requires { ⌜ (root ≡ rootOf g (viewOf g (now image) 0)) × IsScanned g (viewsOf g (now image)) ⌝ }
+    ensures { λ r. ⌜ BitsSurveyed g (viewsOf g (now (image .entry))) (now (table .entry)) r ⌝ }
+{
+    match root {
+        // a refused root was never scanned
+        Root::Refused(_) => Survey::Uncovered,
+        Root::Local => {
+            let at = FIELD_AT + g.width;
+            let end = at + BITMAP_FIELD_BYTES;
+            let page = geometry::page_of(image, g, 0);
+            bitmap::survey_local(&page[at..end], table)
+        }
+        Root::Remote(start, _) => bitmap::survey_chain(image, g, start, table),
+    }
+}
+
+// Scans an image whose geometry is known, and surveys its marks for a mend. The table has the owners of its pages unless they are uncovered.
+pub fn survey_table(image: &[u8], g: Geometry, table: &mut [u16]) -> Survey
+    requires { ⌜ Fit g (now image) ⌝ }
+    requires { ⌜ length (now table) ≡ g .pages ⌝ }
+    ensures { λ r. ⌜ TableSurveyed g (viewsOf g (now (image .entry))) r (now (table .exit)) ⌝ }
+{
+    owners::clear(table);
+    let root = root_of(image, g);
+    match scan(image, g, root, table) {
+        Checked::Refused(_, _) => Survey::Uncovered,
+        Checked::Done(_) => survey(image, g, root, table),
     }
 }
 

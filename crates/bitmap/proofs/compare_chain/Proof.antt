@@ -9,7 +9,8 @@ use Rattle.packet.specs.Packet.{viewOf}
 use Rattle.rules.specs.Chain.{Link, content}
 use Rattle.owners.specs.Owned.{Represents}
 use Rattle.owners.specs.OwnerLaws.{taken, represents-taken}
-use Rattle.bitmap.proofs.Comparing.{Comparing, started, in-bounds, answer-differ, answer-same, compare-on}
+use Rattle.bitmap.proofs.Comparing.{Comparing, started, answer-differ, answer-same, compare-on}
+use Rattle.bitmap.proofs.PagesRead.{in-bounds}
 use borrow.Author.Needs.{needs}
 use Rattle.bitmap.proofs.compare_chain.Statement.{statement}
 use Rattle.bitmap.proofs.compare_chain.Tie as tie
@@ -77,7 +78,7 @@ compare-bytes-requires c κs =
     let s = start .pre in
     let t = start .args .table .now in
     let l = at-loop .loop .inv (s .1 .links) (s .1 .chain) (taken t) (represents-taken t) in
-    in-bounds _ _ (s .0) l (at-size .size .given .1) (at-step .step .ensures) (at-page-of .page-of .ensures) (c .data-of .ensures)
+    in-bounds _ _ (s .0) (l .read) (at-size .size .given .1) (at-step .step .ensures) (at-page-of .page-of .ensures) (c .data-of .ensures)
 
 returns-2 : tie.Need-returns-2 Inv-loop μ-loop
 returns-2 c =
