@@ -41,10 +41,13 @@ struct owfs_totals {
  *     12  nested too deep                                          page of the entry
  *     13  bitmap disagrees                                         lowest differing bit
  *
- * `owners` are bytes, two for each page, low byte first; at least 2 * page_count of them are needed (1). Afterwards the number of a page is
- * 0 if it is free, 1 in the root, 2 in the bitmap file, 3 + k in the entry at walk position k; all are 0 after the faults 2 to 13.
- * After 1 no byte is changed; bytes past the first 2 * page_count never change. Any arguments are taken. Image and owners must not overlap.
- * Stack: 131,070 bytes for a table of 65,535 numbers, and less than 9 KiB more, however many entries a directory has. */
+ * `owners` are bytes, a record of four for each page; at least 4 * page_count of them are needed (1). A record is the page's owner, two bytes, low byte
+ * first, then its place in the owner's chain, two bytes, low byte first. Afterwards the owner is 0 if the page is free, 1 in the root, 2 in the bitmap
+ * file, 3 + k in the entry at walk position k; the place is 0 for the first page of the chain, 1 for the second, and so on, and 0 for a free page. A
+ * page of a subdirectory has the owner of the subdirectory's entry and its place in the subdirectory's own chain. All records are 0 after the faults
+ * 2 to 13: they then say nothing of any page. After 1 no byte is changed; bytes past the first 4 * page_count never change. Any arguments are taken.
+ * Image and owners must not overlap.
+ * Stack: less than 16 KiB, for every page count, however many entries a directory has. */
 struct owfs_totals owfs_check(uint32_t page_length, uint32_t page_count, const uint8_t *image, size_t image_length, uint8_t *owners, size_t owners_length);
 
 /* What a listing answers: number 0, page 0 and what a line of `list` shows, or a refusal's number and page with every other field 0, also the name. */
@@ -68,10 +71,10 @@ struct owfs_entry {
  *   1-13  the check's faults, as for owfs_check                    as there
  *     15  position at or past the end                              0
  *
- * `owners` are left as owfs_check leaves them, after 15 too: at least 2 * page_count bytes are needed (1); all numbers are 0 after the faults
- * 2 to 13; after 1 no byte is changed; bytes past the first 2 * page_count never change. Any arguments are taken; a position of any size past the
+ * `owners` are left as owfs_check leaves them, after 15 too: at least 4 * page_count bytes are needed (1); all records are 0 after the faults
+ * 2 to 13; after 1 no byte is changed; bytes past the first 4 * page_count never change. Any arguments are taken; a position of any size past the
  * end is 15. Image and owners must not overlap.
- * Stack: 131,070 bytes for a table of 65,535 numbers, and less than 9 KiB more, however many entries a directory has. */
+ * Stack: less than 16 KiB, for every page count, however many entries a directory has. */
 struct owfs_entry owfs_list(uint32_t page_length, uint32_t page_count, const uint8_t *image, size_t image_length, uint8_t *owners, size_t owners_length,
                             uint32_t position);
 
@@ -95,10 +98,10 @@ struct owfs_length {
  *
  * After 0 the first `length` bytes of `out` are the file's and the rest of it is as before; a refusal changes no byte of it. An output of just the
  * file's length is enough.
- * `owners` are left as owfs_check leaves them, after 14, 15 and 18 too: at least 2 * page_count bytes are needed (1); all numbers are 0 after the
- * faults 2 to 13; after 1 no byte is changed; bytes past the first 2 * page_count never change. Any arguments are taken. Output and owners must
+ * `owners` are left as owfs_check leaves them, after 14, 15 and 18 too: at least 4 * page_count bytes are needed (1); all records are 0 after the
+ * faults 2 to 13; after 1 no byte is changed; bytes past the first 4 * page_count never change. Any arguments are taken. Output and owners must
  * not overlap each other, the image or the path.
- * Stack: 131,070 bytes for a table of 65,535 numbers, and less than 9 KiB more, however many entries a directory has. */
+ * Stack: less than 16 KiB, for every page count, however many entries a directory has. */
 struct owfs_length owfs_read(uint32_t page_length, uint32_t page_count, const uint8_t *image, size_t image_length, const uint8_t *path, size_t path_length,
                              uint8_t *out, size_t out_length, uint8_t *owners, size_t owners_length);
 
@@ -118,11 +121,11 @@ struct owfs_answer {
  *      4  local bitmap with more than 32 pages                     0
  *
  * In a page written only the bytes of its packet change; every other byte of the image stays. A refusal changes no byte of the image.
- * `owners` are bytes, two for each page, low byte first; at least 2 * page_count of them are needed (1). After 0 they tell of the new image: the
- * number of page 0 is 1, that of the bitmap file's pages 2, every other 0. After 4 they tell of the image as it stands, as owfs_check leaves them:
- * its owners if it is accepted, all 0 if not. After 1 no byte is changed; bytes past the first 2 * page_count never change. Any arguments are
- * taken. Image and owners must not overlap.
- * Stack: 131,070 bytes for a table of 65,535 numbers, and less than 9 KiB more, however many entries a directory has. */
+ * `owners` are a record of four bytes for each page, as for owfs_check; at least 4 * page_count bytes are needed (1). After 0 they tell of the new image:
+ * page 0 has owner 1, the bitmap file's pages have owner 2 and the places 0, 1, 2 and so on, every other page is free. After 4 they tell of the image as
+ * it stands, as owfs_check leaves them: its records if it is accepted, all 0 if not. After 1 no byte is changed; bytes past the first 4 * page_count
+ * never change. Any arguments are taken. Image and owners must not overlap.
+ * Stack: less than 16 KiB, for every page count, however many entries a directory has. */
 struct owfs_answer owfs_format(uint32_t page_length, uint32_t page_count, uint8_t *image, size_t image_length, uint8_t *owners, size_t owners_length,
                                uint32_t local);
 
@@ -145,9 +148,9 @@ struct owfs_answer owfs_format(uint32_t page_length, uint32_t page_count, uint8_
  * packets' lengths. In a page written only the bytes of its new packet change; every other byte of the image stays, those of old pages too that the
  * file has no longer. A refusal changes no byte of the image.
  * `owners` are left as owfs_check leaves them: after 0 they tell of the new image, after 14 to 17 of the image as it stands; at least
- * 2 * page_count bytes are needed (1); all numbers are 0 after the faults 2 to 13; after 1 no byte is changed; bytes past the first 2 * page_count
+ * 4 * page_count bytes are needed (1); all records are 0 after the faults 2 to 13; after 1 no byte is changed; bytes past the first 4 * page_count
  * never change. Any arguments are taken. Image and owners must not overlap each other, the path or the bytes.
- * Stack: 131,070 bytes for a table of 65,535 numbers, and less than 9 KiB more, however many entries a directory has. */
+ * Stack: less than 16 KiB, for every page count, however many entries a directory has. */
 struct owfs_answer owfs_put(uint32_t page_length, uint32_t page_count, uint8_t *image, size_t image_length, const uint8_t *path, size_t path_length,
                             const uint8_t *bytes, size_t bytes_length, uint8_t *owners, size_t owners_length);
 
@@ -165,9 +168,9 @@ struct owfs_answer owfs_put(uint32_t page_length, uint32_t page_count, uint8_t *
  * file keeps its packets' lengths. In a page written only the bytes of its new packet change; every other byte of the image stays, those of the
  * file's pages too. A refusal changes no byte of the image.
  * `owners` are left as owfs_check leaves them: after 0 they tell of the new image, after 14, 15 and 16 of the image as it stands; at least
- * 2 * page_count bytes are needed (1); all numbers are 0 after the faults 2 to 13; after 1 no byte is changed; bytes past the first 2 * page_count
+ * 4 * page_count bytes are needed (1); all records are 0 after the faults 2 to 13; after 1 no byte is changed; bytes past the first 4 * page_count
  * never change. Any arguments are taken. Image and owners must not overlap each other or the path.
- * Stack: 131,070 bytes for a table of 65,535 numbers, and less than 9 KiB more, however many entries a directory has. */
+ * Stack: less than 16 KiB, for every page count, however many entries a directory has. */
 struct owfs_answer owfs_delete(uint32_t page_length, uint32_t page_count, uint8_t *image, size_t image_length, const uint8_t *path, size_t path_length,
                                uint8_t *owners, size_t owners_length);
 
@@ -204,10 +207,10 @@ struct owfs_writes {
  * marks. Afterwards every other file reads as before, and the path's as before until the write of 4 is made, and as the new one from it on. When
  * nothing is left the image is accepted. An image with writes left that is refused with 13 is refused by a careful put too: mend it first.
  * In a page written only the bytes of its new packet change; every other byte of the image stays. A refusal changes no byte of the image.
- * `owners` are left as owfs_check leaves them for the image as it then stands, also after 0: all numbers are 0 where a check would answer 13, and
- * after the faults 2 to 13; at least 2 * page_count bytes are needed (1); after 1 no byte is changed; bytes past the first 2 * page_count never
+ * `owners` are left as owfs_check leaves them for the image as it then stands, also after 0: all records are 0 where a check would answer 13, and
+ * after the faults 2 to 13; at least 4 * page_count bytes are needed (1); after 1 no byte is changed; bytes past the first 4 * page_count never
  * change. Any arguments are taken. Image and owners must not overlap each other, the path or the bytes.
- * Stack: 131,070 bytes for a table of 65,535 numbers, and less than 9 KiB more, however many entries a directory has. */
+ * Stack: less than 16 KiB, for every page count, however many entries a directory has. */
 struct owfs_writes owfs_careful_put(uint32_t page_length, uint32_t page_count, uint8_t *image, size_t image_length, const uint8_t *path,
                                     size_t path_length, const uint8_t *bytes, size_t bytes_length, uint8_t *owners, size_t owners_length,
                                     uint32_t allowed);
@@ -228,7 +231,7 @@ struct owfs_writes owfs_careful_put(uint32_t page_length, uint32_t page_count, u
  * accepted. In a page written only the bytes of its new packet change; every other byte of the image stays, those of the file's pages too. A refusal
  * changes no byte of the image. `owners` are left as by owfs_careful_put. Any arguments are taken. Image and owners must not overlap each other or
  * the path.
- * Stack: 131,070 bytes for a table of 65,535 numbers, and less than 9 KiB more, however many entries a directory has. */
+ * Stack: less than 16 KiB, for every page count, however many entries a directory has. */
 struct owfs_writes owfs_careful_delete(uint32_t page_length, uint32_t page_count, uint8_t *image, size_t image_length, const uint8_t *path,
                                        size_t path_length, uint8_t *owners, size_t owners_length, uint32_t allowed);
 
@@ -249,10 +252,10 @@ struct owfs_mended {
  *         is set: nothing is cleared
  *
  * Only the packets of the bitmap change, in page 0 or in the bitmap file, which keeps its packets' lengths; every other byte of the image stays. A
- * refusal changes no byte of the image. `owners` are left as owfs_check leaves them: after 0 they tell of the mended image; at least 2 * page_count
- * bytes are needed (1); all numbers are 0 after the faults 2 to 13; after 1 no byte is changed; bytes past the first 2 * page_count never change.
+ * refusal changes no byte of the image. `owners` are left as owfs_check leaves them: after 0 they tell of the mended image; at least 4 * page_count
+ * bytes are needed (1); all records are 0 after the faults 2 to 13; after 1 no byte is changed; bytes past the first 4 * page_count never change.
  * Any arguments are taken. Image and owners must not overlap.
- * Stack: 131,070 bytes for a table of 65,535 numbers, and less than 9 KiB more, however many entries a directory has. */
+ * Stack: less than 16 KiB, for every page count, however many entries a directory has. */
 struct owfs_mended owfs_mend(uint32_t page_length, uint32_t page_count, uint8_t *image, size_t image_length, uint8_t *owners, size_t owners_length);
 
 #endif

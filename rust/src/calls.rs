@@ -75,9 +75,10 @@ pub fn crc16(start: u16, bytes: &[u8]) -> u16 {
 
 /// Checks an image and tells its totals. The image is not written.
 ///
-/// The owner table has two bytes for each page, low byte first. Afterwards the number of a page is 0 if it is free, 1 in the root, 2 in the
-/// bitmap file, 3 + k in the entry at position k in walk order ([`crate::owner_of`] reads it). After the refusals 2 to 13 all numbers are 0; after 1
-/// no byte is changed. Bytes past the first two for each page never change.
+/// The owner table has a record of four bytes for each page: two for its owner, two for its place in the owner's chain from 0, each low byte first.
+/// Afterwards the owner is 0 if the page is free, 1 in the root, 2 in the bitmap file, 3 + k in the entry at position k in walk order; a free page
+/// has the place 0 ([`crate::owner_of`] reads both). After the refusals 2 to 13 all records are 0; after 1 no byte is changed. Bytes past the first
+/// four for each page never change.
 ///
 /// # Errors
 ///
@@ -168,8 +169,8 @@ pub fn read_to_vec(
 /// Formats an image, which may hold any bytes before: page 0 becomes an empty root and, if asked for, a bitmap file is laid from page 1 upward.
 ///
 /// In a page written only the bytes of its packet change; every other byte of the image stays. A refusal changes no byte of the image. The owner
-/// table tells of the new image; after 4 it is left as [`check`] leaves it for the image as it stands: its owners if it is accepted, all 0 if not.
-/// After 1 no byte of it is changed. Bytes past the first two for each page never change.
+/// table tells of the new image; after 4 it is left as [`check`] leaves it for the image as it stands: its records if it is accepted, all 0 if not.
+/// After 1 no byte of it is changed. Bytes past the first four for each page never change.
 ///
 /// # Errors
 ///

@@ -2,14 +2,14 @@
 //! careful put, careful delete and mend, for a button that may be pulled off its probe.
 //!
 //! The calls are those of `include/owfs.h`, with slices, results and named fields. Any arguments are taken: what does not fit is refused, and nothing
-//! panics. The caller lends the memory that a call works on, an owner table too, which tells afterwards who has each page. A call needs less than
-//! 140 KiB of stack.
+//! panics. The caller lends the memory that a call works on, an owner table too, which tells afterwards who has each page and where in its chain the
+//! page stands. A call needs less than 16 KiB of stack, whatever the image.
 //!
 //! The code of the calls, for x86-64, is in the archive `libowfs.a`, which `rt staticlib owfs` makes in `target/staticlib`. The variable
 //! `OWFS_LIB_DIR` names another folder where it stands when the crate is built; if it is not absolute, it starts at the crate's.
 //!
 //! ```
-//! use owfs::{check, owner_of, owner_table, path, put, read, Bitmap, Geometry, Owner, Reason};
+//! use owfs::{check, owner_of, owner_table, path, put, read, Bitmap, Geometry, Owner, Reason, Record};
 //!
 //! let geometry = Geometry::new(32, 16);
 //! let mut image = vec![0; 32 * 16];
@@ -18,7 +18,7 @@
 //!
 //! let demo = path(&[], "DEMO", 12)?;
 //! put(geometry, &mut image, &demo, b"TEST", &mut owners)?;
-//! assert_eq!(owner_of(&owners, 1), Some(Owner::Entry(0)));
+//! assert_eq!(owner_of(&owners, 1), Some(Record { owner: Owner::Entry(0), place: 0 }));
 //!
 //! let mut out = [0; 10];
 //! let length = read(geometry, &image, &demo, &mut out, &mut owners)?;
@@ -49,6 +49,6 @@ pub use calls::{
     Bitmap, Geometry, Totals, Writes,
 };
 pub use entry::{entries, Entries, Entry, Kind, Listed};
-pub use owners::{owner_of, owner_table, Owner};
+pub use owners::{owner_of, owner_table, Owner, Record};
 pub use path::{path, Name, PathError};
 pub use refusal::{Reason, Refusal};

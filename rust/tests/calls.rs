@@ -5,8 +5,8 @@
 
 use owfs::{
     careful_delete, careful_put, check, crc16, delete, entries, list, mend, owner_of, owner_table,
-    path, put, read, read_to_vec, Bitmap, Geometry, Kind, Listed, Name, Owner, Reason, Refusal,
-    Totals, Writes,
+    path, put, read, read_to_vec, Bitmap, Geometry, Kind, Listed, Name, Owner, Reason, Record,
+    Refusal, Totals, Writes,
 };
 
 /// The geometry of most images here.
@@ -15,6 +15,11 @@ const GEOMETRY: Geometry = Geometry::new(32, 16);
 /// A refusal.
 fn refusal(number: u32, page: u32) -> Refusal {
     Refusal { number, page }
+}
+
+/// What the owner table tells of a page.
+fn record(owner: Owner, place: u32) -> Option<Record> {
+    Some(Record { owner, place })
 }
 
 /// A formatted image.
@@ -65,9 +70,9 @@ fn file_is_put_listed_and_deleted() {
         directories: 0,
     };
     assert_eq!(check(GEOMETRY, &image, &mut owners), Ok(totals));
-    assert_eq!(owner_of(&owners, 0), Some(Owner::Root));
-    assert_eq!(owner_of(&owners, 1), Some(Owner::Entry(0)));
-    assert_eq!(owner_of(&owners, 2), Some(Owner::Free));
+    assert_eq!(owner_of(&owners, 0), record(Owner::Root, 0));
+    assert_eq!(owner_of(&owners, 1), record(Owner::Entry(0), 0));
+    assert_eq!(owner_of(&owners, 2), record(Owner::Free, 0));
     let entry = list(GEOMETRY, &image, &mut owners, 0).expect("an entry");
     assert_eq!((entry.name.as_str(), entry.extension), ("DEMO", 12));
     assert_eq!((entry.start, entry.pages, entry.length), (1, 1, 4));
@@ -75,7 +80,7 @@ fn file_is_put_listed_and_deleted() {
     let absent = Err(refusal(15, 0));
     assert_eq!(delete(GEOMETRY, &mut image, &demo, &mut owners), absent);
     assert_eq!(list(GEOMETRY, &image, &mut owners, 0), Err(refusal(15, 0)));
-    assert_eq!(owner_of(&owners, 1), Some(Owner::Free));
+    assert_eq!(owner_of(&owners, 1), record(Owner::Free, 0));
 }
 
 #[test]
@@ -98,6 +103,9 @@ fn read_fills_the_front_of_the_output_or_is_refused() {
     assert_eq!(put(GEOMETRY, &mut image, &demo, &most, &mut owners), Ok(()));
     let bytes = read_to_vec(GEOMETRY, &image, &demo, &mut owners);
     assert_eq!(bytes.as_ref(), Ok(&most));
+    for page in 1..16 {
+        assert_eq!(owner_of(&owners, page), record(Owner::Entry(0), page - 1));
+    }
     let more = vec![7; 15 * 28 + 1];
     let refused = put(GEOMETRY, &mut image, &demo, &more, &mut owners).expect_err("no room");
     assert_eq!(refused.reason(), Reason::NoRoom);
@@ -120,6 +128,7 @@ fn careful_put_is_stopped_and_mended() {
         let told = careful_put(GEOMETRY, &mut image, &demo, b"TEST", &mut owners, allowed);
         assert_eq!(told, writes(allowed.min(3), allowed < 3));
         let stopped = allowed == 1 || allowed == 2;
+        assert_eq!(owners == owner_table(16), stopped, "no records");
         let verdict = check(GEOMETRY, &image, &mut owners);
         assert_eq!(verdict.is_err_and(|refusal| refusal.number == 13), stopped);
         let again = careful_put(GEOMETRY, &mut image.clone(), &demo, b"T", &mut owners, 0);
@@ -214,14 +223,11 @@ fn entries_come_in_walk_order_with_their_paths() {
         let told = read_to_vec(GEOMETRY, &image, path, &mut owners);
         assert_eq!(told.as_deref(), Ok(bytes));
     }
-    let owned: Vec<Owner> = (0..6).filter_map(|page| owner_of(&owners, page)).collect();
-    let of_entries = (0..4).map(Owner::Entry);
-    let expected: Vec<Owner> = [Owner::Root]
-        .into_iter()
-        .chain(of_entries)
-        .chain([Owner::Free])
-        .collect();
-    assert_eq!(owned, expected);
+    assert_eq!(owner_of(&owners, 0), record(Owner::Root, 0));
+    for page in 1..5 {
+        assert_eq!(owner_of(&owners, page), record(Owner::Entry(page - 1), 0));
+    }
+    assert_eq!(owner_of(&owners, 5), record(Owner::Free, 0));
 }
 
 #[test]
@@ -246,10 +252,10 @@ fn fault_of_an_image_is_told_by_each_call_and_ends_the_entries() {
     let mut image = nested();
     image[3 * 32 + 1] = 0xAB;
     let fault = refusal(2, 3);
-    let mut owners = vec![9; 40];
+    let mut owners = vec![9; 72];
     assert_eq!(check(GEOMETRY, &image, &mut owners), Err(fault));
-    assert_eq!(owners[..32], [0; 32]);
-    assert_eq!(owners[32..], [9; 8]);
+    assert_eq!(owners[..64], [0; 64]);
+    assert_eq!(owners[64..], [9; 8]);
     assert_eq!(list(GEOMETRY, &image, &mut owners, 0), Err(fault));
     let mut all = entries(GEOMETRY, &image, &mut owners);
     assert_eq!(all.next(), Some(Err(fault)));
@@ -303,6 +309,30 @@ fn arguments_that_do_not_fit_are_1_and_change_nothing() {
     }
 }
 
+/// A table of less than four bytes a page is 1 and stays; of a longer one just the first four bytes a page are written.
+#[test]
+fn table_has_at_least_four_bytes_a_page() {
+    let mut image = formatted();
+    let demo = path(&[], "DEMO", 12).expect("a path");
+    for length in [0, 32, 60, 61, 62, 63] {
+        let mut owners = vec![9; length];
+        let told = check(GEOMETRY, &image, &mut owners);
+        assert_eq!(told, Err(refusal(1, 0)));
+        let told = put(GEOMETRY, &mut image, &demo, b"TEST", &mut owners);
+        assert_eq!((told, owners), (Err(refusal(1, 0)), vec![9; length]));
+    }
+    assert_eq!(image, formatted());
+    for length in [64, 65, 67, 68] {
+        let mut owners = vec![9; length];
+        let told = put(GEOMETRY, &mut image, &demo, &[7; 60], &mut owners);
+        assert_eq!(told, Ok(()));
+        assert_eq!(owners[..8], [1, 0, 0, 0, 3, 0, 0, 0]);
+        assert_eq!(owners[8..20], [3, 0, 1, 0, 3, 0, 2, 0, 0, 0, 0, 0]);
+        assert_eq!(owners[20..64], [0; 44]);
+        assert!(owners[64..].iter().all(|&byte| byte == 9));
+    }
+}
+
 #[test]
 fn local_bitmap_is_refused_from_33_pages_on() {
     for (page_count, local, file) in [
@@ -318,7 +348,7 @@ fn local_bitmap_is_refused_from_33_pages_on() {
         assert_eq!(told, local);
         let told = owfs::format(geometry, &mut image, &mut owners, Bitmap::File);
         assert_eq!(told, file);
-        assert_eq!(owner_of(&owners, 1), Some(Owner::Bitmap));
+        assert_eq!(owner_of(&owners, 1), record(Owner::Bitmap, 0));
     }
 }
 
@@ -368,7 +398,7 @@ fn name_is_taken_exactly_if_the_library_takes_it() {
     assert!(taken > 200, "{taken} names");
 }
 
-/// The largest image, and the greatest owner number.
+/// The largest image, with one file on all pages that are free after a format.
 #[test]
 fn largest_image_is_formatted_filled_and_read() {
     let geometry = Geometry::new(32, 65_535);
@@ -384,6 +414,9 @@ fn largest_image_is_formatted_filled_and_read() {
     put(geometry, &mut image, &all, &bytes, &mut owners).expect("room");
     let told = read_to_vec(geometry, &image, &all, &mut owners);
     assert!(told.as_ref() == Ok(&bytes), "the file's bytes");
-    assert_eq!(owner_of(&owners, 65_534), Some(Owner::Entry(0)));
+    for page in [used, used + 255, used + 256, used + 257, 40_000, 65_534] {
+        let known = record(Owner::Entry(0), page - used);
+        assert_eq!(owner_of(&owners, page), known);
+    }
     assert_eq!(owner_of(&owners, 65_535), None);
 }

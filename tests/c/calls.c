@@ -1,5 +1,5 @@
-/* Calls check, list, read, format, put, delete, careful put, careful delete and mend as firmware calls them, with numbers and byte slices, and prints
- * each answer and each byte lent.
+/* Calls check, list, read, format, put, delete, careful put, careful delete, mend and the check sum as firmware calls them, with numbers and byte slices,
+ * each on a stack of 16 KiB, and prints each answer and each byte lent.
  *
  * The argument names a file: page length and page count (4 bytes each, low byte first), then the image, which ends the file.
  * Standard input has the calls; a number is 4 bytes, low byte first:
@@ -13,26 +13,30 @@
  *   P  bytes of the owner table, bytes of the path, bytes of the file, writes allowed, then the path and the file's bytes
  *   D  bytes of the owner table, bytes of the path, writes allowed, then the path
  *   m  bytes of the owner table
- *   s  bytes of stack to use in blocks of 1,024, to show that a limit of the stack holds
+ *   k  start of the check sum, number of bytes, then the bytes
+ *   s  bytes of stack to use in blocks of 1,024, to show that the limit of the stack holds
  *
  * For each call it prints the letter and the fields of the answer, then a line with the owner table, for `r` one with the output and for `f`, `p`,
- * `d`, `P`, `D` and `m` one with the image, in hexadecimal. The calls after an edit have the image as it left it.
- * Owner table and output hold the byte C7 before each call. A slice of no bytes has no address.
+ * `d`, `P`, `D` and `m` one with the image, in hexadecimal; for `k` and `s` the first line alone. The calls after an edit have the image as it left it.
+ * Owner table and output hold the byte C7 before each call. A slice of no bytes has no address. In the end it tells on standard error the most bytes
+ * of stack that a call has used.
  * It ends with 1 if a call changed the path, the file's bytes, bytes next to a lent slice, or the image where it must not (c, l, r and every
- * refusal), and with 2 if its input is not as above.
+ * refusal), with 2 if its input is not as above, and by a signal if a call needs more stack.
  */
+#define _DEFAULT_SOURCE
 #include <inttypes.h>
 #include <stdio.h>
 #include <stdlib.h>
 #include <string.h>
 
 #include "owfs.h"
+#include "small_stack.h"
 
 enum {
     MOST_IMAGE = 256 * 65535 + 1024,
-    MOST_OWNERS = 150000,
+    MOST_OWNERS = 300000,
     MOST_PATH = 4096,
-    MOST_OUT = 1 << 20,
+    MOST_OUT = MOST_IMAGE,
     MOST_FILE = MOST_IMAGE,
     MARGIN = 64,
     BLOCK = 1024,
@@ -52,6 +56,22 @@ static uint8_t path_bytes[MARGIN + MOST_PATH + MARGIN], path_before[MOST_PATH];
 static uint8_t file_bytes[MARGIN + MOST_FILE + MARGIN], file_before[MOST_FILE];
 static struct lent image;
 static uint32_t page_length, page_count;
+
+/* What the next call is lent besides the image, and its number: position, kind of bitmap, writes allowed, or start of the check sum. */
+static struct lent owners, path, file, out;
+static uint32_t argument;
+
+/* Its answer. */
+static struct owfs_totals totals;
+static struct owfs_entry entry;
+static struct owfs_length length_read;
+static struct owfs_answer answer;
+static struct owfs_writes writes;
+static struct owfs_mended mended;
+static uint32_t sum, blocks;
+
+/* The most bytes of stack that a call has used. */
+static size_t most_stack;
 
 /* Ends the program because its input is not as it must be. */
 static void wrong_input(const char *what)
@@ -143,146 +163,238 @@ static void see_given(const uint8_t *buffer, const uint8_t *before, size_t lengt
     see_margins(buffer, length, what);
 }
 
+/* Lends the owner table of the next call. */
+static void lend_owners(void)
+{
+    owners = lend(owner_bytes, length_up_to(MOST_OWNERS));
+}
+
+/* The calls, each by a function that is run on the small stack. */
+static void make_check(void)
+{
+    totals = owfs_check(page_length, page_count, image.bytes, image.length, owners.bytes, owners.length);
+}
+
+static void make_list(void)
+{
+    entry = owfs_list(page_length, page_count, image.bytes, image.length, owners.bytes, owners.length, argument);
+}
+
+static void make_read(void)
+{
+    length_read = owfs_read(page_length, page_count, image.bytes, image.length, path.bytes, path.length, out.bytes, out.length, owners.bytes,
+                            owners.length);
+}
+
+static void make_format(void)
+{
+    answer = owfs_format(page_length, page_count, image.bytes, image.length, owners.bytes, owners.length, argument);
+}
+
+static void make_put(void)
+{
+    answer = owfs_put(page_length, page_count, image.bytes, image.length, path.bytes, path.length, file.bytes, file.length, owners.bytes, owners.length);
+}
+
+static void make_delete(void)
+{
+    answer = owfs_delete(page_length, page_count, image.bytes, image.length, path.bytes, path.length, owners.bytes, owners.length);
+}
+
+static void make_careful_put(void)
+{
+    writes = owfs_careful_put(page_length, page_count, image.bytes, image.length, path.bytes, path.length, file.bytes, file.length, owners.bytes,
+                              owners.length, argument);
+}
+
+static void make_careful_delete(void)
+{
+    writes = owfs_careful_delete(page_length, page_count, image.bytes, image.length, path.bytes, path.length, owners.bytes, owners.length, argument);
+}
+
+static void make_mend(void)
+{
+    mended = owfs_mend(page_length, page_count, image.bytes, image.length, owners.bytes, owners.length);
+}
+
+static void make_sum(void)
+{
+    sum = owfs_crc16((uint16_t)argument, file.bytes, file.length);
+}
+
+/* Makes the call on the small stack. */
+static void make(void (*call)(void))
+{
+    size_t used = on_small_stack(call);
+    if (used > most_stack)
+        most_stack = used;
+}
+
 /* After a call that must not change the image: sees that it did not, nor bytes next to a slice, and prints the owner table. */
-static void after_call(const struct lent *owners)
+static void after_call(void)
 {
     if (memcmp(image_bytes + MARGIN, image_before, image.length) != 0)
         wrong_write("image");
     see_margins(image_bytes, image.length, "margin of the image");
-    see_margins(owner_bytes, owners->length, "margin of the owner table");
-    print_bytes(owners);
+    see_margins(owner_bytes, owners.length, "margin of the owner table");
+    print_bytes(&owners);
 }
 
 /* c: a check. */
 static void call_check(void)
 {
-    struct lent owners = lend(owner_bytes, length_up_to(MOST_OWNERS));
-    struct owfs_totals told = owfs_check(page_length, page_count, image.bytes, image.length, owners.bytes, owners.length);
-    printf("c %" PRIu32 " %" PRIu32 " %" PRIu32 " %" PRIu32 " %" PRIu32 "\n", told.number, told.page, told.used, told.files, told.directories);
-    after_call(&owners);
+    lend_owners();
+    make(make_check);
+    printf("c %" PRIu32 " %" PRIu32 " %" PRIu32 " %" PRIu32 " %" PRIu32 "\n", totals.number, totals.page, totals.used, totals.files, totals.directories);
+    after_call();
 }
 
 /* l: a listing. */
 static void call_list(void)
 {
-    struct lent owners = lend(owner_bytes, length_up_to(MOST_OWNERS));
-    uint32_t position = number(stdin);
-    struct owfs_entry told = owfs_list(page_length, page_count, image.bytes, image.length, owners.bytes, owners.length, position);
-    printf("l %" PRIu32 " %" PRIu32 " %" PRIu32 " %" PRIu32 " %" PRIu32, told.number, told.page, told.level, told.name, told.extension);
-    printf(" %" PRIu32 " %" PRIu32 " %" PRIu32 " %" PRIu32 "\n", told.attribute, told.start, told.pages, told.length);
-    after_call(&owners);
+    lend_owners();
+    argument = number(stdin);
+    make(make_list);
+    printf("l %" PRIu32 " %" PRIu32 " %" PRIu32 " %" PRIu32 " %" PRIu32, entry.number, entry.page, entry.level, entry.name, entry.extension);
+    printf(" %" PRIu32 " %" PRIu32 " %" PRIu32 " %" PRIu32 "\n", entry.attribute, entry.start, entry.pages, entry.length);
+    after_call();
 }
 
 /* r: a read. */
 static void call_read(void)
 {
-    struct lent owners = lend(owner_bytes, length_up_to(MOST_OWNERS));
+    lend_owners();
     size_t path_length = length_up_to(MOST_PATH);
-    struct lent out = lend(out_bytes, length_up_to(MOST_OUT));
-    struct lent path = read_given(path_bytes, path_before, path_length);
-    struct owfs_length told = owfs_read(page_length, page_count, image.bytes, image.length, path.bytes, path.length, out.bytes, out.length, owners.bytes,
-                                        owners.length);
-    printf("r %" PRIu32 " %" PRIu32 " %" PRIu32 "\n", told.number, told.page, told.length);
-    after_call(&owners);
+    out = lend(out_bytes, length_up_to(MOST_OUT));
+    path = read_given(path_bytes, path_before, path_length);
+    make(make_read);
+    printf("r %" PRIu32 " %" PRIu32 " %" PRIu32 "\n", length_read.number, length_read.page, length_read.length);
+    after_call();
     see_margins(out_bytes, out.length, "margin of the output");
     see_given(path_bytes, path_before, path.length, "path");
     print_bytes(&out);
 }
 
 /* After a call that may change the image: prints the owner table and the image. If it was done, the image is the one that later calls must keep. */
-static void after_change(uint32_t number, const struct lent *owners)
+static void after_change(uint32_t number)
 {
     if (number == 0)
         memcpy(image_before, image_bytes + MARGIN, image.length);
-    after_call(owners);
+    after_call();
     print_bytes(&image);
 }
 
 /* After a format, a put or a delete: prints its answer, the owner table and the image. */
-static void after_edit(char letter, struct owfs_answer told, const struct lent *owners)
+static void after_edit(char letter)
 {
-    printf("%c %" PRIu32 " %" PRIu32 "\n", letter, told.number, told.page);
-    after_change(told.number, owners);
+    printf("%c %" PRIu32 " %" PRIu32 "\n", letter, answer.number, answer.page);
+    after_change(answer.number);
 }
 
 /* After a careful call: prints its answer, the owner table and the image. */
-static void after_careful(char letter, struct owfs_writes told, const struct lent *owners)
+static void after_careful(char letter)
 {
-    printf("%c %" PRIu32 " %" PRIu32 " %" PRIu32 " %" PRIu32 "\n", letter, told.number, told.page, told.made, told.left);
-    after_change(told.number, owners);
+    printf("%c %" PRIu32 " %" PRIu32 " %" PRIu32 " %" PRIu32 "\n", letter, writes.number, writes.page, writes.made, writes.left);
+    after_change(writes.number);
+}
+
+/* Reads the path of a call, and of a put the bytes of the file. */
+static void read_path(size_t path_length)
+{
+    path = read_given(path_bytes, path_before, path_length);
+}
+
+static void read_path_and_file(size_t path_length, size_t file_length)
+{
+    read_path(path_length);
+    file = read_given(file_bytes, file_before, file_length);
+}
+
+/* Sees that the path is as before, and the bytes of the file. */
+static void see_path(void)
+{
+    see_given(path_bytes, path_before, path.length, "path");
+}
+
+static void see_path_and_file(void)
+{
+    see_path();
+    see_given(file_bytes, file_before, file.length, "bytes of the file");
 }
 
 /* f: a format. */
 static void call_format(void)
 {
-    struct lent owners = lend(owner_bytes, length_up_to(MOST_OWNERS));
-    uint32_t local = number(stdin);
-    struct owfs_answer told = owfs_format(page_length, page_count, image.bytes, image.length, owners.bytes, owners.length, local);
-    after_edit('f', told, &owners);
+    lend_owners();
+    argument = number(stdin);
+    make(make_format);
+    after_edit('f');
 }
 
 /* p: a put. */
 static void call_put(void)
 {
-    struct lent owners = lend(owner_bytes, length_up_to(MOST_OWNERS));
+    lend_owners();
     size_t path_length = length_up_to(MOST_PATH);
     size_t file_length = length_up_to(MOST_FILE);
-    struct lent path = read_given(path_bytes, path_before, path_length);
-    struct lent file = read_given(file_bytes, file_before, file_length);
-    struct owfs_answer told = owfs_put(page_length, page_count, image.bytes, image.length, path.bytes, path.length, file.bytes, file.length, owners.bytes,
-                                       owners.length);
-    see_given(path_bytes, path_before, path.length, "path");
-    see_given(file_bytes, file_before, file.length, "bytes of the file");
-    after_edit('p', told, &owners);
+    read_path_and_file(path_length, file_length);
+    make(make_put);
+    see_path_and_file();
+    after_edit('p');
 }
 
 /* d: a delete. */
 static void call_delete(void)
 {
-    struct lent owners = lend(owner_bytes, length_up_to(MOST_OWNERS));
-    size_t path_length = length_up_to(MOST_PATH);
-    struct lent path = read_given(path_bytes, path_before, path_length);
-    struct owfs_answer told = owfs_delete(page_length, page_count, image.bytes, image.length, path.bytes, path.length, owners.bytes, owners.length);
-    see_given(path_bytes, path_before, path.length, "path");
-    after_edit('d', told, &owners);
+    lend_owners();
+    read_path(length_up_to(MOST_PATH));
+    make(make_delete);
+    see_path();
+    after_edit('d');
 }
 
 /* P: a careful put. */
 static void call_careful_put(void)
 {
-    struct lent owners = lend(owner_bytes, length_up_to(MOST_OWNERS));
+    lend_owners();
     size_t path_length = length_up_to(MOST_PATH);
     size_t file_length = length_up_to(MOST_FILE);
-    uint32_t allowed = number(stdin);
-    struct lent path = read_given(path_bytes, path_before, path_length);
-    struct lent file = read_given(file_bytes, file_before, file_length);
-    struct owfs_writes told = owfs_careful_put(page_length, page_count, image.bytes, image.length, path.bytes, path.length, file.bytes, file.length,
-                                               owners.bytes, owners.length, allowed);
-    see_given(path_bytes, path_before, path.length, "path");
-    see_given(file_bytes, file_before, file.length, "bytes of the file");
-    after_careful('P', told, &owners);
+    argument = number(stdin);
+    read_path_and_file(path_length, file_length);
+    make(make_careful_put);
+    see_path_and_file();
+    after_careful('P');
 }
 
 /* D: a careful delete. */
 static void call_careful_delete(void)
 {
-    struct lent owners = lend(owner_bytes, length_up_to(MOST_OWNERS));
+    lend_owners();
     size_t path_length = length_up_to(MOST_PATH);
-    uint32_t allowed = number(stdin);
-    struct lent path = read_given(path_bytes, path_before, path_length);
-    struct owfs_writes told = owfs_careful_delete(page_length, page_count, image.bytes, image.length, path.bytes, path.length, owners.bytes,
-                                                  owners.length, allowed);
-    see_given(path_bytes, path_before, path.length, "path");
-    after_careful('D', told, &owners);
+    argument = number(stdin);
+    read_path(path_length);
+    make(make_careful_delete);
+    see_path();
+    after_careful('D');
 }
 
 /* m: a mend. */
 static void call_mend(void)
 {
-    struct lent owners = lend(owner_bytes, length_up_to(MOST_OWNERS));
-    struct owfs_mended told = owfs_mend(page_length, page_count, image.bytes, image.length, owners.bytes, owners.length);
-    printf("m %" PRIu32 " %" PRIu32 " %" PRIu32 "\n", told.number, told.page, told.cleared);
-    after_change(told.number, &owners);
+    lend_owners();
+    make(make_mend);
+    printf("m %" PRIu32 " %" PRIu32 " %" PRIu32 "\n", mended.number, mended.page, mended.cleared);
+    after_change(mended.number);
+}
+
+/* k: a check sum. */
+static void call_sum(void)
+{
+    argument = number(stdin);
+    file = read_given(file_bytes, file_before, length_up_to(MOST_FILE));
+    make(make_sum);
+    printf("k %" PRIu32 "\n", sum);
+    see_given(file_bytes, file_before, file.length, "bytes of the sum");
 }
 
 /* Writes to so many bytes of the stack, a block at a time, and counts the blocks. */
@@ -294,11 +406,17 @@ static uint32_t use_stack(uint32_t bytes)
     return bytes <= BLOCK ? block[0] : use_stack(bytes - BLOCK) + block[BLOCK - 1];
 }
 
+static void make_use(void)
+{
+    blocks = use_stack(argument);
+}
+
 /* s: stack in use. */
 static void call_stack(void)
 {
-    uint32_t bytes = number(stdin);
-    printf("s %" PRIu32 "\n", use_stack(bytes));
+    argument = number(stdin);
+    make(make_use);
+    printf("s %" PRIu32 "\n", blocks);
 }
 
 int main(int count, char **arguments)
@@ -306,6 +424,7 @@ int main(int count, char **arguments)
     if (count != 2)
         wrong_input("one argument, the file of the image");
     read_image(arguments[1]);
+    make_small_stack();
     for (int letter = getchar(); letter != EOF; letter = getchar()) {
         switch (letter) {
         case 'c': call_check(); break;
@@ -317,9 +436,11 @@ int main(int count, char **arguments)
         case 'P': call_careful_put(); break;
         case 'D': call_careful_delete(); break;
         case 'm': call_mend(); break;
+        case 'k': call_sum(); break;
         case 's': call_stack(); break;
         default: wrong_input("no such call");
         }
     }
+    fprintf(stderr, "stack %zu\n", most_stack);
     return 0;
 }

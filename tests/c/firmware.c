@@ -11,15 +11,15 @@
 
 #include "owfs.h"
 
-/* A DS1993: 16 pages of 32 bytes. With up to 32 pages the bitmap may stand in page 0. */
-enum { PAGE_LENGTH = 32, PAGE_COUNT = 16, LOCAL_BITMAP = 1 };
+/* A DS1993: 16 pages of 32 bytes. With up to 32 pages the bitmap may stand in page 0. The owner table has a record of four bytes for each page. */
+enum { PAGE_LENGTH = 32, PAGE_COUNT = 16, LOCAL_BITMAP = 1, RECORD = 4 };
 
 /* The numbers of owfs.h that this program meets. */
 enum { DONE = 0, ABSENT = 15, NO_ROOM = 17 };
 
 /* The button's memory, the owner table that every call is lent, and a buffer as long as any file can be. */
 static uint8_t image[PAGE_LENGTH * PAGE_COUNT];
-static uint8_t owners[2 * PAGE_COUNT];
+static uint8_t owners[RECORD * PAGE_COUNT];
 static uint8_t buffer[PAGE_LENGTH * PAGE_COUNT];
 
 /* The path of a file in the root: its name of four bytes, filled with blanks if it is shorter, and its extension number. */

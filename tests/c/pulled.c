@@ -14,7 +14,7 @@
 
 #include "owfs.h"
 
-enum { MOST_PAGE = 64, MOST_PAGES = 320, MOST_IMAGE = MOST_PAGE * MOST_PAGES, MOST_FILES = 12, MOST_PATH = 9, NEVER = -1 };
+enum { MOST_PAGE = 64, MOST_PAGES = 320, MOST_IMAGE = MOST_PAGE * MOST_PAGES, MOST_FILES = 12, MOST_PATH = 9, RECORD = 4, NEVER = -1 };
 
 /* The numbers of owfs.h that this program meets, and its own for a button that was pulled. */
 enum { DONE = 0, MARKS = 13, ABSENT = 15, PULLED = 100 };
@@ -35,7 +35,7 @@ static long writes_until_pulled = NEVER;
 
 /* The firmware's memory: the image as it was read, what the button holds now, the image that a call works on, owner table, file. */
 static uint8_t start[MOST_IMAGE], held[MOST_IMAGE], work[MOST_IMAGE];
-static uint8_t owners[2 * MOST_PAGES];
+static uint8_t owners[RECORD * MOST_PAGES];
 static uint8_t file_bytes[MOST_IMAGE];
 
 /* What the button's files must be, and what was done. */
@@ -52,7 +52,7 @@ static void expect(int is, const char *what)
     }
 }
 
-/* The bytes of the button, and of its owner table. */
+/* The bytes of the button, and of its owner table: a record of four for each page. */
 static size_t image_length(void)
 {
     return (size_t)page_length * page_count;
@@ -60,7 +60,7 @@ static size_t image_length(void)
 
 static size_t owners_length(void)
 {
-    return 2 * (size_t)page_count;
+    return RECORD * (size_t)page_count;
 }
 
 /* The simulated button: reads it whole. */

@@ -8,7 +8,7 @@ use std::fmt::Debug;
 use std::hint::black_box;
 use std::time::{Duration, Instant};
 
-use common::library;
+use common::{library, table_bytes};
 use referee::builder::plan::{
     BitmapPlan, Built, Chain, DirectoryPlan, FilePlan, Fill, ImagePlan, Item,
 };
@@ -157,8 +157,8 @@ impl Full {
         Bench {
             built: plan.build(),
             what: format!("{page_count} pages of {page_length} bytes, {words}"),
-            owners: vec![0; 2 * page_count as usize],
-            second_owners: vec![0; 2 * page_count as usize],
+            owners: vec![0; table_bytes(page_count)],
+            second_owners: vec![0; table_bytes(page_count)],
         }
     }
 }
@@ -465,7 +465,7 @@ fn print_method() {
          the second program a hash table."
     );
     println!(
-        "Buffers: both programs get the same image and, each its own, an owner table of just 2N bytes \
+        "Buffers: both programs get the same image and, each its own, an owner table of just 4N bytes \
          and an output of the file's length, all written before."
     );
     println!(

@@ -7,7 +7,9 @@
  *
  *   - no call reads or writes outside the slices that it is lent, and none changes a path, a file's bytes or an image that it only reads
  *   - a refusal changes no byte of the image and the output
- *   - after 1 no owner byte is changed; bytes past the first 2 * page_count never are; the faults 2 to 13 leave owner numbers of 0
+ *   - after 1 no owner byte is changed; bytes past the first 4 * page_count never are; the faults 2 to 13 leave owner records of 0
+ *   - the owner records of an accepted image are those of its chains: by the pointers of the image, the page after another has the same owner and the
+ *     next place; each chain starts at place 0; a free page has 0 and 0
  *   - a fault of the image is told by each call that checks it; the calls agree on what a path leads to
  *   - after a put that is done the image is accepted and the file reads back, after a delete it is accepted and the file is absent, after a format it
  *     is accepted and empty; the owner table is the one that a check leaves
@@ -103,7 +105,7 @@ static void see_owners(uint32_t number, int is_format)
         demand(all(owners.bytes, owners.length, BEFORE), "owners stay after 1");
         return;
     }
-    size_t used = 2 * (size_t)arguments.page_count;
+    size_t used = RECORD * (size_t)arguments.page_count;
     demand(owners.length >= used, "an owner table too short is 1");
     demand(all(owners.bytes + used, owners.length - used, BEFORE), "the owner table's rest stays");
     if (number != DONE && number <= LAST_FAULT && !is_format)
@@ -130,6 +132,46 @@ static int has_local_bitmap(const uint8_t *bytes)
     return bytes[arguments.page_count <= ONE_BYTE_PAGES ? 3 : 4] >> 7;
 }
 
+/* The owner of a page, and its place, by the owner table. */
+static uint32_t owner_of(uint32_t page)
+{
+    const uint8_t *record = owners.bytes + RECORD * (size_t)page;
+    return record[0] | (uint32_t)record[1] << 8;
+}
+
+static uint32_t place_of(uint32_t page)
+{
+    const uint8_t *record = owners.bytes + RECORD * (size_t)page;
+    return record[2] | (uint32_t)record[3] << 8;
+}
+
+/* The page after another in its chain, by the image: the last bytes of its packet, 0 at the end. */
+static uint32_t next_page(const uint8_t *bytes, uint32_t page)
+{
+    const uint8_t *packet = bytes + (size_t)page * arguments.page_length;
+    if (arguments.page_count <= ONE_BYTE_PAGES)
+        return packet[packet[0]];
+    return packet[packet[0] - 1] | (uint32_t)packet[packet[0]] << 8;
+}
+
+/* Demands of the owner records of an accepted image that they are those of its chains. */
+static void see_records(const uint8_t *bytes, struct owfs_totals totals)
+{
+    uint32_t used = 0, first = 0;
+    for (uint32_t page = 0; page < arguments.page_count; page++) {
+        uint32_t owner = owner_of(page), place = place_of(page);
+        demand(owner != 0 || place == 0, "a free page has place 0");
+        if (owner == 0)
+            continue;
+        uint32_t next = next_page(bytes, page);
+        demand(next == 0 || (owner_of(next) == owner && place_of(next) == place + 1), "the next page has the next place");
+        used++;
+        first += place == 0;
+    }
+    demand(used == totals.used, "every page in use has an owner");
+    demand(first == totals.files + totals.directories + (has_local_bitmap(bytes) ? 1 : 2), "each chain starts at place 0");
+}
+
 /* A check of an image. */
 static struct owfs_totals check(const uint8_t *bytes)
 {
@@ -142,6 +184,7 @@ static struct owfs_totals check(const uint8_t *bytes)
     demand(told.number == DONE || (told.used | told.files | told.directories) == 0, "no totals in a refusal");
     if (told.number == DONE) {
         demand(arguments.page_count <= MOST_LOCAL_PAGES || !has_local_bitmap(bytes), "no local bitmap with more than 32 pages");
+        see_records(bytes, told);
         meet(USED, told.used);
         meet(FILES, told.files);
         meet(DIRECTORIES, told.directories);

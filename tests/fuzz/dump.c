@@ -66,7 +66,7 @@ size_t write_dump(const struct dump *dump, uint8_t *data, size_t most)
 /* The length of the owner table: so many bytes above or below what the pages need, and no more than there are. */
 static size_t owners_length(uint32_t page_count, uint32_t more)
 {
-    size_t needed = 2 * (size_t)page_count;
+    size_t needed = RECORD * (size_t)page_count;
     size_t less = BYTES - more;
     size_t length = more < SHORTER ? needed + more : needed > less ? needed - less : 0;
     return length < MOST_OWNERS ? length : MOST_OWNERS;

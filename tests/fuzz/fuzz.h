@@ -7,7 +7,7 @@
  *
  *   1 byte    255 for a page length that is 65,536 greater
  *   1         255 for a page count that is 65,536 greater
- *   1         0 to 239: so many bytes of the owner table above 2 * page_count; 240 to 255: 16 to 1 below it
+ *   1         0 to 239: so many bytes of the owner table above 4 * page_count; 240 to 255: 16 to 1 below it
  *   4         the position to list, and the page writes that careful calls are allowed
  *   4         what format takes for `local`
  *   2         bytes of the output: 0 for as many as the image has, else one more than there are
@@ -29,7 +29,8 @@ enum {
     MOST_IMAGE = 32768,
     MOST_PATH = 255,
     MOST_FILE = 65535,
-    MOST_OWNERS = 2 * 65535 + 256,
+    RECORD = 4, /* the bytes of a page's owner record */
+    MOST_OWNERS = RECORD * 65535 + 256,
     ONE_BYTE_PAGES = 256, /* the most pages with page numbers of one byte */
     MOST_LOCAL_PAGES = 32 /* the most pages with a local bitmap */
 };

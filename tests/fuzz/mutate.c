@@ -34,7 +34,7 @@ static size_t number_length(void)
 /* The bytes of an owner table. */
 static size_t owners_length(void)
 {
-    return 2 * (size_t)dump.page_count;
+    return RECORD * (size_t)dump.page_count;
 }
 
 /* Whether page length, page count and image are those of a button. */

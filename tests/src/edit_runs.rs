@@ -11,7 +11,7 @@ use crate::puts::{
 };
 use crate::stops::{careful_edit, Careful, Edit};
 use crate::trials::random_allowed;
-use crate::{answer, both, mended, no_writes, writes, Button, Tally};
+use crate::{answer, both, mended, no_writes, table_bytes, writes, Button, Tally};
 use referee::builder::plan::{Built, BuiltEntry, ImagePlan};
 use referee::rng::Rng;
 
@@ -54,7 +54,7 @@ impl<'a> Run<'a> {
 
     /// Bytes of an owner table that is long enough.
     fn table(&mut self) -> usize {
-        2 * self.button.page_count as usize + self.rng.below(4)
+        table_bytes(self.button.page_count) + self.rng.below(6)
     }
 
     /// The file of a path.

@@ -1,7 +1,7 @@
 //! Seeded images, paths, positions and lengths, for the tests of the library's calls.
 
 use crate::plans::{geometry, may_be_local};
-use crate::{answer, Button, Tally};
+use crate::{answer, table_bytes, Button, Tally};
 use referee::builder::fault::{
     with_fault, with_random_changes, with_sealed_flips, with_two_faults,
 };
@@ -9,6 +9,7 @@ use referee::builder::pages::Pages;
 use referee::builder::plan::{Built, BuiltChain, BuiltEntry, ChainOf, Fill, ImagePlan};
 use referee::builder::random::{random_image, random_name, random_packets, random_plan, Shape};
 use referee::geometry::Geometry;
+use referee::owners::table_length;
 use referee::rng::Rng;
 use referee::Answer;
 
@@ -390,13 +391,13 @@ pub fn small_button(rng: &mut Rng) -> Button {
     }
 }
 
-/// Bytes of an owner table: just enough, odd, longer, or too few.
+/// Bytes of an owner table: just enough, some more that are no record, longer, or too few.
 pub fn owner_bytes(page_count: u32, rng: &mut Rng) -> usize {
-    let enough = 2 * page_count as usize;
+    let enough = table_bytes(page_count);
     match rng.below(8) {
-        0 => enough + 1,
+        0 => enough + rng.between(1, 3),
         1 => enough + rng.below(40),
-        2 => enough - 1 - rng.below(3),
+        2 => enough - rng.between(1, 5),
         3 => rng.below(enough),
         _ => enough,
     }
@@ -404,11 +405,13 @@ pub fn owner_bytes(page_count: u32, rng: &mut Rng) -> usize {
 
 /// Bytes of an owner table, seldom too few, with a label; the page count may be any number.
 pub fn labelled_owner_bytes(page_count: u32, rng: &mut Rng) -> (&'static str, usize) {
-    let enough = 2 * (page_count as usize).min(70_000);
+    let enough = table_bytes(page_count);
     match rng.below(40) {
-        0..=4 => ("owner table one byte longer", enough + 1),
-        5..=12 => ("owner table longer", enough + 2 + rng.below(60)),
-        13 => ("owner table one byte too short", enough.saturating_sub(1)),
+        0..=3 => ("owner table one byte longer", enough + 1),
+        4..=10 => ("owner table longer", enough + 2 + rng.below(60)),
+        11 => ("owner table one byte too short", enough.saturating_sub(1)),
+        12 => ("owner table one record too short", enough.saturating_sub(4)),
+        13 => ("owner table of two bytes a page", enough / 2),
         14 => ("owner table too short", rng.below(enough)),
         15 => ("no owner table", 0),
         _ => ("owner table just long enough", enough),
@@ -416,11 +419,13 @@ pub fn labelled_owner_bytes(page_count: u32, rng: &mut Rng) -> (&'static str, us
 }
 
 /// The labels of owner tables.
-pub const OWNER_TABLES: [&str; 6] = [
+pub const OWNER_TABLES: [&str; 8] = [
     "owner table just long enough",
     "owner table one byte longer",
     "owner table longer",
     "owner table one byte too short",
+    "owner table one record too short",
+    "owner table of two bytes a page",
     "owner table too short",
     "no owner table",
 ];
@@ -434,7 +439,7 @@ pub fn counted_owner_bytes(page_count: u32, rng: &mut Rng, tally: &mut Tally) ->
 
 /// Whether an owner table of so many bytes is long enough.
 pub fn is_enough(page_count: u32, owner_bytes: usize) -> bool {
-    owner_bytes >= 2 * page_count as usize
+    owner_bytes >= table_length(page_count as usize)
 }
 
 /// A number for P or N that is often just inside or outside its limits.
@@ -460,7 +465,7 @@ pub fn any_button(rng: &mut Rng) -> (Button, usize) {
     let page_length = any_number(&[0, 31, 32, 33, 64, 256, 257, 65_568], rng);
     let page_count = any_number(&[0, 1, 2, 16, 31, 32, 33, 256, 257, 65_535, 65_536], rng);
     let image_bytes = any_length(u64::from(page_length) * u64::from(page_count), rng);
-    let table = any_length(2 * u64::from(page_count), rng);
+    let table = any_length(4 * u64::from(page_count), rng);
     let button = Button {
         page_length,
         page_count,

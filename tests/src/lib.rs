@@ -6,11 +6,13 @@
 //!
 //! `generators` has what they are called with, `trials` makes the calls with generated images, `edit_runs` makes long runs of calls on one image,
 //! `plans` works out what edits leave, `puts` has what puts are called with and what they meet, `write_orders` works out the page writes of careful
-//! edits, `stops` stops them after each, `trees` has small trees, `dumps` makes dumps and runs the program `list`, `declarations` reads the header
-//! and what must agree with it.
+//! edits, `stops` stops them after each, `trees` has small trees, `dumps` makes dumps and runs the program `list`, `c_programs` compiles and runs the C
+//! programs of `tests/c`, `c_calls` has the calls that one of them makes, `declarations` reads the header and what must agree with it.
 
 pub mod agreed;
 pub mod both;
+pub mod c_calls;
+pub mod c_programs;
 pub mod declarations;
 pub mod dumps;
 pub mod edit_runs;
@@ -28,14 +30,21 @@ use std::ops::Range;
 
 use referee::builder::pages::Pages;
 use referee::builder::plan::Built;
+use referee::owners::{table_length, RECORD_LENGTH};
 use referee::rng::Rng;
 use referee::{Answer, Length, Listing, Mended, Totals, Writes};
 
 /// What an owner table holds before a call, so that untouched bytes are seen.
 const BEFORE: u8 = 0xC7;
 
-/// Bytes of the owner table past the first N numbers.
+/// Bytes of the owner table past the first N records.
 const EXTRA: usize = 5;
+
+/// What the owner table tells of a page: its owner, and its place in the owner's chain.
+pub type Record = (u16, u16);
+
+/// The record of a free page.
+pub const FREE: Record = (0, 0);
 
 /// An image with its page length and page count. Each call is made by the library and by the second program, with equal answers and equal bytes.
 #[derive(Clone, Debug, PartialEq, Eq)]
@@ -71,33 +80,70 @@ impl From<&mut Pages> for Button {
     }
 }
 
-/// Runs a call with an owner table that is longer than needed, and tells its first N numbers afterwards.
+/// Runs a call with an owner table that is longer than needed, and tells its first N records afterwards.
 /// They are zeros after a fault of the image; the rest never changes.
 fn with_table<T>(
     page_count: u32,
     number: impl Fn(&T) -> u32,
     call: impl FnOnce(&mut [u8]) -> T,
-) -> (T, Vec<u16>) {
-    let used = 2 * page_count as usize;
+) -> (T, Vec<Record>) {
+    let used = table_bytes(page_count);
     let mut table = vec![BEFORE; used + EXTRA];
     let answer = call(&mut table);
     assert!(table[used..].iter().all(|&byte| byte == BEFORE));
-    if number(&answer) == 1 {
-        assert!(table.iter().all(|&byte| byte == BEFORE), "table after 1");
-    }
-    let owners: Vec<u16> = numbers(&table[..used]);
-    if (2..=13).contains(&number(&answer)) && number(&answer) != 4 {
-        assert!(owners.iter().all(|&owner| owner == 0), "table after fault");
+    let owners = records(&table[..used]);
+    match number(&answer) {
+        1 => assert!(table.iter().all(|&byte| byte == BEFORE), "table after 1"),
+        2 | 3 | 5..=13 => assert!(all_free(&owners), "table after fault"),
+        _ => demand_places(&owners),
     }
     (answer, owners)
 }
 
-/// Numbers of 16 bits, low byte first.
-pub fn numbers(bytes: &[u8]) -> Vec<u16> {
-    bytes
-        .chunks_exact(2)
-        .map(|two| u16::from_le_bytes([two[0], two[1]]))
+/// The bytes of an owner table that so many pages need; for a number of pages that no image has, those of some more than any image has.
+pub fn table_bytes(page_count: u32) -> usize {
+    table_length((page_count as usize).min(70_000))
+}
+
+/// The records of an owner table: four bytes each, owner and place, low byte first.
+pub fn records(table: &[u8]) -> Vec<Record> {
+    let number = |low: u8, high: u8| u16::from(low) + 256 * u16::from(high);
+    table
+        .chunks_exact(RECORD_LENGTH)
+        .map(|four| (number(four[0], four[1]), number(four[2], four[3])))
         .collect()
+}
+
+/// Whether all these pages are free.
+pub fn all_free(owners: &[Record]) -> bool {
+    owners.iter().all(|&record| record == FREE)
+}
+
+/// The pages of an owner in the order of its chain, by their places.
+pub fn chain_of(owners: &[Record], owner: u16) -> Vec<usize> {
+    let pages = owners.iter().enumerate();
+    let mut chain: Vec<(u16, usize)> = pages
+        .filter(|(_, record)| record.0 == owner)
+        .map(|(page, record)| (record.1, page))
+        .collect();
+    chain.sort_unstable();
+    chain.into_iter().map(|(_, page)| page).collect()
+}
+
+/// Demands that the pages of each owner have the places 0, 1, 2 and so on, each once, and free pages the place 0.
+fn demand_places(owners: &[Record]) {
+    let mut sorted = owners.to_vec();
+    sorted.sort_unstable();
+    let mut before = FREE;
+    for record in sorted {
+        let next = match record {
+            (0, _) => FREE,
+            (owner, _) if owner == before.0 => (owner, before.1 + 1),
+            (owner, _) => (owner, 0),
+        };
+        assert_eq!(record, next, "places of the owner");
+        before = record;
+    }
 }
 
 /// An answer of number and page.
@@ -173,7 +219,7 @@ impl Button {
     }
 
     /// Check, with the owner table.
-    pub fn check(&self) -> (Totals, Vec<u16>) {
+    pub fn check(&self) -> (Totals, Vec<Record>) {
         with_table(
             self.page_count,
             |totals: &Totals| totals.number,
@@ -191,13 +237,13 @@ impl Button {
                 ..Totals::default()
             };
             assert_eq!(totals, refusal);
-            assert!(owners.iter().all(|&owner| owner == 0));
+            assert!(all_free(&owners));
         }
         answer(totals.number, totals.page)
     }
 
     /// List by number, with the owner table.
-    pub fn list(&self, position: u32) -> (Listing, Vec<u16>) {
+    pub fn list(&self, position: u32) -> (Listing, Vec<Record>) {
         with_table(
             self.page_count,
             |listing: &Listing| listing.number,
@@ -227,7 +273,7 @@ impl Button {
     }
 
     /// Read into `out`; a refusal leaves it alone, a success its rest.
-    pub fn read_into(&self, path: &[u8], out: &mut [u8]) -> (Length, Vec<u16>) {
+    pub fn read_into(&self, path: &[u8], out: &mut [u8]) -> (Length, Vec<Record>) {
         let before = out.to_vec();
         let (length, owners) = with_table(
             self.page_count,
@@ -260,28 +306,33 @@ impl Button {
     }
 
     /// Format, with the owner table; a refusal changes nothing.
-    pub fn format(&mut self, local: bool) -> (Answer, Vec<u16>) {
+    pub fn format(&mut self, local: bool) -> (Answer, Vec<Record>) {
         self.edit(|page_length, page_count, image, table| {
             agreed::format(page_length, page_count, image, table, u32::from(local))
         })
     }
 
     /// Put, with the owner table; a refusal changes nothing.
-    pub fn put(&mut self, path: &[u8], bytes: &[u8]) -> (Answer, Vec<u16>) {
+    pub fn put(&mut self, path: &[u8], bytes: &[u8]) -> (Answer, Vec<Record>) {
         self.edit(|page_length, page_count, image, table| {
             agreed::put(page_length, page_count, image, path, bytes, table)
         })
     }
 
     /// Delete, with the owner table; a refusal changes nothing.
-    pub fn delete(&mut self, path: &[u8]) -> (Answer, Vec<u16>) {
+    pub fn delete(&mut self, path: &[u8]) -> (Answer, Vec<Record>) {
         self.edit(|page_length, page_count, image, table| {
             agreed::delete(page_length, page_count, image, path, table)
         })
     }
 
     /// Careful put with so many writes allowed, with the owner table; a refusal changes nothing.
-    pub fn careful_put(&mut self, path: &[u8], bytes: &[u8], allowed: u32) -> (Writes, Vec<u16>) {
+    pub fn careful_put(
+        &mut self,
+        path: &[u8],
+        bytes: &[u8],
+        allowed: u32,
+    ) -> (Writes, Vec<Record>) {
         self.change(
             |writes: &Writes| writes.number,
             |page_length, page_count, image, table| {
@@ -291,7 +342,7 @@ impl Button {
     }
 
     /// Careful delete with so many writes allowed, with the owner table; a refusal changes nothing.
-    pub fn careful_delete(&mut self, path: &[u8], allowed: u32) -> (Writes, Vec<u16>) {
+    pub fn careful_delete(&mut self, path: &[u8], allowed: u32) -> (Writes, Vec<Record>) {
         self.change(
             |writes: &Writes| writes.number,
             |page_length, page_count, image, table| {
@@ -301,7 +352,7 @@ impl Button {
     }
 
     /// Mend, with the owner table; a refusal changes nothing.
-    pub fn mend(&mut self) -> (Mended, Vec<u16>) {
+    pub fn mend(&mut self) -> (Mended, Vec<Record>) {
         self.change(
             |mended: &Mended| mended.number,
             |page_length, page_count, image, table| {
@@ -314,7 +365,7 @@ impl Button {
     fn edit(
         &mut self,
         call: impl FnOnce(u32, u32, &mut [u8], &mut [u8]) -> Answer,
-    ) -> (Answer, Vec<u16>) {
+    ) -> (Answer, Vec<Record>) {
         self.change(|done: &Answer| done.number, call)
     }
 
@@ -323,7 +374,7 @@ impl Button {
         &mut self,
         number: impl Fn(&T) -> u32,
         call: impl FnOnce(u32, u32, &mut [u8], &mut [u8]) -> T,
-    ) -> (T, Vec<u16>) {
+    ) -> (T, Vec<Record>) {
         let (page_length, page_count) = (self.page_length, self.page_count);
         let image = &mut self.image;
         let (told, owners) = with_table(page_count, &number, |table| {

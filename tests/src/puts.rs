@@ -4,7 +4,7 @@ use std::cmp::Ordering;
 
 use crate::generators::{chain_features, files, is_below_hidden, random_path, worn_plan};
 use crate::plans::{directories, geometry, page_with_space, plan_with, plan_without, Room};
-use crate::{Button, Tally};
+use crate::{records, Button, Tally, FREE};
 use referee::builder::plan::{Built, BuiltEntry, ChainOf, ImagePlan, Item};
 use referee::builder::random::random_name;
 use referee::rng::Rng;
@@ -392,9 +392,10 @@ fn file_features(after: &Built, file: &BuiltEntry) -> Vec<&'static str> {
 /// What the bitmap is like, and how much of it a put changes.
 fn bitmap_features(before: &Built, after: &Built) -> Vec<&'static str> {
     let (old, new) = (Button::from(before), Button::from(after));
-    let mut owners = before.owners.chunks(2).zip(after.owners.chunks(2));
+    let (old_owners, new_owners) = (records(&before.owners), records(&after.owners));
+    let mut owners = old_owners.iter().zip(&new_owners);
     let mut labels = Vec::new();
-    if owners.all(|(old, new)| (old == [0, 0]) == (new == [0, 0])) {
+    if owners.all(|(old, new)| (*old == FREE) == (*new == FREE)) {
         labels.push("bits of the bitmap as they were");
     }
     let mut chains = before.chains.iter();

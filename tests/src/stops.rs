@@ -3,7 +3,7 @@
 
 use crate::plans::{careful_plan_with, geometry, is_path, overlaid, plan_without};
 use crate::write_orders::{Planned, WriteOrder};
-use crate::{answer, both, library, mended, no_writes, numbers, writes, Button};
+use crate::{answer, both, library, mended, no_writes, records, table_bytes, writes, Button};
 use referee::builder::plan::{BuiltEntry, ImagePlan};
 use referee::rng::Rng;
 use referee::Writes;
@@ -55,7 +55,7 @@ pub fn careful_edit(
     allowed: u32,
     rng: &mut Rng,
 ) -> Writes {
-    let table = 2 * button.page_count as usize + rng.below(4);
+    let table = table_bytes(button.page_count) + rng.below(6);
     match edit {
         Edit::Put(bytes) => both::careful_put(button, table, path, bytes, allowed, rng),
         Edit::Delete => both::careful_delete(button, table, path, allowed, rng),
@@ -271,7 +271,7 @@ impl Careful {
         let mut button = stopped.clone();
         let (told, owners) = button.mend();
         assert_eq!(told, mended(extra.len() as u32), "after {made} writes");
-        assert_eq!(owners, numbers(&held.built.owners), "owners once mended");
+        assert_eq!(owners, records(&held.built.owners), "owners once mended");
         self.demand_only_bitmap_written(stopped, &button);
         demand_held(&button, held);
         if held.file(&self.path).is_none() {
@@ -309,9 +309,10 @@ impl Careful {
 /// Demands that the library accepts an image, and lists and reads every entry as planned.
 fn demand_held(button: &Button, held: &Planned) {
     let (p, n, image) = (button.page_length, button.page_count, &button.image);
-    let mut owners = vec![0; 2 * n as usize];
+    let mut owners = vec![0; table_bytes(n)];
     let totals = library::check(p, n, image, &mut owners);
     assert_eq!(totals, held.built.totals, "totals");
+    assert!(owners == held.built.owners, "owners");
     let mut out = vec![0; image.len()];
     for (position, entry) in held.built.entries.iter().enumerate() {
         let listing = library::list(p, n, image, &mut owners, position as u32);

@@ -5,7 +5,7 @@ use crate::generators::{
     random_path, Case, Made, Wanted,
 };
 use crate::plans::{formatted_plan, may_be_local, overlaid};
-use crate::{answer, both, mended, not_mended, Button, Tally};
+use crate::{answer, both, mended, not_mended, table_bytes, Button, Tally};
 use referee::geometry::Geometry;
 use referee::rng::Rng;
 use referee::{Answer, Length, Listing, Writes};
@@ -261,7 +261,7 @@ pub fn format_known(button: &mut Button, owner_bytes: usize, local: u32, rng: &m
         let formatted = formatted_plan(p, n, local != 0).build();
         let expected = overlaid(&before, &formatted);
         assert!(button.image == expected, "known by construction");
-        let totals = both::check(button, 2 * n as usize, rng);
+        let totals = both::check(button, table_bytes(n), rng);
         assert_eq!(totals, formatted.totals);
     }
     told

@@ -43,7 +43,7 @@ fn random_lent(rng: &mut Rng) -> Lent {
     let page_count = random_number(rng, &counts);
     let fitting = u64::from(page_length) * u64::from(page_count);
     let image_length = random_length(rng, fitting);
-    let table_length = random_length(rng, 2 * u64::from(page_count));
+    let table_length = random_length(rng, 4 * u64::from(page_count));
     let image = rng.bytes(image_length);
     let path_length = rng.below(50);
     Lent {

@@ -3,7 +3,9 @@
 //! Programs: the library and the second program. Each call is made by both; every answer and every lent byte is compared.
 //! The archive is made by `rt staticlib owfs`.
 
-use common::{agreed, answer, no_writes, not_mended, numbers, Button};
+use common::{
+    agreed, all_free, answer, chain_of, no_writes, not_mended, records, Button, Record, FREE,
+};
 use referee::builder::pages::{path, Pages};
 use referee::{Answer, Length, Listing, Totals};
 
@@ -67,18 +69,18 @@ fn page_length_or_page_count_outside_its_limits_is_1() {
     for page_length in [0, 1, 31, 257, 65_535, 65_536, 65_568, u32::MAX] {
         let fitting = page_length as usize % 1_000 * 16;
         for image_length in [0, 512, fitting] {
-            refused_with_1(page_length, 16, image_length, 64);
+            refused_with_1(page_length, 16, image_length, 128);
         }
     }
     for page_count in [0, 1, 65_536, 65_552, u32::MAX] {
         for image_length in [0, 32, 512] {
-            refused_with_1(32, page_count, image_length, 64);
+            refused_with_1(32, page_count, image_length, 128);
         }
     }
-    refused_with_1(32, 1, 32, 64);
-    refused_with_1(31, 16, 31 * 16, 64);
-    refused_with_1(257, 16, 257 * 16, 64);
-    refused_with_1(32, 65_536, 32 * 65_536, 2 * 65_536);
+    refused_with_1(32, 1, 32, 128);
+    refused_with_1(31, 16, 31 * 16, 128);
+    refused_with_1(257, 16, 257 * 16, 128);
+    refused_with_1(32, 65_536, 32 * 65_536, 4 * 65_536);
     // Products that are small or zero in 32 bits.
     refused_with_1(65_536, 65_536, 0, 64);
     refused_with_1(u32::MAX, u32::MAX, 1, 64);
@@ -90,26 +92,28 @@ fn page_length_or_page_count_outside_its_limits_is_1() {
 #[test]
 fn image_of_another_length_is_1() {
     for image_length in [0, 1, 32, 511, 513, 544, 1_024] {
-        refused_with_1(32, 16, image_length, 64);
+        refused_with_1(32, 16, image_length, 128);
     }
-    refused_with_1(256, 65_535, 0, 2 * 65_535);
-    refused_with_1(256, 65_535, 256 * 65_535 - 1, 2 * 65_535);
+    refused_with_1(256, 65_535, 0, 4 * 65_535);
+    refused_with_1(256, 65_535, 256 * 65_535 - 1, 4 * 65_535);
 }
 
 #[test]
 fn owner_table_too_short_is_1_and_a_longer_one_keeps_its_rest() {
-    for table_length in [0, 1, 2, 16, 30, 31] {
+    for table_length in [0, 1, 2, 4, 16, 31, 32, 33, 60, 61, 62, 63] {
         refused_with_1(32, 16, 512, table_length);
     }
-    refused_with_1(32, 65_535, 32 * 65_535, 2 * 65_535 - 1);
+    for short in [1, 2, 3, 4, 65_535, 2 * 65_535] {
+        refused_with_1(32, 65_535, 32 * 65_535, 4 * 65_535 - short);
+    }
     let mut image = vec![0; 512];
-    for table_length in [32, 33, 34, 1_000] {
+    for table_length in [64, 65, 66, 67, 68, 1_000] {
         let mut table = vec![0x99; table_length];
-        let done = agreed::format(32, 16, &mut image, &mut table, 1);
+        let done = agreed::format(32, 16, &mut image, &mut table, 0);
         assert_eq!(done, answer(0, 0));
-        assert_eq!(table[..4], [1, 0, 0, 0]);
-        assert!(table[4..32].iter().all(|&byte| byte == 0));
-        assert!(table[32..].iter().all(|&byte| byte == 0x99));
+        assert_eq!(table[..8], [1, 0, 0, 0, 2, 0, 0, 0]);
+        assert!(table[8..64].iter().all(|&byte| byte == 0));
+        assert!(table[64..].iter().all(|&byte| byte == 0x99));
     }
 }
 
@@ -129,9 +133,10 @@ fn sample() -> Button {
     Button::from(&pages)
 }
 
-const SAMPLE_OWNERS: [u16; 7] = [1, 3, 4, 5, 6, 7, 0];
+/// The records of the first pages of the sample; each chain has one page.
+const SAMPLE_OWNERS: [Record; 7] = [(1, 0), (3, 0), (4, 0), (5, 0), (6, 0), (7, 0), FREE];
 
-/// Demands one refusal of a path from read, put and delete, with the owners of the accepted image.
+/// Demands one refusal of a path from read, put and delete, with the records of the accepted image.
 fn path_refused(path: &[u8], number: u32) {
     let mut button = sample();
     let (length, owners) = button.read_into(path, &mut [0; 100]);
@@ -334,7 +339,7 @@ fn check_tells_pages_in_use_files_directories_and_owners() {
     assert_eq!(owners[..7], SAMPLE_OWNERS);
 }
 
-/// Walk order: right after a subdirectory's entry all entries below it; each page has its own entry's number.
+/// Walk order: right after a subdirectory's entry all entries below it; each page has its own entry's number, and its place in that entry's chain.
 #[test]
 fn owner_numbers_follow_walk_order() {
     let mut pages = Pages::new(32, 16);
@@ -355,7 +360,22 @@ fn owner_numbers_follow_walk_order() {
     pages.packet(9, &[0xFB, 0x07], 0);
     let (totals, owners) = Button::from(&pages).check();
     assert_eq!((totals.used, totals.files, totals.directories), (10, 2, 2));
-    assert_eq!(owners[..12], [1, 1, 0, 3, 3, 4, 5, 6, 6, 2, 4, 0]);
+    let (first, second) = (0, 1);
+    let known = [
+        (1, first),
+        (1, second),
+        FREE,
+        (3, first),
+        (3, second),
+        (4, first),
+        (5, first),
+        (6, second),
+        (6, first),
+        (2, first),
+        (4, second),
+        FREE,
+    ];
+    assert_eq!(owners[..12], known);
 }
 
 #[test]
@@ -363,16 +383,16 @@ fn refused_format_leaves_the_owners_of_the_image_as_it_stands() {
     let mut button = Button::formatted(32, 40, false);
     let (done, owners) = button.format(true);
     assert_eq!(done, answer(4, 0));
-    assert_eq!(owners[..3], [1, 2, 0]);
+    assert_eq!(owners[..3], [(1, 0), (2, 0), FREE]);
     let mut blank = Button::zeros(32, 40);
     let (done, owners) = blank.format(true);
     assert_eq!(done, answer(4, 0));
-    assert!(owners.iter().all(|&owner| owner == 0));
-    let mut table = vec![9; 80];
+    assert!(all_free(&owners));
+    let mut table = vec![9; 160];
     let mut short = vec![0; 40 * 32 - 1];
     let refused = agreed::format(32, 40, &mut short, &mut table, 1);
     assert_eq!(refused, answer(1, 0));
-    assert_eq!(table, vec![9; 80]);
+    assert_eq!(table, vec![9; 160]);
 }
 
 #[test]
@@ -401,9 +421,9 @@ fn format_lays_the_bitmap_file_from_page_1_in_full_packets() {
         }
         let (totals, owners) = button.check();
         assert_eq!(totals.used as usize, 1 + lengths.len());
-        assert_eq!(owners[0], 1);
-        let files = owners.iter().filter(|&&owner| owner == 2).count();
-        assert_eq!(files, lengths.len());
+        assert_eq!(chain_of(&owners, 1), [0]);
+        let file: Vec<usize> = (1..=lengths.len()).collect();
+        assert_eq!(chain_of(&owners, 2), file);
     }
 }
 
@@ -430,11 +450,11 @@ fn format_takes_any_bytes_and_keeps_those_outside_its_packets() {
 fn any_number_but_0_asks_format_for_a_local_bitmap() {
     for local in [1, 2, 0x80, 256, 65_536, u32::MAX] {
         let mut image = vec![0; 512];
-        let mut table = vec![0; 32];
+        let mut table = vec![7; 64];
         let done = agreed::format(32, 16, &mut image, &mut table, local);
         assert_eq!(done, Answer::default());
         assert_eq!(image[3], 0x80);
-        assert_eq!(numbers(&table)[..2], [1, 0]);
+        assert_eq!(records(&table)[..2], [(1, 0), FREE]);
     }
 }
 
@@ -452,7 +472,8 @@ fn growing_directory_takes_the_lowest_free_page_before_the_file() {
     assert_eq!(button.put(b"D   \x01", &[1; 57]).0, answer(17, 0));
     let (done, owners) = button.put(b"D   \x01", &[1; 56]);
     assert_eq!(done, answer(0, 0));
-    assert_eq!(owners, [1, 3, 4, 1, 5, 6, 6, 5]);
+    assert_eq!(owners[..4], [(1, 0), (3, 0), (4, 0), (1, 1)]);
+    assert_eq!(owners[4..], [(5, 0), (6, 0), (6, 1), (5, 1)]);
     assert_eq!(button.pages().pointer(0), 3);
     let entry = button.pages().entry("D", 1, 5, 2);
     assert_eq!(button.pages().body(3), entry);
@@ -565,7 +586,9 @@ fn a_replaced_entry_keeps_its_place() {
     assert_eq!(after[7..14], before[7..14]);
     assert_eq!(after[14..21], button.pages().entry("B", 1, 2, 3));
     assert_eq!(after[21..], before[21..]);
-    assert_eq!(button.check().1[..7], [1, 3, 4, 5, 4, 4, 0]);
+    let owners = button.check().1;
+    assert_eq!(owners[..4], [(1, 0), (3, 0), (4, 0), (5, 0)]);
+    assert_eq!(owners[4..7], [(4, 1), (4, 2), FREE]);
 }
 
 /// A bitmap file keeps its packets' lengths, also empty ones, and only changes bits.

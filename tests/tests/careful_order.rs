@@ -4,7 +4,7 @@
 //! The archive is made by `rt staticlib owfs`.
 
 use common::stops::{pages_written, Edit};
-use common::{answer, mended, no_writes, writes, Button};
+use common::{all_free, answer, chain_of, mended, no_writes, writes, Button, FREE};
 use referee::builder::pages::{path, Pages};
 use referee::rng::Rng;
 
@@ -79,11 +79,12 @@ fn writes_left_are_told_by_the_number_allowed() {
         let mut button = formatted(true);
         let (put, owners) = button.careful_put(&file("A"), b"a", allowed);
         assert_eq!(put, told);
-        let known = if allowed < 3 { [0, 0, 0] } else { [1, 3, 0] };
-        match allowed {
-            0 => assert_eq!(owners[..3], [1, 0, 0]),
-            _ => assert_eq!(owners[..3], known),
-        }
+        let known = match allowed {
+            0 => [(1, 0), FREE, FREE],
+            1 | 2 => [FREE, FREE, FREE],
+            _ => [(1, 0), (3, 0), FREE],
+        };
+        assert_eq!(owners[..3], known);
     }
 }
 
@@ -101,7 +102,7 @@ fn a_replaced_file_is_released_last() {
     let mut whole = button.clone();
     let (told, owners) = whole.careful_put(&file("A"), &new, u32::MAX);
     assert_eq!(told, writes(5, false));
-    assert_eq!(owners[..5], [1, 0, 3, 3, 0]);
+    assert_eq!(owners[..5], [(1, 0), FREE, (3, 0), (3, 1), FREE]);
     // The old page keeps its bytes.
     assert_eq!(whole.page(1), button.page(1));
     assert_eq!(whole, stopped);
@@ -128,7 +129,8 @@ fn a_directory_grows_after_the_files_pages() {
     assert_eq!(put_order(&stopped, &file("D"), &[1; 29]), [0, 0]);
     let (told, owners) = stopped.careful_put(&file("D"), &[1; 29], 2);
     assert_eq!(told, writes(2, false));
-    assert_eq!(owners[..8], [1, 3, 4, 5, 1, 6, 6, 0]);
+    assert_eq!(owners[..4], [(1, 0), (3, 0), (4, 0), (5, 0)]);
+    assert_eq!(owners[4..8], [(1, 1), (6, 0), (6, 1), FREE]);
     // The entry on the new page comes after those of the first page.
     assert_eq!(stopped.list_all()[3].start, 5);
 }
@@ -181,11 +183,11 @@ fn a_delete_writes_the_directory_page_first() {
     let mut stopped = button.clone();
     let (told, owners) = stopped.careful_delete(&file("A"), 1);
     assert_eq!(told, writes(1, true));
-    assert!(owners.iter().all(|&owner| owner == 0));
+    assert!(all_free(&owners));
     assert_eq!(stopped.verdict(), answer(13, 1));
     let (told, owners) = stopped.mend();
     assert_eq!(told, mended(3));
-    assert_eq!(owners[..4], [1, 0, 0, 0]);
+    assert_eq!(owners[..4], [(1, 0), FREE, FREE, FREE]);
     let mut whole = button.clone();
     assert_eq!(whole.careful_delete(&file("A"), 2).0, writes(2, false));
     assert_eq!(whole, stopped);
@@ -194,7 +196,7 @@ fn a_delete_writes_the_directory_page_first() {
     assert_eq!(whole, plain);
     let (told, owners) = button.clone().careful_delete(&file("A"), 0);
     assert_eq!(told, writes(0, true));
-    assert_eq!(owners[..4], [1, 3, 3, 3]);
+    assert_eq!(owners[..4], [(1, 0), (3, 0), (3, 1), (3, 2)]);
 }
 
 /// A directory D at page 3 with X.1 at page 4; a bitmap file on pages 9 and 4 or 5, in this order, of one byte each.
@@ -270,7 +272,8 @@ fn no_room_is_counted_without_the_old_chain() {
         for allowed in [0, 1, u32::MAX] {
             let (told, owners) = button.clone().careful_put(&file("A"), bytes, allowed);
             assert_eq!(told, no_writes(17, 0));
-            assert_eq!(owners, [&[1][..], &[3; 15]].concat());
+            assert_eq!((owners.len(), owners[0]), (16, (1, 0)));
+            assert_eq!(chain_of(&owners, 3), (1..16).collect::<Vec<usize>>());
         }
         assert_eq!(button.clone().put(&file("A"), bytes).0, answer(0, 0));
     }

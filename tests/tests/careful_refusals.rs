@@ -5,14 +5,14 @@
 
 use common::generators::{damaged_case, fault_case, files, sound_case, Made};
 use common::plans::is_path;
-use common::{agreed, no_writes, not_mended, run_seeds, Button, Tally};
+use common::{agreed, no_writes, not_mended, run_seeds, table_bytes, Button, Tally};
 use referee::builder::pages::{path, Pages};
 use referee::{Mended, Writes};
 
 /// What the owner table holds before a call.
 const BEFORE: u8 = 0xC7;
 
-/// Bytes of the owner table past the first 2N.
+/// Bytes of the owner table past the first N records.
 const EXTRA: usize = 7;
 
 /// The numbers of writes that are allowed.
@@ -93,11 +93,11 @@ fn demand_all_refused(button: &Button, owner_bytes: usize, number: u32, page: u3
 fn arguments_that_do_not_fit_are_1() {
     run_seeds(0xEB00_0000..0xEB00_0000 + 300, |_, rng| {
         let case = damaged_case(Made::Misfit, rng);
-        let enough = 2 * (case.button.page_count as usize).min(70_000);
+        let enough = table_bytes(case.button.page_count);
         demand_all_refused(&case.button, enough + EXTRA, 1, 0, &[]);
     });
     let button = Button::formatted(32, 16, true);
-    for owner_bytes in [0, 1, 16, 30, 31] {
+    for owner_bytes in [0, 1, 32, 60, 61, 62, 63] {
         demand_all_refused(&button, owner_bytes, 1, 0, &[]);
     }
     for (page_length, page_count) in [
@@ -115,18 +115,18 @@ fn arguments_that_do_not_fit_are_1() {
             page_count,
             image: button.image.clone(),
         };
-        demand_all_refused(&odd, 140_000, 1, 0, &[]);
+        demand_all_refused(&odd, 280_000, 1, 0, &[]);
     }
     for image_bytes in [0, 511, 513] {
         let odd = Button {
             image: vec![0x3C; image_bytes],
             ..button.clone()
         };
-        demand_all_refused(&odd, 32, 1, 0, &[]);
+        demand_all_refused(&odd, 64, 1, 0, &[]);
     }
 }
 
-/// Each fault of an image, with all owner numbers 0 afterwards.
+/// Each fault of an image, with all owner records 0 afterwards.
 #[test]
 fn faults_of_the_image_are_2_to_13() {
     let mut tally = Tally::default();
@@ -135,7 +135,7 @@ fn faults_of_the_image_are_2_to_13() {
         let Made::OneFault(fault) = case.made else {
             return;
         };
-        let enough = 2 * case.button.page_count as usize;
+        let enough = table_bytes(case.button.page_count);
         let zeros = vec![0; enough];
         demand_all_refused(
             &case.button,
@@ -149,7 +149,7 @@ fn faults_of_the_image_are_2_to_13() {
     tally.demand_numbers("refused", 20, 2..=13);
 }
 
-/// A button with A.1 of two pages, a read-only file R.2 and a directory D with a read-only file S.3; pages 6 and 7 are free.
+/// A button with A.1 of two pages, a read-only file R.2 and a directory D with a read-only file S.3; pages 6 and 7 are free. Its table is given too.
 fn sample() -> (Button, Vec<u8>) {
     let mut pages = Pages::new(32, 8);
     let mut root = pages.local_control(&[0, 1, 2, 3, 4, 5]);
@@ -161,15 +161,23 @@ fn sample() -> (Button, Vec<u8>) {
     pages.packet(0, &root, 0).packet(1, b"aa", 2);
     pages.packet(2, b"a", 0).packet(3, b"r", 0);
     pages.packet(4, &sub, 0).packet(5, b"s", 0);
-    let owners = [1, 3, 3, 4, 5, 6, 0, 0];
-    let owners = owners.iter().flat_map(|owner: &u16| owner.to_le_bytes());
-    (Button::from(&pages), owners.collect())
+    let owners = [
+        [1, 0, 0, 0],
+        [3, 0, 0, 0],
+        [3, 0, 1, 0],
+        [4, 0, 0, 0],
+        [5, 0, 0, 0],
+        [6, 0, 0, 0],
+        [0; 4],
+        [0; 4],
+    ];
+    (Button::from(&pages), owners.concat())
 }
 
 /// Demands refusals of a path, which have the owners of the accepted image.
 fn demand_path_refused(path: &[u8], bytes: &[u8], put: u32, delete: u32) {
     let (button, owners) = sample();
-    for owner_bytes in [16, 17, 16 + EXTRA] {
+    for owner_bytes in [32, 33, 32 + EXTRA] {
         for allowed in ALLOWED {
             let mut lent = Lent::new(&button, owner_bytes);
             if put != 0 {

@@ -37,13 +37,15 @@ fn checks_of_many_pages_with_longer_tables_are_the_second_programs() {
         let page_count = [257, 5_000, 65_534, 65_535][case as usize % 4];
         let built = random_image(32, page_count, &mut rng);
         let mut button = Button::from(&built);
-        for length in [131_069, 131_070, 131_071, 131_072, 200_001] {
+        for length in [
+            131_070, 262_136, 262_139, 262_140, 262_141, 262_144, 400_001,
+        ] {
             both::check(&button, length, &mut rng);
         }
         flip(&mut button.image, &mut rng);
-        both::check(&button, 131_100, &mut rng);
+        both::check(&button, 262_200, &mut rng);
         button.page_count += 2;
-        both::check(&button, 140_000, &mut rng);
+        both::check(&button, 280_000, &mut rng);
     }
 }
 
@@ -56,7 +58,7 @@ fn check_of_an_empty_image_is_1() {
             page_count,
             image: Vec::new(),
         };
-        for length in 0..6 {
+        for length in 0..10 {
             assert_eq!(both::check(&button, length, &mut rng).number, 1);
         }
     }

@@ -10,7 +10,7 @@ use common::generators::{
 };
 use common::plans::{overlaid, plan_without};
 use common::trials::{format_known, Trial};
-use common::{answer, both, run_seeds, Button, Seed, Tally};
+use common::{answer, both, run_seeds, table_bytes, Button, Seed, Tally};
 use referee::builder::pages::{path, Pages};
 use referee::builder::plan::{Built, BuiltEntry, ChainOf, ImagePlan};
 use referee::builder::random::random_name;
@@ -209,7 +209,7 @@ impl Worn<'_> {
         let without = without.build();
         let expected = overlaid(&Button::from(self.built), &without);
         assert!(button.image == expected, "known by construction");
-        let table = 2 * button.page_count as usize;
+        let table = table_bytes(button.page_count);
         assert_eq!(both::check(button, table, rng), without.totals);
     }
 }
@@ -253,7 +253,7 @@ fn deletes_one_after_the_other_leave_the_planned_images() {
         let mut plan = worn_plan(rng);
         let built = plan.build();
         let mut button = Button::from(&built);
-        let table = 2 * button.page_count as usize;
+        let table = table_bytes(button.page_count);
         let mut left: Vec<&BuiltEntry> = files(&built);
         rng.shuffle(&mut left);
         left.truncate(60);
@@ -383,7 +383,7 @@ fn formats_of_every_page_count_leave_the_planned_image() {
             for local in [0, 1] {
                 let mut button = Button::zeros(page_length, page_count);
                 button.image = rng.bytes(button.image.len());
-                let table = 2 * page_count as usize + rng.below(4);
+                let table = table_bytes(page_count) + rng.below(6);
                 format_known(&mut button, table, local, rng);
                 formats += 1;
             }
@@ -413,7 +413,7 @@ fn format_fills_all_packets_of_the_bitmap_file_but_the_last() {
     ] {
         let mut button = Button::zeros(page_length, page_count);
         button.image = rng.bytes(button.image.len());
-        let table = 2 * page_count as usize;
+        let table = table_bytes(page_count);
         assert_eq!(format_known(&mut button, table, 0, &mut rng), answer(0, 0));
         let pages = button.pages();
         for (place, &length) in lengths.iter().enumerate() {
@@ -433,7 +433,7 @@ fn formats_of_65535_pages_leave_the_planned_image_or_are_refused() {
     let seed = Seed(0xA600_0000);
     let mut rng = Rng::new(seed.0);
     for (page_length, page_count) in [(32, 65_535), (33, 65_534), (64, 65_528), (256, 65_535)] {
-        let table = 2 * page_count as usize;
+        let table = table_bytes(page_count);
         let mut button = Button::zeros(page_length, page_count);
         button.image = rng.bytes(button.image.len());
         for (local, number) in [(1, 4), (0, 0), (u32::MAX, 4), (0, 0)] {
@@ -444,7 +444,7 @@ fn formats_of_65535_pages_leave_the_planned_image_or_are_refused() {
         assert_eq!(told, answer(1, 0));
         button.page_count = 65_536;
         button.image.resize(65_536 * page_length as usize, 0);
-        let told = format_known(&mut button, 2 * 65_536, 0, &mut rng);
+        let told = format_known(&mut button, 4 * 65_536, 0, &mut rng);
         assert_eq!(told, answer(1, 0));
     }
 }
@@ -470,14 +470,14 @@ fn deletes_from_65535_pages_are_done_or_refused_as_known() {
         let last = files.len() - 1;
         let any = rng.between(1, last - 1);
         for entry in [files[last], files[0], files[any]] {
-            let told = both::delete(&mut button, 131_071, &entry.path, &mut rng);
+            let told = both::delete(&mut button, 262_141, &entry.path, &mut rng);
             let expected = if entry.listing.attribute == 1 { 16 } else { 0 };
             assert_eq!(told, answer(expected, 0));
         }
-        let totals = both::check(&button, 131_070, &mut rng);
+        let totals = both::check(&button, 262_140, &mut rng);
         assert_eq!(totals.number, 0);
         flip(&mut button.image, &mut rng);
-        both::delete(&mut button, 131_070, &files[any].path, &mut rng);
+        both::delete(&mut button, 262_140, &files[any].path, &mut rng);
     }
 }
 
@@ -526,7 +526,7 @@ fn delete_and_format_of_empty_slices_are_1_or_14() {
         }
     }
     let mut button = Button::formatted(32, 16, true);
-    let told = both::delete(&mut button, 32, b"", &mut rng);
+    let told = both::delete(&mut button, 64, b"", &mut rng);
     assert_eq!(told, answer(14, 0));
     let told = both::delete(&mut button, 0, b"", &mut rng);
     assert_eq!(told, answer(1, 0));
@@ -540,7 +540,7 @@ fn deletes_of_paths_of_another_length_are_14() {
     run_seeds(0xA900_0000..0xA900_0000 + 20, |_, rng| {
         let built = deep_image(rng);
         let mut button = Button::from(&built);
-        let table = 2 * button.page_count as usize;
+        let table = table_bytes(button.page_count);
         let deepest = built.entries.iter().max_by_key(|entry| entry.path.len());
         let deepest = deepest.map_or(Vec::new(), |entry| entry.path.clone());
         for length in (0..=40).chain([41, 45, 69, 261, 65_541, 100_001]) {
@@ -607,13 +607,13 @@ fn entries_move_up_in_their_page_only() {
         (path(&["S"], "E", 1), "BS", "", ""),
         (path(&[], "B", 1), "S", "", ""),
     ] {
-        assert_eq!(both::delete(&mut button, 32, &path, &mut rng), answer(0, 0));
+        assert_eq!(both::delete(&mut button, 64, &path, &mut rng), answer(0, 0));
         for (page, names, next) in [(0, root, 4), (4, second, 0), (6, sub, 7)] {
             assert_eq!(entries_of(&button, page), names.as_bytes());
             assert_eq!(button.pages().pointer(page), next);
         }
     }
-    let totals = both::check(&button, 32, &mut rng);
+    let totals = both::check(&button, 64, &mut rng);
     assert_eq!((totals.used, totals.files, totals.directories), (4, 0, 1));
     // The freed pages have the bytes that they had.
     for page in [1, 2, 3, 5, 8] {
@@ -648,7 +648,7 @@ fn delete_keeps_the_lengths_of_the_bitmap_files_packets() {
             .collect()
     };
     assert_eq!(bits(&button), full);
-    let told = both::delete(&mut button, 80, b"F   \x01", &mut rng);
+    let told = both::delete(&mut button, 160, b"F   \x01", &mut rng);
     assert_eq!(told, answer(0, 0));
     assert_eq!(bits(&button), empty);
     let after = button.pages();
@@ -680,10 +680,10 @@ fn delete_takes_a_file_and_a_directory_of_one_name_for_two() {
         (path(&["X"], "X", 5), 0),
         (path(&["X"], "X", 5), 15),
     ] {
-        let told = both::delete(&mut button, 16, &path, &mut rng);
+        let told = both::delete(&mut button, 32, &path, &mut rng);
         assert_eq!(told, answer(number, 0));
     }
-    let totals = both::check(&button, 16, &mut rng);
+    let totals = both::check(&button, 32, &mut rng);
     assert_eq!((totals.used, totals.files, totals.directories), (2, 0, 1));
 }
 
@@ -694,7 +694,7 @@ fn delete_and_format_judge_the_arguments_first() {
         let (page_length, page_count) = random_sizes(rng, 80);
         let mut button = Button::zeros(page_length, page_count.max(33));
         misfit(&mut button, rng);
-        let table = 2 * (button.page_count as usize).min(70_000);
+        let table = table_bytes(button.page_count);
         let local = (seed % 2) as u32;
         let told = both::format(&mut button, table, local, rng);
         assert_eq!(told, answer(1, 0));

@@ -4,7 +4,7 @@
 //! The archive is made by `rt staticlib owfs`.
 
 use common::agreed::check_bytes;
-use common::{answer, Button};
+use common::{all_free, answer, chain_of, Button, Record};
 use referee::builder::pages::{path, Pages};
 use referee::geometry::Geometry;
 use referee::{Listing, Totals};
@@ -50,10 +50,10 @@ fn totals(used: u32, files: u32, directories: u32) -> Totals {
     }
 }
 
-/// Demands that the first pages have these owners and all others none.
-fn owned(owners: &[u16], first: &[u16]) {
+/// Demands that the first pages have these owners and places, and that all others are free.
+fn owned(owners: &[Record], first: &[Record]) {
     assert_eq!(owners[..first.len()], *first);
-    assert!(owners[first.len()..].iter().all(|&owner| owner == 0));
+    assert!(all_free(&owners[first.len()..]));
 }
 
 /// Example 2 with every other byte of the image set to `fill`.
@@ -61,7 +61,7 @@ fn example_2(fill: u8) -> Button {
     let mut button = filled(16, fill);
     let (done, owners) = button.format(true);
     assert_eq!(done, answer(0, 0));
-    owned(&owners, &[1]);
+    owned(&owners, &[(1, 0)]);
     button
 }
 
@@ -70,7 +70,7 @@ fn example_3(fill: u8) -> Button {
     let mut button = example_2(fill);
     let (done, owners) = button.put(b"DEMO\x0C", b"TEST");
     assert_eq!(done, answer(0, 0));
-    owned(&owners, &[1, 3]);
+    owned(&owners, &[(1, 0), (3, 0)]);
     button
 }
 
@@ -96,7 +96,7 @@ fn example_02_printed_page() {
     let button = starting_with(&[&PAGE_0_FORMATTED]);
     let (told, owners) = button.check();
     assert_eq!(told, totals(1, 0, 0));
-    owned(&owners, &[1]);
+    owned(&owners, &[(1, 0)]);
     let absent = Listing {
         number: 15,
         ..Listing::default()
@@ -124,7 +124,7 @@ fn example_03_printed_pages() {
     let button = starting_with(&[&PAGE_0_DEMO, &PAGE_1_DEMO]);
     let (told, owners) = button.check();
     assert_eq!(told, totals(2, 1, 0));
-    owned(&owners, &[1, 3]);
+    owned(&owners, &[(1, 0), (3, 0)]);
     let demo = Listing {
         name: u32::from_le_bytes(*b"DEMO"),
         extension: 12,
@@ -144,7 +144,7 @@ fn example_04_delete() {
         let before = button.clone();
         let (done, owners) = button.delete(b"DEMO\x0C");
         assert_eq!(done, answer(0, 0));
-        owned(&owners, &[1]);
+        owned(&owners, &[(1, 0)]);
         assert_eq!(button.page(0)[..11], PAGE_0_FORMATTED);
         let stays = [0x4F, 0x0C, 0x01, 0x01, 0x00, 0x73, 0xA5];
         assert_eq!(button.page(0)[11..18], stays);
@@ -187,8 +187,8 @@ fn example_07_all_pages() {
     let other: Vec<u8> = bytes[..420].iter().map(|byte| !byte).collect();
     let (done, owners) = button.put(b"BIG \x07", &other);
     assert_eq!(done, answer(0, 0));
-    assert_eq!(owners[0], 1);
-    assert!(owners[1..].iter().all(|&owner| owner == 3));
+    assert_eq!(owners[0], (1, 0));
+    assert_eq!(chain_of(&owners, 3), (1..16).collect::<Vec<usize>>());
     assert_eq!(button.read(b"BIG \x07"), (0, other));
 }
 
@@ -199,7 +199,8 @@ fn example_08_fourth_file() {
         assert_eq!(button.put(&path(&[], file, 1), b"one").0, answer(0, 0));
         assert_eq!(button.check().0.used, used);
     }
-    owned(&button.check().1, &[1, 3, 4, 5, 1, 6]);
+    let known = [(1, 0), (3, 0), (4, 0), (5, 0), (1, 1), (6, 0)];
+    owned(&button.check().1, &known);
 }
 
 /// N 32 with a local bitmap is formatted; N 33 is 4 and changes nothing, and its owners are those of the image as it stands.
@@ -209,7 +210,7 @@ fn example_09_format() {
         let mut button = filled(page_count, 0xFF);
         let (done, owners) = button.format(true);
         assert_eq!(done, answer(0, 0));
-        owned(&owners, &[1]);
+        owned(&owners, &[(1, 0)]);
         assert_eq!(button.page(0)[..11], PAGE_0_FORMATTED);
         assert!(button.image[11..].iter().all(|&byte| byte == 0xFF));
         assert_eq!(button.check().0, totals(1, 0, 0));
@@ -222,11 +223,11 @@ fn example_09_format() {
     assert_eq!(button, filled(33, 0xFF));
     let (done, owners) = button.format(false);
     assert_eq!(done, answer(0, 0));
-    owned(&owners, &[1, 2]);
+    owned(&owners, &[(1, 0), (2, 0)]);
     let accepted = button.clone();
     let (done, owners) = button.format(true);
     assert_eq!(done, answer(4, 0));
-    owned(&owners, &[1, 2]);
+    owned(&owners, &[(1, 0), (2, 0)]);
     assert_eq!(button, accepted);
 }
 
@@ -254,7 +255,7 @@ fn example_10_format() {
         let mut button = filled(page_count, 0xFF);
         let (done, owners) = button.format(false);
         assert_eq!(done, answer(0, 0));
-        owned(&owners, &[1, 2, 2]);
+        owned(&owners, &[(1, 0), (2, 0), (2, 1)]);
         assert_eq!(button.check().0, totals(3, 0, 0));
         assert_eq!(button.page(0)[..root.len()], *root);
         let n = if page_count == 256 { 1 } else { 2 };

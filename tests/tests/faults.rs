@@ -696,7 +696,8 @@ fn empty_packets_are_accepted() {
     pages.packet(3, &[0], 0);
     accepted(&pages);
     let (_, owners) = Button::from(&pages).check();
-    assert_eq!(owners[..6], [1, 2, 2, 2, 1, 0]);
+    let known = [(1, 0), (2, 0), (2, 1), (2, 2), (1, 1), (0, 0)];
+    assert_eq!(owners[..6], known);
 }
 
 #[test]

@@ -4,7 +4,7 @@
 //! The archive is made by `rt staticlib owfs`.
 
 use common::generators::{deep_image, random_sizes};
-use common::{answer, numbers, Button, Seed};
+use common::{answer, records, Button, Seed, FREE};
 use referee::builder::fault::{with_fault, with_random_changes};
 use referee::builder::plan::{Built, ChainOf};
 use referee::builder::random::random_image;
@@ -15,7 +15,7 @@ fn agrees(built: &Built, rng: &mut Rng) {
     let button = Button::from(built);
     let (totals, owners) = button.check();
     assert_eq!(totals, built.totals);
-    assert_eq!(owners, numbers(&built.owners));
+    assert_eq!(owners, records(&built.owners));
     let all = built.entries.len() <= 40;
     for (position, entry) in built.entries.iter().enumerate() {
         if !all && !rng.chance(2_000 / built.entries.len()) {
@@ -23,7 +23,7 @@ fn agrees(built: &Built, rng: &mut Rng) {
         }
         let (listing, owners) = button.list(position as u32);
         assert_eq!(listing, entry.listing);
-        assert_eq!(owners, numbers(&built.owners));
+        assert_eq!(owners, records(&built.owners));
         if built.chains[entry.chain].of == ChainOf::File {
             assert_eq!(button.read(&entry.path), (0, entry.bytes.clone()));
         }
@@ -149,9 +149,9 @@ fn all_calls_agree_on_altered_images() {
             continue;
         }
         let (totals, owners) = button.check();
-        let used = owners.iter().filter(|&&owner| owner != 0).count();
+        let used = owners.iter().filter(|&&record| record != FREE).count();
         assert_eq!(totals.used as usize, used);
-        let highest = owners.iter().copied().max().unwrap_or(0);
+        let highest = owners.iter().map(|record| record.0).max().unwrap_or(0);
         let entries = totals.files + totals.directories;
         assert!(entries == 0 || u32::from(highest) == 2 + entries);
     }

@@ -57,6 +57,17 @@ fn the_header_declares_ten_functions_and_six_structs() {
     assert_eq!(counts, [9, 11, 6, 3, 8, 7, 7, 6, 10, 10, 2, 9, 3, 3, 5, 4]);
 }
 
+/// Each call but the check sum has its stack in its comment, and twice what its owner table needs; careful delete names careful put instead.
+#[test]
+fn the_header_tells_stack_and_owner_table_of_each_call() {
+    let text = header();
+    let stack = "Stack: less than 16 KiB, for every page count,";
+    assert_eq!(text.matches(stack).count(), 9);
+    assert_eq!(text.matches("Stack: ").count(), 10);
+    assert_eq!(text.matches("4 * page_count").count(), 2 * 8);
+    assert_eq!(text.matches("2 * page_count").count(), 0);
+}
+
 #[test]
 fn the_rust_declarations_are_the_headers() {
     let found = differences(&of_header(&header()), &rust());

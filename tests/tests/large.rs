@@ -4,7 +4,7 @@
 //! The archive is made by `rt staticlib owfs`.
 
 use common::generators::largest_image;
-use common::{answer, both, mended, no_writes, numbers, writes, Button, Seed};
+use common::{answer, both, mended, no_writes, records, writes, Button, Seed};
 use referee::builder::plan::Built;
 use referee::rng::Rng;
 
@@ -15,7 +15,7 @@ const ALL: &[u8] = b"ALL \x00";
 fn counted_and_owned(built: &Built) {
     let (totals, owners) = Button::from(built).check();
     assert_eq!(totals, built.totals);
-    assert_eq!(owners, numbers(&built.owners));
+    assert_eq!(owners, records(&built.owners));
 }
 
 #[test]
@@ -37,7 +37,7 @@ fn every_page_in_use_is_counted_and_owned_and_a_put_is_17() {
     let last = built.entries.len() as u32 - 1;
     let entry = &built.entries[last as usize];
     assert_eq!(button.list(last).0, entry.listing);
-    let told = both::put(&mut button, 131_070, b"NEW \x01", b"", &mut Rng::new(72));
+    let told = both::put(&mut button, 262_140, b"NEW \x01", b"", &mut Rng::new(72));
     assert_eq!(told, answer(17, 0));
 }
 

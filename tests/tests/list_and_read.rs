@@ -8,7 +8,7 @@ use common::generators::{
     two_faults_case, Case, Made, OWNER_TABLES,
 };
 use common::trials::{absent, Trial};
-use common::{answer, both, Button, Seed, Tally};
+use common::{answer, both, table_bytes, Button, Seed, Tally};
 use referee::builder::pages::{name, Pages};
 use referee::builder::random::random_name;
 use referee::rng::Rng;
@@ -222,7 +222,7 @@ fn calls_on_65535_pages_are_as_planned_or_the_second_programs() {
 
 /// The number of a read; it must be 14 if no path has so many bytes.
 fn read_path(button: &Button, path: &[u8], rng: &mut Rng) -> u32 {
-    let owner_bytes = 2 * button.page_count as usize;
+    let owner_bytes = table_bytes(button.page_count);
     let told = both::read(button, owner_bytes, path, 300, rng);
     let well_formed = path.len() % 4 == 1 && (5..=37).contains(&path.len());
     if !well_formed {
@@ -291,7 +291,7 @@ fn long_file_is_read_whole_or_is_18() {
         let length = free * (page_length as usize - 5);
         let bytes: Vec<u8> = (0..length).map(|place| (place / 7) as u8).collect();
         assert_eq!(button.put(b"ALL \x63", &bytes).0, answer(0, 0));
-        let table = 2 * page_count as usize;
+        let table = table_bytes(page_count);
         let listing = both::list(&button, table, 0, &mut rng);
         let sizes = (listing.pages as usize, listing.length as usize);
         assert_eq!(sizes, (free, length));
@@ -347,26 +347,26 @@ fn files_down_to_level_eight_are_listed_and_read() {
     for level in 0..=8 {
         let mut path = names_to_level(level);
         path.extend(*b"FILE\x05");
-        let (told, bytes) = both::read_bytes(&button, 40, &path, 10, &mut rng);
+        let (told, bytes) = both::read_bytes(&button, 80, &path, 10, &mut rng);
         assert_eq!((told.number, told.length), (0, 10));
         assert_eq!(bytes, format!("at level {level}").into_bytes());
-        let listing = both::list(&button, 40, 2 * level as u32, &mut rng);
+        let listing = both::list(&button, 80, 2 * level as u32, &mut rng);
         assert_eq!((listing.number, listing.level), (0, level as u32));
         assert_eq!(listing.start as usize, page_of_level(level) + 1);
         // The file's name, or another, in the place of the last directory.
         for other in [*b"FILE", *b"NONE"] {
             if level > 0 {
                 path[4 * level - 4..4 * level].copy_from_slice(&other);
-                let told = both::read(&button, 40, &path, 10, &mut rng);
+                let told = both::read(&button, 80, &path, 10, &mut rng);
                 assert_eq!(answer(told.number, told.page), answer(15, 0));
             }
         }
     }
     let mut nine_names = names_to_level(9);
     nine_names.extend(*b"FILE\x05");
-    let told = both::read(&button, 40, &nine_names, 10, &mut rng);
+    let told = both::read(&button, 80, &nine_names, 10, &mut rng);
     assert_eq!(answer(told.number, told.page), answer(14, 0));
-    assert_eq!(both::list(&button, 40, 17, &mut rng), absent());
+    assert_eq!(both::list(&button, 80, 17, &mut rng), absent());
 }
 
 /// A directory at level nine is 12, told at the page of its entry.
@@ -382,10 +382,10 @@ fn directory_at_level_nine_is_12_for_each_call() {
     pages.packet(18, &control, 0);
     let button = Button::from(&pages);
     let refusal = answer(12, page as u32);
-    let totals = both::check(&button, 40, &mut rng);
+    let totals = both::check(&button, 80, &mut rng);
     assert_eq!(answer(totals.number, totals.page), refusal);
-    let listing = both::list(&button, 40, 0, &mut rng);
+    let listing = both::list(&button, 80, 0, &mut rng);
     assert_eq!(answer(listing.number, listing.page), refusal);
-    let length = both::read(&button, 40, b"FILE\x05", 10, &mut rng);
+    let length = both::read(&button, 80, b"FILE\x05", 10, &mut rng);
     assert_eq!(answer(length.number, length.page), refusal);
 }

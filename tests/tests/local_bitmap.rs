@@ -3,7 +3,7 @@
 //! Programs: the library and the second program. Each call is made by both; every answer and every lent byte is compared.
 //! The archive is made by `rt staticlib owfs`.
 
-use common::{answer, Button};
+use common::{all_free, answer, chain_of, Button, Record, FREE};
 use referee::builder::pages::{path, Pages};
 
 /// N of the images, and the bits of a local bitmap.
@@ -168,6 +168,11 @@ fn a_33rd_page_is_4_for_check_and_format() {
     }
 }
 
+/// The record of page 31.
+fn last_page(button: &Button) -> Record {
+    button.check().1[31]
+}
+
 /// One file on the 31 pages after page 0: put, read, made shorter by a page, made as long again, deleted.
 #[test]
 fn one_file_fills_the_31_other_pages() {
@@ -176,7 +181,8 @@ fn one_file_fills_the_31_other_pages() {
         let most = most_bytes(&button, 31);
         let (totals, owners) = button.check();
         assert_eq!((totals.used, totals.files), (32, 1));
-        assert_eq!((owners[0], owners[1..].to_vec()), (1, vec![3; 31]));
+        assert_eq!(owners[0], (1, 0));
+        assert_eq!(chain_of(&owners, 3), (1..32).collect::<Vec<usize>>());
         assert_eq!((button.list(0).0.start, button.list(0).0.pages), (1, 31));
         assert_eq!(button.read(b"ALL \x01"), (0, some_bytes(most)));
         assert_eq!(bitmap(&button), ALL);
@@ -187,9 +193,9 @@ fn one_file_fills_the_31_other_pages() {
 
         let shorter = some_bytes(most_bytes(&button, 30));
         assert_eq!(button.put(b"ALL \x01", &shorter).0, answer(0, 0));
-        assert_eq!((bitmap(&button), button.check().1[31]), (ALL ^ LAST, 0));
+        assert_eq!((bitmap(&button), last_page(&button)), (ALL ^ LAST, FREE));
         assert_eq!(button.put(b"ALL \x01", &one_more[1..]).0, answer(0, 0));
-        assert_eq!((bitmap(&button), button.check().1[31]), (ALL, 3));
+        assert_eq!((bitmap(&button), last_page(&button)), (ALL, (3, 30)));
         assert_eq!(button.read(b"ALL \x01"), (0, one_more[1..].to_vec()));
 
         assert_eq!(button.delete(b"ALL \x01").0, answer(0, 0));
@@ -214,8 +220,8 @@ fn files_fill_all_32_pages() {
     }
     let (totals, owners) = button.check();
     assert_eq!((totals.used, totals.files), (32, 25));
-    assert_eq!(owners.iter().filter(|&&owner| owner == 1).count(), 7);
-    assert_eq!(owners[31], 3 + 24);
+    assert_eq!(chain_of(&owners, 1), [0, 4, 9, 14, 19, 24, 29]);
+    assert_eq!(owners[31], (3 + 24, 0));
     assert_eq!(button.put(&numbered(25), b"").0, answer(17, 0));
     for number in 0..25 {
         assert_eq!(button.read(&numbered(number)), (0, vec![number]));
@@ -223,23 +229,23 @@ fn files_fill_all_32_pages() {
 
     // The last page is free and in use again.
     assert_eq!(button.delete(&numbered(24)).0, answer(0, 0));
-    assert_eq!((bitmap(&button), button.check().1[31]), (ALL ^ LAST, 0));
+    assert_eq!((bitmap(&button), last_page(&button)), (ALL ^ LAST, FREE));
     assert_eq!(button.put(&numbered(25), b"new").0, answer(0, 0));
-    assert_eq!((bitmap(&button), button.check().1[31]), (ALL, 3 + 24));
+    assert_eq!((bitmap(&button), last_page(&button)), (ALL, (3 + 24, 0)));
     assert_eq!(button.read(&numbered(25)), (0, b"new".to_vec()));
 
     // A free page below the last is taken, and the last bit stays.
     assert_eq!(button.delete(&numbered(0)).0, answer(0, 0));
     assert_eq!(bitmap(&button), ALL ^ 1 << 1);
     assert_eq!(button.put(&numbered(24), b"low").0, answer(0, 0));
-    assert_eq!((bitmap(&button), button.check().1[1]), (ALL, 3 + 2));
+    assert_eq!((bitmap(&button), button.check().1[1]), (ALL, (3 + 2, 0)));
 
     for number in 1..=25 {
         assert_eq!(button.delete(&numbered(number)).0, answer(0, 0));
     }
     let (totals, owners) = button.check();
     assert_eq!((totals.used, totals.files), (7, 0));
-    for (page, &owner) in owners.iter().enumerate() {
+    for (page, &(owner, _)) in owners.iter().enumerate() {
         assert_eq!(u32::from(owner), bitmap(&button) >> page & 1, "page {page}");
     }
 }
@@ -269,6 +275,7 @@ fn format_clears_all_bits_but_the_first() {
     let (done, owners) = button.format(true);
     assert_eq!(done, answer(0, 0));
     assert_eq!(bitmap(&button), 1);
-    assert_eq!((owners[0], owners[1..].to_vec()), (1, vec![0; 31]));
+    assert_eq!(owners[0], (1, 0));
+    assert!(all_free(&owners[1..]));
     assert_eq!(button.image[32..], before.image[32..]);
 }

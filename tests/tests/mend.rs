@@ -6,7 +6,7 @@
 use common::generators::{fault_case, large_image, roomy_plan, two_faults_case, worn_plan};
 use common::stops::{bitmap_places, differing_pages, with_flipped_bits};
 use common::write_orders::Planned;
-use common::{answer, mended, not_mended, numbers, run_seeds, Button, Tally};
+use common::{all_free, answer, mended, not_mended, records, run_seeds, Button, Tally, FREE};
 use referee::builder::pages::Pages;
 use referee::rng::Rng;
 use referee::Mended;
@@ -74,11 +74,11 @@ impl Sound {
         assert_eq!(told, self.expected(bits), "bits {bits:?}");
         if told.number == 0 {
             assert_eq!(button, self.button, "bits {bits:?}");
-            assert_eq!(owners, numbers(&self.held.built.owners));
+            assert_eq!(owners, records(&self.held.built.owners));
             tally.add("mended");
         } else {
             assert_eq!(button, damaged, "bits {bits:?}");
-            assert!(owners.iter().all(|&owner| owner == 0));
+            assert!(all_free(&owners));
             tally.add("not mended");
         }
     }
@@ -208,7 +208,7 @@ fn another_fault_is_told_and_nothing_is_cleared() {
         }
         assert_eq!(told, not_mended(verdict.number, verdict.page));
         assert_eq!(button, case.button);
-        assert!(owners.iter().all(|&owner| owner == 0));
+        assert!(all_free(&owners));
     });
     tally.print();
     tally.demand_numbers("mend", 20, 2..=12);
@@ -221,8 +221,8 @@ fn large_images_are_mended() {
     run_seeds(0xE900_0000..0xE900_0000 + 4, |seed, rng| {
         let built = large_image(rng);
         let button = Button::from(&built);
-        let is_used = |page: usize| built.owners[2 * page..2 * page + 2] != [0, 0];
-        let unused = (0..built.page_count as usize).filter(|&page| !is_used(page));
+        let owners = records(&built.owners);
+        let unused = (0..owners.len()).filter(|&page| owners[page] == FREE);
         let extra: Vec<usize> = unused.filter(|_| rng.chance(30)).collect();
         let places = file_places(&button);
         let mut pages = button.pages();

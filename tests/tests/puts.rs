@@ -13,7 +13,7 @@ use common::puts::{
     ROOM,
 };
 use common::trials::Trial;
-use common::{answer, both, run_seeds, Button, Seed, Tally};
+use common::{answer, both, run_seeds, table_bytes, Button, Seed, Tally};
 use referee::builder::pages::{path, Pages};
 use referee::builder::plan::{Built, ImagePlan};
 use referee::builder::random::random_name;
@@ -88,7 +88,7 @@ impl Planned<'_> {
         let with = plan.build();
         let expected = overlaid(&Button::from(self.built), &with);
         assert!(button.image == expected, "known by construction");
-        let table = 2 * button.page_count as usize;
+        let table = table_bytes(button.page_count);
         assert_eq!(both::check(button, table, rng), with.totals);
         for label in done_features(self.built, &with, path) {
             self.tally.add(label);
@@ -133,7 +133,7 @@ fn puts_one_after_the_other_leave_the_planned_images() {
         let mut plan = thinned_plan(rng);
         let mut built = plan.build();
         let mut button = Button::from(&built);
-        let table = 2 * button.page_count as usize;
+        let table = table_bytes(button.page_count);
         for _ in 0..40 {
             let (_, path) = labelled_path(&plan, &built, rng);
             let length = rng.below(2 * button.page_length as usize);
@@ -174,7 +174,7 @@ fn demand_file(button: &Button, built: &Built, path: &[u8], rng: &mut Rng) {
     let file = found
         .find(|file| file.path == path)
         .expect("the plan has the file");
-    let table = 2 * button.page_count as usize;
+    let table = table_bytes(button.page_count);
     let (_, bytes) = both::read_bytes(button, table, path, file.bytes.len(), rng);
     assert_eq!(bytes, file.bytes);
 }
@@ -203,7 +203,7 @@ fn puts_into_faulty_images_tell_the_fault() {
 fn file_on_all_free_pages_is_put_and_one_byte_more_is_17() {
     run_seeds(0xC300_0000 + 2..0xC300_0000 + 301, |seed, rng| {
         let page_count = (seed - 0xC300_0000) as u32;
-        let table = 2 * page_count as usize;
+        let table = table_bytes(page_count);
         for local in [false, true] {
             if local && !may_be_local(page_count) {
                 continue;
@@ -257,23 +257,23 @@ fn puts_into_65535_pages_are_done_or_refused_as_known() {
         for entry in [files[last], files[0], files[any]] {
             let length = entry.bytes.len() / 2;
             let bytes = rng.bytes(length);
-            let told = both::put(&mut button, 131_071, &entry.path, &bytes, &mut rng);
+            let told = both::put(&mut button, 262_141, &entry.path, &bytes, &mut rng);
             let expected = if entry.listing.attribute == 1 { 16 } else { 0 };
             assert_eq!(told, answer(expected, 0));
         }
-        let totals = both::check(&button, 131_070, &mut rng);
+        let totals = both::check(&button, 262_140, &mut rng);
         assert_eq!(totals.number, 0);
         let free = (65_535 - totals.used) as usize;
         let bytes = rng.bytes(free * (page_length as usize - 5) + 1);
-        let told = both::put(&mut button, 131_070, b"N E\x01", &bytes, &mut rng);
+        let told = both::put(&mut button, 262_140, b"N E\x01", &bytes, &mut rng);
         assert_eq!(told, answer(14, 0));
-        let told = both::put(&mut button, 131_070, b"NEW'\x01", &bytes, &mut rng);
+        let told = both::put(&mut button, 262_140, b"NEW'\x01", &bytes, &mut rng);
         assert_eq!(told, answer(17, 0));
         let few = &bytes[..bytes.len().min(3_000) / 3];
-        let told = both::put(&mut button, 131_070, b"NEW'\x01", few, &mut rng);
+        let told = both::put(&mut button, 262_140, b"NEW'\x01", few, &mut rng);
         assert_eq!(told, answer(0, 0));
         flip(&mut button.image, &mut rng);
-        both::put(&mut button, 131_070, &files[any].path, b"", &mut rng);
+        both::put(&mut button, 262_140, &files[any].path, b"", &mut rng);
     }
 }
 
@@ -319,23 +319,24 @@ fn put_of_empty_slices_is_1_or_14_or_an_empty_file() {
             page_count,
             image: Vec::new(),
         };
-        for table in 0..6 {
+        for table in 0..10 {
             let told = both::put(&mut button, table, b"", b"", &mut rng);
             assert_eq!(told, answer(1, 0));
         }
     }
     let mut button = Button::formatted(32, 16, true);
     for (table, path, number) in [
-        (32, &b""[..], 14),
+        (64, &b""[..], 14),
         (0, b"", 1),
         (0, b"A   \x01", 1),
-        (32, b"A   \x01", 0),
-        (32, b"A   \x01", 0),
+        (63, b"A   \x01", 1),
+        (64, b"A   \x01", 0),
+        (64, b"A   \x01", 0),
     ] {
         let told = both::put(&mut button, table, path, b"", &mut rng);
         assert_eq!(told, answer(number, 0));
     }
-    assert_eq!(both::check(&button, 32, &mut rng).used, 2);
+    assert_eq!(both::check(&button, 64, &mut rng).used, 2);
 }
 
 /// Paths of every length from 0 to 40, and longer: any bytes, the front of a file's path with names after it, as it is and with an
@@ -346,7 +347,7 @@ fn put_is_14_exactly_if_the_path_is_malformed() {
     run_seeds(0xC900_0000..0xC900_0000 + 20, |_, rng| {
         let built = deep_image(rng);
         let mut button = Button::from(&built);
-        let table = 2 * button.page_count as usize;
+        let table = table_bytes(button.page_count);
         let deepest = built.entries.iter().max_by_key(|entry| entry.path.len());
         let deepest = deepest.map_or(Vec::new(), |entry| entry.path.clone());
         for length in (0..=40).chain([41, 45, 69, 261, 65_541, 100_001]) {
@@ -415,7 +416,7 @@ fn new_entry_goes_to_the_first_page_with_space() {
         ("M", ["ABC", "DEFK", "LM", "GHIJ"]),
         ("N", ["ABC", "DEFK", "LMN", "GHIJ"]),
     ] {
-        let told = both::put(&mut button, 40, &path(&[], file, 1), b"new", &mut rng);
+        let told = both::put(&mut button, 80, &path(&[], file, 1), b"new", &mut rng);
         assert_eq!(told, answer(0, 0));
         for ((page, control, next), names) in pages.into_iter().zip(names) {
             assert_eq!(entries_of(&button, page, control), names.as_bytes());
@@ -424,17 +425,17 @@ fn new_entry_goes_to_the_first_page_with_space() {
     }
     // Free are 18 and 19 now: one entry more fits on page 5, then only the directory could grow and no page would be left.
     for (file, number) in [("O", 0), ("P", 17)] {
-        let told = both::put(&mut button, 40, &path(&[], file, 1), b"", &mut rng);
+        let told = both::put(&mut button, 80, &path(&[], file, 1), b"", &mut rng);
         assert_eq!(told, answer(number, 0));
     }
-    assert_eq!(both::check(&button, 40, &mut rng).used, 19);
+    assert_eq!(both::check(&button, 80, &mut rng).used, 19);
     // A deleted file's place is taken by the next, at the end of its page.
-    let told = both::delete(&mut button, 40, b"B   \x01", &mut rng);
+    let told = both::delete(&mut button, 80, b"B   \x01", &mut rng);
     assert_eq!(told, answer(0, 0));
-    let told = both::put(&mut button, 40, b"P   \x01", &[1; 56], &mut rng);
+    let told = both::put(&mut button, 80, b"P   \x01", &[1; 56], &mut rng);
     assert_eq!(told, answer(0, 0));
     assert_eq!(entries_of(&button, 0, 7), *b"ACP");
-    let listing = both::list(&button, 40, 2, &mut rng);
+    let listing = both::list(&button, 80, 2, &mut rng);
     assert_eq!((listing.start, listing.pages), (2, 2));
 }
 
@@ -457,7 +458,7 @@ fn growing_directory_takes_the_lowest_free_page() {
     let below = path(&["S"], "NEW", 1);
     let mut button = Button::from(&pages);
     for (length, number) in [(200, 17), (85, 17), (84, 0)] {
-        let told = both::put(&mut button, 20, &below, &vec![5; length], &mut rng);
+        let told = both::put(&mut button, 40, &below, &vec![5; length], &mut rng);
         assert_eq!(told, answer(number, 0), "{length} bytes");
     }
     assert_eq!(button.pages().pointer(3), 1);
@@ -465,16 +466,16 @@ fn growing_directory_takes_the_lowest_free_page() {
     assert_eq!(button.pages().pointer(1), 0);
     let chain = [4, 6, 8].map(|page| button.pages().pointer(page));
     assert_eq!(chain, [6, 8, 0]);
-    assert_eq!(both::check(&button, 20, &mut rng).used, 10);
+    assert_eq!(both::check(&button, 40, &mut rng).used, 10);
     // No page is left, and now the file's own are enough for another of its length.
     for (length, number) in [(85, 17), (84, 0), (0, 0)] {
-        let told = both::put(&mut button, 20, &below, &vec![6; length], &mut rng);
+        let told = both::put(&mut button, 40, &below, &vec![6; length], &mut rng);
         assert_eq!(told, answer(number, 0), "{length} bytes");
     }
     // The page that joined has space for an entry: two pages are free for the file.
     for (length, number) in [(57, 17), (56, 0)] {
         let other = path(&["S"], "NEXT", 1);
-        let told = both::put(&mut button, 20, &other, &vec![7; length], &mut rng);
+        let told = both::put(&mut button, 40, &other, &vec![7; length], &mut rng);
         assert_eq!(told, answer(number, 0), "{length} bytes");
     }
 }
@@ -504,7 +505,7 @@ fn put_keeps_the_lengths_of_the_bitmap_files_packets() {
         (0, [0xE3, 0x03, 0, 0, 0]),
     ] {
         let bytes = vec![3; length];
-        let told = both::put(&mut button, 80, b"F   \x01", &bytes, &mut rng);
+        let told = both::put(&mut button, 160, b"F   \x01", &bytes, &mut rng);
         let number = if length > 28 * 34 { 17 } else { 0 };
         assert_eq!(told, answer(number, 0));
         let after = button.pages();
@@ -543,12 +544,12 @@ fn put_takes_a_file_and_a_directory_of_one_name_for_two() {
         (path(&["X"], "X", 5), 0),
         (path(&["X", "X"], "X", 5), 15),
     ] {
-        let told = both::put(&mut button, 24, &path, b"a new file", &mut rng);
+        let told = both::put(&mut button, 48, &path, b"a new file", &mut rng);
         assert_eq!(told, answer(number, 0), "{path:?}");
     }
-    let totals = both::check(&button, 24, &mut rng);
+    let totals = both::check(&button, 48, &mut rng);
     assert_eq!((totals.used, totals.files, totals.directories), (5, 3, 1));
-    let attributes = [0, 1, 2, 3].map(|place| both::list(&button, 24, place, &mut rng).attribute);
+    let attributes = [0, 1, 2, 3].map(|place| both::list(&button, 48, place, &mut rng).attribute);
     assert_eq!(attributes, [1, 0, 1, 0]);
 }
 
@@ -559,7 +560,7 @@ fn put_judges_the_arguments_first() {
         let (page_length, page_count) = random_sizes(rng, 80);
         let mut button = Button::zeros(page_length, page_count);
         misfit(&mut button, rng);
-        let table = 2 * (button.page_count as usize).min(70_000);
+        let table = table_bytes(button.page_count);
         for path in [&b"bad"[..], b"GOOD\x01"] {
             let told = both::put(&mut button, table, path, b"bytes", rng);
             assert_eq!(told, answer(1, 0));

@@ -6,7 +6,7 @@
 
 use common::generators::{damaged_case, deep_image, fault_case, files, Case, Made};
 use common::plans::{geometry, may_be_local};
-use common::{agreed, answer, Button, Seed};
+use common::{agreed, answer, table_bytes, Button, Seed};
 use referee::builder::plan::Built;
 use referee::rng::Rng;
 use referee::{Answer, Length, Listing, Totals};
@@ -14,7 +14,7 @@ use referee::{Answer, Length, Listing, Totals};
 /// What the lent memory holds before a call.
 const BEFORE: u8 = 0xC7;
 
-/// Bytes of the owner table past the first 2N.
+/// Bytes of the owner table past the first N records.
 const EXTRA: usize = 7;
 
 /// An edit of a path.
@@ -39,7 +39,7 @@ struct Lent<'a> {
 impl<'a> Lent<'a> {
     /// An owner table and an output that hold `BEFORE`; the page count may be any number.
     fn new(button: &'a Button, out_bytes: usize) -> Lent<'a> {
-        let needed = 2 * (button.page_count as usize).min(70_000);
+        let needed = table_bytes(button.page_count);
         Lent {
             button,
             image: button.image.clone(),
@@ -116,12 +116,12 @@ impl<'a> Lent<'a> {
 }
 
 /// Demands that check, list and read refuse an image with these and nothing else in their answers.
-/// Afterwards the owner numbers are all 0, but after 1 the table is as before.
+/// Afterwards the owner records are all 0, but after 1 the table is as before.
 fn refused_by_all(case: &Case, refusal: Answer) {
     let Answer { number, page } = refusal;
     let zeros = match number {
         1 => Vec::new(),
-        _ => vec![0; 2 * case.button.page_count as usize],
+        _ => vec![0; table_bytes(case.button.page_count)],
     };
     let totals = Totals {
         number,
@@ -158,11 +158,11 @@ fn refused_by_all(case: &Case, refusal: Answer) {
 }
 
 /// Demands that an edit refuses an image with this and nothing else, whatever the path: of entries, malformed, of nothing, of any bytes.
-/// Afterwards the owner numbers are all 0, but after 1 the table is as before.
+/// Afterwards the owner records are all 0, but after 1 the table is as before.
 fn edit_refused_by_image(edit: Edit, case: &Case, refusal: Answer, rng: &mut Rng) {
     let zeros = match refusal.number {
         1 => Vec::new(),
-        _ => vec![0; 2 * case.button.page_count as usize],
+        _ => vec![0; table_bytes(case.button.page_count)],
     };
     let paths = case.built.entries.iter().map(|entry| entry.path.clone());
     let mut paths: Vec<Vec<u8>> = paths.take(5).collect();
@@ -211,13 +211,19 @@ fn check_list_read_number_1_arguments() {
     }
 }
 
+/// Bytes of owner tables that are too short: none, half of what is needed, a record too few, one to three bytes too few.
+fn too_short(needed: usize) -> Vec<usize> {
+    let front = [0, 1, needed / 2].into_iter();
+    front.chain(needed - 4..needed).collect()
+}
+
 /// An owner table that is too short is 1 with every call and is not touched.
 #[test]
 fn check_list_read_number_1_owner_table() {
     let built = deep_image(&mut Rng::new(0x6100_1000));
     let button = Button::from(&built);
-    let needed = 2 * button.page_count as usize;
-    for owner_bytes in [0, 1, needed / 2, needed - 2, needed - 1] {
+    let needed = table_bytes(button.page_count);
+    for owner_bytes in too_short(needed) {
         let mut lent = Lent::new(&button, 100);
         lent.owners.truncate(owner_bytes);
         let totals = Totals {
@@ -358,8 +364,8 @@ fn edit_number_1_owner_table() {
     let seed = Seed(0x6600_1000);
     let built = deep_image(&mut Rng::new(seed.0));
     let button = Button::from(&built);
-    let needed = 2 * button.page_count as usize;
-    for owner_bytes in [0, 1, needed / 2, needed - 2, needed - 1] {
+    let needed = table_bytes(button.page_count);
+    for owner_bytes in too_short(needed) {
         let paths = built.entries.iter().map(|entry| entry.path.as_slice());
         for path in paths.chain([&b"bad"[..], b"NONE\x01"]) {
             for edit in [Edit::Delete, PUT] {
@@ -432,7 +438,7 @@ fn edit_number_13_bitmap() {
     edits_refused_with(13);
 }
 
-/// Any bytes as image and path: whatever fault they have, nothing but the owner numbers is written.
+/// Any bytes as image and path: whatever fault they have, nothing but the owner records is written.
 #[test]
 fn edits_of_any_bytes_tell_the_fault_of_the_check() {
     for seed in 0x6700_0000..0x6700_0000 + 200 {
@@ -621,8 +627,8 @@ fn format_number_1_arguments() {
 fn format_number_1_owner_table() {
     for page_count in [2, 31, 32, 33, 300] {
         let button = Button::formatted(32, page_count, false);
-        let needed = 2 * page_count as usize;
-        for owner_bytes in [0, 1, needed / 2, needed - 2, needed - 1] {
+        let needed = table_bytes(page_count);
+        for owner_bytes in too_short(needed) {
             for local in [0, 1] {
                 let mut lent = Lent::new(&button, 0);
                 lent.owners.truncate(owner_bytes);
@@ -654,7 +660,7 @@ fn format_number_4_over_an_accepted_image() {
     assert!(met >= 300, "met {met} times");
 }
 
-/// A local bitmap with more than 32 pages: if the old image is not accepted, for any fault, the owner numbers are all 0.
+/// A local bitmap with more than 32 pages: if the old image is not accepted, for any fault, the owner records are all 0.
 #[test]
 fn format_number_4_over_a_refused_image() {
     let mut met = [0; 14];
@@ -668,7 +674,7 @@ fn format_number_4_over_a_refused_image() {
         }
         let mut lent = Lent::new(&case.button, 0);
         assert_eq!(lent.format(1 + rng.below(3) as u32), answer(4, 0));
-        lent.holds(&vec![0; 2 * case.button.page_count as usize]);
+        lent.holds(&vec![0; table_bytes(case.button.page_count)]);
         met[number as usize] += 1;
     }
     assert!(met[2..].iter().all(|&times| times >= 5), "{met:?}");
@@ -687,6 +693,6 @@ fn format_number_4_over_any_bytes() {
         };
         let mut lent = Lent::new(&button, 0);
         assert_eq!(lent.format(1), answer(4, 0));
-        lent.holds(&vec![0; 2 * page_count as usize]);
+        lent.holds(&vec![0; table_bytes(page_count)]);
     }
 }

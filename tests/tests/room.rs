@@ -21,7 +21,7 @@ use std::collections::{BTreeMap, BTreeSet};
 use common::plans::{directory_mut, file_place, geometry, split, Room};
 use common::puts::{room_features, ROOM};
 use common::trees::{page_order, trees, Most, Tree, PAGE_LENGTH};
-use common::{answer, both, Button, Seed, Tally};
+use common::{answer, both, chain_of, table_bytes, Button, Seed, Tally};
 use referee::builder::plan::{Chain, FilePlan, ImagePlan, Item};
 use referee::geometry::Geometry;
 use referee::rng::Rng;
@@ -56,11 +56,7 @@ impl Contents {
         if totals.number != 0 {
             return None;
         }
-        let pages_of = |owner: u16| -> PageSet {
-            let pages = owners.iter().enumerate();
-            let owned = pages.filter(|(_, &other)| other == owner);
-            owned.map(|(page, _)| page).collect()
-        };
+        let pages_of = |owner: u16| -> PageSet { chain_of(&owners, owner).into_iter().collect() };
         let mut entries = BTreeMap::new();
         let mut names = Vec::new();
         for (position, listing) in button.list_all().into_iter().enumerate() {
@@ -260,7 +256,7 @@ impl Trial<'_> {
     fn put(&mut self, path: &[u8], bytes: &[u8]) {
         let found = search(self.plan, &self.old, path, bytes);
         let mut button = self.button.clone();
-        let table = 2 * self.plan.page_count as usize;
+        let table = table_bytes(self.plan.page_count);
         let told = both::put(&mut button, table, path, bytes, self.rng);
         self.count(path, bytes, &found, told);
         let Some(least) = found.least else {

@@ -6,7 +6,7 @@
 use std::collections::{BTreeMap, BTreeSet};
 
 use common::plans::may_be_local;
-use common::{answer, Button, Seed};
+use common::{answer, chain_of, Button, Record, Seed, FREE};
 use referee::builder::pages::Pages;
 use referee::builder::plan::{Built, ChainOf};
 use referee::builder::random::random_image;
@@ -25,7 +25,7 @@ type Layout = Vec<(usize, Vec<Vec<u8>>)>;
 /// A button and the model of what it holds.
 struct World {
     button: Button,
-    owners: Vec<u16>,
+    owners: Vec<Record>,
     files: BTreeMap<Vec<u8>, File>,
     /// The names that lead to each directory; the root's are empty.
     directories: BTreeSet<Vec<u8>>,
@@ -144,7 +144,7 @@ impl World {
         let (names, name) = path.split_at(path.len() - 5);
         let mut layout = self.layout(self.directory_start(names));
         let old = self.file_pages(path).unwrap_or_default();
-        let is_free = |page: &usize| self.owners[*page] == 0 || old.contains(page);
+        let is_free = |page: &usize| self.owners[*page] == FREE || old.contains(page);
         let mut free = (0..self.owners.len()).filter(is_free);
         let slot = if old.is_empty() {
             let first = geometry.first_page_entries();
@@ -174,9 +174,7 @@ impl World {
 
     /// The pages that hold the bitmap: page 0 or the bitmap file's.
     fn bitmap_pages(&self) -> BTreeSet<usize> {
-        let file: BTreeSet<usize> = (0..self.owners.len())
-            .filter(|&page| self.owners[page] == 2)
-            .collect();
+        let file = BTreeSet::from_iter(chain_of(&self.owners, 2));
         if file.is_empty() {
             BTreeSet::from([0])
         } else {
@@ -187,7 +185,7 @@ impl World {
     /// A bitmap file keeps its packets' lengths and pointers.
     fn bitmap_file_keeps_lengths(&self, before: &Button) {
         let (old, new) = (before.pages(), self.button.pages());
-        for page in (0..self.owners.len()).filter(|&page| self.owners[page] == 2) {
+        for page in chain_of(&self.owners, 2) {
             assert_eq!(old.body(page).len(), new.body(page).len());
             assert_eq!(old.pointer(page), new.pointer(page));
         }
@@ -268,7 +266,7 @@ impl World {
         self.owners = owners;
         self.files.remove(path);
         assert_eq!(self.layout(start), layout);
-        assert!(freed.iter().all(|&page| self.owners[page] == 0));
+        assert!(freed.iter().all(|&page| self.owners[page] == FREE));
         let mut written = self.bitmap_pages();
         written.insert(layout[place].0);
         only_packets_changed(&before, &self.button, &written);
@@ -310,8 +308,9 @@ impl World {
         assert_eq!(owners, self.owners);
         assert_eq!(totals.files as usize, self.files.len());
         assert_eq!(totals.directories as usize, self.directories.len() - 1);
-        let used = owners.iter().filter(|&&owner| owner != 0).count();
+        let used = owners.iter().filter(|&&record| record != FREE).count();
         assert_eq!(totals.used as usize, used);
+        assert_eq!(chain_of(&owners, 1), self.chain(0), "the root's");
         let mut names: Vec<u8> = Vec::new();
         let mut seen = BTreeSet::new();
         for (position, listing) in self.button.list_all().into_iter().enumerate() {
@@ -319,8 +318,8 @@ impl World {
             let mut path = names.clone();
             path.extend(listing.name.to_le_bytes());
             let owner = 3 + position as u16;
-            let owned = owners.iter().filter(|&&other| other == owner).count();
-            assert_eq!(owners[listing.start as usize], owner);
+            let chain = self.chain(listing.start as usize);
+            assert_eq!(chain_of(&owners, owner), chain, "by the pointers");
             if listing.extension == 127 {
                 assert!(self.directories.contains(&path));
                 assert_eq!((listing.pages, listing.length), (0, 0));
@@ -331,7 +330,7 @@ impl World {
             let file = self.files.get(&path).expect("the model has the file");
             assert_eq!(listing.attribute == 1, file.read_only);
             assert_eq!(listing.length as usize, file.bytes.len());
-            assert_eq!(listing.pages as usize, owned);
+            assert_eq!(listing.pages as usize, chain.len());
             assert_eq!(self.button.read(&path), (0, file.bytes.clone()));
             assert!(seen.insert(path));
         }
@@ -480,7 +479,11 @@ fn fill_up(world: &mut World, rng: &mut Rng) {
         }
     }
     assert_eq!(number, 17);
-    let free = world.owners.iter().filter(|&&owner| owner == 0).count();
+    let free = world
+        .owners
+        .iter()
+        .filter(|&&record| record == FREE)
+        .count();
     assert!(free <= 1);
     world.verify();
 }
@@ -579,7 +582,7 @@ fn format_of_a_used_button_leaves_an_empty_one() {
             continue;
         }
         assert_eq!(done, answer(0, 0));
-        let written: BTreeSet<usize> = (0..owners.len()).filter(|&p| owners[p] != 0).collect();
+        let written: BTreeSet<usize> = (0..owners.len()).filter(|&p| owners[p] != FREE).collect();
         only_packets_changed(&before, &world.button, &written);
         world.owners = owners;
         world.files.clear();

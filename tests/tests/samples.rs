@@ -1,13 +1,14 @@
 //! Every dump in `samples/` with the text that stands beside it.
 //!
-//! Programs: the second program in one test, the program `list` in another; both the second program and the library mend the sample of a stopped put.
+//! Programs: the second program in one test, the program `list` in another; both the second program and the library make the samples of a stopped put
+//! and of a bad page.
 //! `rt check` and `rt ci` make `list`, `rt staticlib owfs` the archive.
 
 use std::fs;
 use std::path::{Path, PathBuf};
 
 use common::dumps::{dump, list_program};
-use common::{answer, mended, writes, Button, Tally};
+use common::{answer, chain_of, mended, writes, Button, Tally};
 use referee::builder::pages::path;
 use referee::list_text;
 
@@ -82,4 +83,20 @@ fn stopped_put_and_mended_one_are_made_by_a_careful_put_and_a_mend() {
         sample("stopped-put-mended.dump")
     );
     assert_eq!(button.read(&log), (0, old.to_vec()));
+}
+
+/// The sample of a page that has gone bad, the second of the four of LOG.7, and the dump before it.
+#[test]
+fn bad_page_and_the_dump_before_it_are_made_by_puts() {
+    let mut button = Button::formatted(32, 16, true);
+    let log = b"Monday 12, Tuesday 15, Wednesday 9, Thursday 11, Friday 14, Saturday 3, Monday 8, Tuesday 10";
+    assert_eq!(button.put(&path(&[], "DEMO", 12), b"TEST").0, answer(0, 0));
+    let (done, owners) = button.put(&path(&[], "LOG", 7), log);
+    assert_eq!(done, answer(0, 0));
+    assert_eq!(chain_of(&owners, 4), [2, 3, 4, 5]);
+    let before = dump(32, 16, 8, &button.image);
+    assert_eq!(before, sample("bad-page-before.dump"));
+    button.image[3 * 32 + 10] ^= 0x04;
+    assert_eq!(button.verdict(), answer(2, 3));
+    assert_eq!(dump(32, 16, 8, &button.image), sample("bad-page.dump"));
 }

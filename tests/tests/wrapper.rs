@@ -10,8 +10,8 @@ use common::generators::{
 use common::plans::is_path;
 use common::trials::random_allowed;
 use common::{run_seeds, Button, Tally};
-use owfs::{Bitmap, Entry, Geometry, Kind, Listed, Name, Refusal, Totals, Writes};
-use referee::builder::plan::{Built, BuiltEntry};
+use owfs::{Bitmap, Entry, Geometry, Kind, Listed, Name, Owner, Record, Refusal, Totals, Writes};
+use referee::builder::plan::{Built, BuiltEntry, ChainOf};
 use referee::builder::random::random_name;
 use referee::rng::Rng;
 
@@ -299,6 +299,36 @@ fn demand_listed(listed: &Listed, known: &BuiltEntry) {
     }
 }
 
+/// Who has the pages of a chain, by the plan.
+fn known_owner(built: &Built, chain: usize) -> Owner {
+    let position = built.entries.iter().position(|entry| entry.chain == chain);
+    match (built.chains[chain].of, position) {
+        (ChainOf::Root, _) => Owner::Root,
+        (ChainOf::Bitmap, _) => Owner::Bitmap,
+        (_, Some(position)) => Owner::Entry(position as u32),
+        (_, None) => panic!("a chain without an entry"),
+    }
+}
+
+/// Demands the owner and the place of each page by the plan; pages of no chain are free, and there is no record past the last page.
+fn demand_records(built: &Built, owners: &[u8]) {
+    let free = Record {
+        owner: Owner::Free,
+        place: 0,
+    };
+    let mut known = vec![free; built.page_count as usize];
+    for (chain, pages) in built.chains.iter().enumerate() {
+        let owner = known_owner(built, chain);
+        for (place, &page) in (0..).zip(&pages.pages) {
+            known[page] = Record { owner, place };
+        }
+    }
+    for (page, &record) in (0..).zip(&known) {
+        assert_eq!(owfs::owner_of(owners, page), Some(record), "page {page}");
+    }
+    assert_eq!(owfs::owner_of(owners, built.page_count), None);
+}
+
 /// All entries of nested images in walk order, and the bytes of every file by its path.
 #[test]
 fn entries_come_in_walk_order_with_their_paths() {
@@ -311,6 +341,7 @@ fn entries_come_in_walk_order_with_their_paths() {
             owfs::entries(geometry, &built.image, &mut owners).collect();
         let all = all.expect("an accepted image");
         assert_eq!(owners, built.owners);
+        demand_records(&built, &owners);
         assert_eq!(all.len(), built.entries.len());
         for (listed, known) in all.iter().zip(&built.entries) {
             demand_listed(listed, known);

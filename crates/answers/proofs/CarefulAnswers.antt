@@ -3,10 +3,9 @@ use mathlib.Core.Path.{_≡_, refl, ap, sym, _∙_, subst}
 use mathlib.Core.Logic.{_↔_}
 use mathlib.Core.Bool.{Bool, true, false}
 use mathlib.Core.List.{List}
-use Prim.Native.Nat.{ℕ, _+_, _/_, _≤_, _<_, min}
+use Prim.Native.Nat.{ℕ, _<_}
 use native.Mathlib.Omega.{arith}
 use lib.Dec.{eqb}
-use lib.ListN.{length, take}
 use Rattle.geometry.specs.declared.Geometry.{Geometry}
 use Rattle.geometry.specs.Number.{Bytes}
 use Rattle.rules.specs.declared.WriteCount.{WriteCount}
@@ -17,14 +16,12 @@ use Rattle.rules.specs.Careful.{carefulPut, carefulDelete, mend, carefulPutCall
 use Rattle.rules.specs.CarefulPromises.{Carefully, CarefullyPuts, CarefullyDeletes, Mends}
 use Rattle.rules.specs.CarefulLaws.{careful-put-most, careful-delete-most, mend-most}
 use Rattle.careful_theorems.specs.CarefulCalls.{careful-put-stated, careful-delete-stated, mend-stated}
-use Rattle.owners.specs.TableBytes.{numbersOf, bytesWith}
-use Rattle.owners.specs.TableLaws.{AreBytes}
 use Rattle.answers.specs.declared.OwfsWrites.{OwfsWrites}
 use Rattle.answers.specs.declared.OwfsMended.{OwfsMended}
 use Rattle.answers.specs.ExportedAnswers.{writesFor, mendedFor, countTold, carefulPutAnswer, carefulDeleteAnswer, mendAnswer}
 use Rattle.answers.specs.Small.{Small, LengthSmall, WritesSmall}
 use Rattle.answers.proofs.CallFaults.{some-pages, careful-put-told, careful-delete-told, mend-told}
-use Rattle.answers.proofs.EffectLaws.{seen-effective, small-effective, number-done}
+use Rattle.answers.proofs.EffectLaws.{small-effective, number-done}
 
 -- ---- the numbers are small
 module _ (P N : ℕ) (image t : List ℕ) (k : ℕ) where
@@ -44,27 +41,6 @@ module _ (P N : ℕ) (image t : List ℕ) where
   unfolding mendCall
   mend-small q after x e = subst (Small LengthSmall) (sym (ap (λ (y : Res ℕ × List ℕ × List ℕ). y .0) e))
       (small-effective P N image t LengthSmall (λ g. mend g image) (mend-told image) (λ g f y z. omega (arith, mend-most g (some-pages f) image y z, f .valid .few)))
-
--- ---- the answers
-module _ (P N : ℕ) (image bytes : List ℕ) (n : ℕ) (en : n ≡ min (length bytes / 2) 65535) (are : AreBytes bytes) (x b : List ℕ) (l : length x ≡ n) (s : b ≡ bytesWith x bytes) where
-  pub careful-putted : (k : ℕ) (path text after : List ℕ) (q : Res WriteCount) (r : OwfsWrites) → (q, after, x) ≡ carefulPutCall P N image (take n (numbersOf bytes)) k path text → r ≡ writesFor q
-      → (r, after, b) ≡ carefulPutAnswer P N image bytes path text k
-  unfolding carefulPutCall carefulPutAnswer
-  careful-putted k path text after q r e i =
-      ap (λ (y : OwfsWrites). (y, after, b)) i
-      ∙ ap (λ (y : Res WriteCount × List ℕ × List ℕ). (writesFor (y .0), y .1, y .2)) (seen-effective P N image bytes (λ g. carefulPut g k path text image) n en are q after x b l e s)
-
-  pub careful-deleted : (k : ℕ) (path after : List ℕ) (q : Res WriteCount) (r : OwfsWrites) → (q, after, x) ≡ carefulDeleteCall P N image (take n (numbersOf bytes)) k path → r ≡ writesFor q
-      → (r, after, b) ≡ carefulDeleteAnswer P N image bytes path k
-  unfolding carefulDeleteCall carefulDeleteAnswer
-  careful-deleted k path after q r e i =
-      ap (λ (y : OwfsWrites). (y, after, b)) i
-      ∙ ap (λ (y : Res WriteCount × List ℕ × List ℕ). (writesFor (y .0), y .1, y .2)) (seen-effective P N image bytes (λ g. carefulDelete g k path image) n en are q after x b l e s)
-
-  pub mended-told : (after : List ℕ) (q : Res ℕ) (r : OwfsMended) → (q, after, x) ≡ mendCall P N image (take n (numbersOf bytes)) → r ≡ mendedFor q → (r, after, b) ≡ mendAnswer P N image bytes
-  unfolding mendCall mendAnswer
-  mended-told after q r e i =
-      ap (λ (y : OwfsMended). (y, after, b)) i ∙ ap (λ (y : Res ℕ × List ℕ × List ℕ). (mendedFor (y .0), y .1, y .2)) (seen-effective P N image bytes (λ g. mend g image) n en are q after x b l e s)
 
 -- ---- what the calls state, of the answers
 bit-told : (b : Bool) → eqb (bit b) 1 ≡ b
@@ -95,35 +71,32 @@ module _ (P N : ℕ) (image t : List ℕ) where
   }
 
 module _ (P N : ℕ) (image owners : List ℕ) (imageBytes : Bytes image) where
-  abbrev table : List ℕ
-  table = numbersOf owners
-
   pub carefully-puts : (k : ℕ) (path text : List ℕ) → Bytes path → Bytes text → (r : OwfsWrites) (after b : List ℕ) → (r, after, b) ≡ carefulPutAnswer P N image owners path text k
-      → CarefullyPuts P N image (numbersOf owners) k path text (r .number ≡ 0) (countTold r) after
+      → CarefullyPuts P N image owners k path text (r .number ≡ 0) (countTold r) after
   unfolding carefulPutAnswer carefulPutCall
   carefully-puts k path text pb tb r after b e =
-      let c = carefulPutCall P N image table k path text in
+      let c = carefulPutCall P N image owners k path text in
       let told : r ≡ writesFor (c .0) = ap (λ (x : OwfsWrites × List ℕ × List ℕ). x .0) e in
       let left : after ≡ c .1 = ap (λ (x : OwfsWrites × List ℕ × List ℕ). x .1) e in
-      let d = number-done P N image table (λ g. carefulPut g k path text image) (careful-put-told image path k text) (λ q. writesFor q .number) (λ x. refl) (λ n p. refl) in
-      rw (left, told, count-told (c .0)) (carefully-said P N image table d (careful-put-stated P N image table imageBytes k path text pb tb))
+      let d = number-done P N image owners (λ g. carefulPut g k path text image) (careful-put-told image path k text) (λ q. writesFor q .number) (λ x. refl) (λ n p. refl) in
+      rw (left, told, count-told (c .0)) (carefully-said P N image owners d (careful-put-stated P N image owners imageBytes k path text pb tb))
 
   pub carefully-deletes : (k : ℕ) (path : List ℕ) (r : OwfsWrites) (after b : List ℕ) → (r, after, b) ≡ carefulDeleteAnswer P N image owners path k
-      → CarefullyDeletes P N image (numbersOf owners) k path (r .number ≡ 0) (countTold r) after
+      → CarefullyDeletes P N image owners k path (r .number ≡ 0) (countTold r) after
   unfolding carefulDeleteAnswer carefulDeleteCall
   carefully-deletes k path r after b e =
-      let c = carefulDeleteCall P N image table k path in
+      let c = carefulDeleteCall P N image owners k path in
       let told : r ≡ writesFor (c .0) = ap (λ (x : OwfsWrites × List ℕ × List ℕ). x .0) e in
       let left : after ≡ c .1 = ap (λ (x : OwfsWrites × List ℕ × List ℕ). x .1) e in
-      let d = number-done P N image table (λ g. carefulDelete g k path image) (careful-delete-told image path k) (λ q. writesFor q .number) (λ x. refl) (λ n p. refl) in
-      rw (left, told, count-told (c .0)) (carefully-said P N image table d (careful-delete-stated P N image table imageBytes k path))
+      let d = number-done P N image owners (λ g. carefulDelete g k path image) (careful-delete-told image path k) (λ q. writesFor q .number) (λ x. refl) (λ n p. refl) in
+      rw (left, told, count-told (c .0)) (carefully-said P N image owners d (careful-delete-stated P N image owners imageBytes k path))
 
   pub mends : (r : OwfsMended) (after b : List ℕ) → (r, after, b) ≡ mendAnswer P N image owners
-      → Mends P N image (numbersOf owners) (r .number ≡ 0) (λ x. r ≡ mendedFor x) (r .cleared) after
+      → Mends P N image owners (r .number ≡ 0) (λ x. r ≡ mendedFor x) (r .cleared) after
   unfolding mendAnswer mendCall
   mends r after b e =
-      let c = mendCall P N image table in
+      let c = mendCall P N image owners in
       let told : r ≡ mendedFor (c .0) = ap (λ (x : OwfsMended × List ℕ × List ℕ). x .0) e in
       let left : after ≡ c .1 = ap (λ (x : OwfsMended × List ℕ × List ℕ). x .1) e in
-      let d = number-done P N image table (λ g. mend g image) (mend-told image) (λ q. mendedFor q .number) (λ x. refl) (λ n p. refl) in
-      rw (left, told, cleared-told (c .0)) (mends-said P N image table d (λ x h. ap mendedFor h) (mend-stated P N image table imageBytes))
+      let d = number-done P N image owners (λ g. mend g image) (mend-told image) (λ q. mendedFor q .number) (λ x. refl) (λ n p. refl) in
+      rw (left, told, cleared-told (c .0)) (mends-said P N image owners d (λ x h. ap mendedFor h) (mend-stated P N image owners imageBytes))

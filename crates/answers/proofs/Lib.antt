@@ -1,6 +1,5 @@
--- Laws of the exported answers: their numbers fit 32 bits, and they say through bytes what the calls say.
+-- Laws of the exported answers: their numbers fit 32 bits, and they say what the calls say.
 pub mod CallFaults
-pub mod TableFront
 pub mod EffectLaws
 pub mod SmallLaws
 pub mod CallLaws

@@ -33,7 +33,6 @@ use Rattle.rules.specs.Promises.{Accepts, TellsTree, Formats, Deletes, Puts}
 use Rattle.reading_theorems.specs.CheckCall.{asked-tells, tells-said}
 use Rattle.editing_theorems.specs.Demand3.{demand-said}
 use Rattle.editing_theorems.specs.Promised.{format-stated, delete-stated, put-stated, leaves-said}
-use Rattle.owners.specs.TableBytes.{numbersOf}
 use Rattle.answers.proofs.CallFaults.{some-pages, CallFaults, format-told, delete-told, put-told}
 use Rattle.answers.proofs.EffectLaws.{effective-number}
 use Rattle.answers.specs.declared.OwfsTotals.{OwfsTotals}
@@ -62,35 +61,32 @@ module _ {A : Type 0} (P N : ℕ) (image t : List ℕ) (question : Image → Res
       go (err n p) e = absurd (omega (arith, asked-number n p e, sym (ap number e) ∙ z, k n p))
 
 module _ (P N : ℕ) (image owners : List ℕ) (bytes : Bytes image) where
-  abbrev table : List ℕ
-  table = numbersOf owners
-
-  pub accepts-tree : (r : OwfsTotals) (b : List ℕ) → (r, b) ≡ checkAnswer P N image owners → Accepts P N image table (r .number ≡ 0)
+  pub accepts-tree : (r : OwfsTotals) (b : List ℕ) → (r, b) ≡ checkAnswer P N image owners → Accepts P N image owners (r .number ≡ 0)
   unfolding checkAnswer checkCall
   accepts-tree r b e =
       let f : Image → Res Totals = λ i. ok (totals i) in
-      let n : r .number ≡ totalsFor (asked P N image table f .0) .number = ap (λ (x : OwfsTotals × List ℕ). x .0 .number) e in
-      let k = asked-tells P N image table bytes f in
-      (λ z. k .formed (done P N image table f (λ i. refuses-ok) (λ x. totalsFor x .number) (λ n p. refl) (sym n ∙ z)), λ w. n ∙ ap (λ (x : Res Totals). totalsFor x .number) (k .tells w))
+      let n : r .number ≡ totalsFor (asked P N image owners f .0) .number = ap (λ (x : OwfsTotals × List ℕ). x .0 .number) e in
+      let k = asked-tells P N image owners bytes f in
+      (λ z. k .formed (done P N image owners f (λ i. refuses-ok) (λ x. totalsFor x .number) (λ n p. refl) (sym n ∙ z)), λ w. n ∙ ap (λ (x : Res Totals). totalsFor x .number) (k .tells w))
 
   pub lists-tree : (k : ℕ) (r : OwfsEntry) (b : List ℕ) → (r, b) ≡ listAnswer P N image owners k
-      → TellsTree P N image table (λ i. lineAt k (linesOf 0 (i .tree))) (λ x. r ≡ entryFor x) (r .number ≡ 0)
+      → TellsTree P N image owners (λ i. lineAt k (linesOf 0 (i .tree))) (λ x. r ≡ entryFor x) (r .number ≡ 0)
   unfolding listAnswer listCall
   lists-tree k r b e =
       let f : Image → Res Line = λ i. lineAt k (linesOf 0 (i .tree)) in
-      let q : r ≡ entryFor (asked P N image table f .0) = ap (λ (x : OwfsEntry × List ℕ). x .0) e in
+      let q : r ≡ entryFor (asked P N image owners f .0) = ap (λ (x : OwfsEntry × List ℕ). x .0) e in
       let h : (i : Image) → Refuses 14 18 1 (f i) = λ i. refuses-within 14 18 1 (omega arith) (omega arith) (omega arith) (line-faults k (linesOf 0 (i .tree))) in
-      tells-said (λ x t. q ∙ ap entryFor t) (λ z. done P N image table f h (λ x. entryFor x .number) (λ n p. refl) (sym (ap (λ (x : OwfsEntry). x .number) q) ∙ z)) (asked-tells P N image table bytes f)
+      tells-said (λ x t. q ∙ ap entryFor t) (λ z. done P N image owners f h (λ x. entryFor x .number) (λ n p. refl) (sym (ap (λ (x : OwfsEntry). x .number) q) ∙ z)) (asked-tells P N image owners bytes f)
 
   pub reads-tree : (path out : List ℕ) (r : OwfsLength) (after b : List ℕ) → (r, after, b) ≡ readAnswer P N image owners path out
-      → TellsTree P N image table (readBytes path out) (λ x. (r ≡ lengthFor (lengthOf x)) × (after ≡ filled out x)) (r .number ≡ 0)
+      → TellsTree P N image owners (readBytes path out) (λ x. (r ≡ lengthFor (lengthOf x)) × (after ≡ filled out x)) (r .number ≡ 0)
   unfolding readAnswer readCall
   reads-tree path out r after b e =
       let f = readBytes path out in
-      let q : r ≡ lengthFor (lengthOf (asked P N image table f .0)) = ap (λ (x : OwfsLength × List ℕ × List ℕ). x .0) e in
-      let o : after ≡ filled out (asked P N image table f .0) = ap (λ (x : OwfsLength × List ℕ × List ℕ). x .1) e in
+      let q : r ≡ lengthFor (lengthOf (asked P N image owners f .0)) = ap (λ (x : OwfsLength × List ℕ × List ℕ). x .0) e in
+      let o : after ≡ filled out (asked P N image owners f .0) = ap (λ (x : OwfsLength × List ℕ × List ℕ). x .1) e in
       tells-said (λ x t. (q ∙ ap (λ (y : Res (List ℕ)). lengthFor (lengthOf y)) t, o ∙ ap (filled out) t))
-      (λ z. done P N image table f (read-faults path out) (λ x. lengthFor (lengthOf x) .number) (λ n p. refl) (sym (ap (λ (x : OwfsLength). x .number) q) ∙ z)) (asked-tells P N image table bytes f)
+      (λ z. done P N image owners f (read-faults path out) (λ x. lengthFor (lengthOf x) .number) (λ n p. refl) (sym (ap (λ (x : OwfsLength). x .number) q) ∙ z)) (asked-tells P N image owners bytes f)
 
 -- ---- an edit: the number told is 0 exactly when it is done
 module _ (P N : ℕ) (image table : List ℕ) (edit : Geometry → Res (Effect (Unit {0}))) (h : CallFaults image edit) where
@@ -119,10 +115,10 @@ module _ (P N : ℕ) (image table : List ℕ) (edit : Geometry → Res (Effect (
 
 module _ (P N : ℕ) (image owners : List ℕ) (bytes : Bytes image) where
   pub formats : (local : ℕ) (r : OwfsAnswer) (after b : List ℕ) → (r, after, b) ≡ formatAnswer P N image owners local
-      → Formats P N image (numbersOf owners) (asksLocal local) (r .number ≡ 0) (λ x. r ≡ answerFor x) after
+      → Formats P N image owners (asksLocal local) (r .number ≡ 0) (λ x. r ≡ answerFor x) after
   unfolding formatAnswer formatCall
   formats local r after b e =
-      let t = numbersOf owners in
+      let t = owners in
       let f : Geometry → Res (Effect (Unit {0})) = λ g. plainly (format g (asksLocal local) image) in
       let h : CallFaults image f = format-told image (asksLocal local) in
       let told : r ≡ answerFor (effective P N image t f .0) = ap (λ (x : OwfsAnswer × List ℕ × List ℕ). x .0) e in
@@ -134,10 +130,10 @@ module _ (P N : ℕ) (image owners : List ℕ) (bytes : Bytes image) where
       )
 
   pub deletes : (path : List ℕ) (r : OwfsAnswer) (after b : List ℕ) → (r, after, b) ≡ deleteAnswer P N image owners path
-      → Deletes P N image (numbersOf owners) path (r .number ≡ 0) after
+      → Deletes P N image owners path (r .number ≡ 0) after
   unfolding deleteAnswer deleteCall
   deletes path r after b e =
-      let t = numbersOf owners in
+      let t = owners in
       let f : Geometry → Res (Effect (Unit {0})) = λ g. plainly (delete g path image) in
       let h : CallFaults image f = delete-told image path in
       let told : r ≡ answerFor (effective P N image t f .0) = ap (λ (x : OwfsAnswer × List ℕ × List ℕ). x .0) e in
@@ -145,10 +141,10 @@ module _ (P N : ℕ) (image owners : List ℕ) (bytes : Bytes image) where
       rw left (leaves-said (edit-done P N image t f h r told) (delete-stated P N image t bytes path))
 
   pub puts : (path text : List ℕ) → Bytes path → Bytes text → (r : OwfsAnswer) (after b : List ℕ) → (r, after, b) ≡ putAnswer P N image owners path text
-      → Puts P N image (numbersOf owners) path text (r .number ≡ 0) (λ x. r ≡ answerFor x) after
+      → Puts P N image owners path text (r .number ≡ 0) (λ x. r ≡ answerFor x) after
   unfolding putAnswer putCall
   puts path text pb db r after b e =
-      let t = numbersOf owners in
+      let t = owners in
       let f : Geometry → Res (Effect (Unit {0})) = λ g. plainly (put g path text image) in
       let h : CallFaults image f = put-told image path text in
       let told : r ≡ answerFor (effective P N image t f .0) = ap (λ (x : OwfsAnswer × List ℕ × List ℕ). x .0) e in

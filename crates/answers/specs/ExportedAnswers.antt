@@ -1,4 +1,4 @@
--- What the exported calls answer: a call of the rules, its answer as plain numbers and its owner table as bytes.
+-- What the exported calls answer: a call of the rules, its answer as plain numbers.
 use mathlib.Core.Bool.{Bool, not}
 use mathlib.Core.List.{List}
 use Prim.Native.Nat.{ℕ}
@@ -10,7 +10,6 @@ use Rattle.rules.specs.Result.{Res, ok, err}
 use Rattle.rules.specs.PageSets.{bit}
 use Rattle.rules.specs.Calls.{checkCall, listCall, readCall, formatCall, putCall, deleteCall}
 use Rattle.rules.specs.Careful.{carefulPutCall, carefulDeleteCall, mendCall}
-use Rattle.owners.specs.TableBytes.{numbersOf, bytesWith}
 use Rattle.answers.specs.declared.OwfsTotals.{OwfsTotals}
 use Rattle.answers.specs.declared.OwfsEntry.{OwfsEntry}
 use Rattle.answers.specs.declared.OwfsLength.{OwfsLength}
@@ -61,32 +60,32 @@ countTold w = record { made = w .made; left = eqb (w .left) 1 }
 abbrev pub asksLocal : ℕ → Bool
 asksLocal n = not (eqb n 0)
 
--- a call over an owner table of bytes: the answer, what is read, and every byte of the table
+-- the answer, the image or what is read, and every byte of the owner table
 module _ (P N : ℕ) (image owners : List ℕ) where
   unfoldable pub checkAnswer : OwfsTotals × List ℕ
-  checkAnswer = let r = checkCall P N image (numbersOf owners) in (totalsFor (r .0), bytesWith (r .1) owners)
+  checkAnswer = let r = checkCall P N image owners in (totalsFor (r .0), r .1)
 
   unfoldable pub listAnswer : ℕ → OwfsEntry × List ℕ
-  listAnswer k = let r = listCall P N image (numbersOf owners) k in (entryFor (r .0), bytesWith (r .1) owners)
+  listAnswer k = let r = listCall P N image owners k in (entryFor (r .0), r .1)
 
   unfoldable pub readAnswer : List ℕ → List ℕ → OwfsLength × List ℕ × List ℕ
-  readAnswer path out = let r = readCall P N image (numbersOf owners) path out in (lengthFor (r .0), r .1, bytesWith (r .2) owners)
+  readAnswer path out = let r = readCall P N image owners path out in (lengthFor (r .0), r .1, r .2)
 
   unfoldable pub formatAnswer : ℕ → OwfsAnswer × List ℕ × List ℕ
-  formatAnswer local = let r = formatCall P N image (numbersOf owners) (asksLocal local) in (answerFor (r .0), r .1, bytesWith (r .2) owners)
+  formatAnswer local = let r = formatCall P N image owners (asksLocal local) in (answerFor (r .0), r .1, r .2)
 
   unfoldable pub putAnswer : List ℕ → List ℕ → OwfsAnswer × List ℕ × List ℕ
-  putAnswer path bytes = let r = putCall P N image (numbersOf owners) path bytes in (answerFor (r .0), r .1, bytesWith (r .2) owners)
+  putAnswer path bytes = let r = putCall P N image owners path bytes in (answerFor (r .0), r .1, r .2)
 
   unfoldable pub deleteAnswer : List ℕ → OwfsAnswer × List ℕ × List ℕ
-  deleteAnswer path = let r = deleteCall P N image (numbersOf owners) path in (answerFor (r .0), r .1, bytesWith (r .2) owners)
+  deleteAnswer path = let r = deleteCall P N image owners path in (answerFor (r .0), r .1, r .2)
 
   -- the careful calls, which may make so many page writes, and the mend
   unfoldable pub carefulPutAnswer : List ℕ → List ℕ → ℕ → OwfsWrites × List ℕ × List ℕ
-  carefulPutAnswer path bytes k = let r = carefulPutCall P N image (numbersOf owners) k path bytes in (writesFor (r .0), r .1, bytesWith (r .2) owners)
+  carefulPutAnswer path bytes k = let r = carefulPutCall P N image owners k path bytes in (writesFor (r .0), r .1, r .2)
 
   unfoldable pub carefulDeleteAnswer : List ℕ → ℕ → OwfsWrites × List ℕ × List ℕ
-  carefulDeleteAnswer path k = let r = carefulDeleteCall P N image (numbersOf owners) k path in (writesFor (r .0), r .1, bytesWith (r .2) owners)
+  carefulDeleteAnswer path k = let r = carefulDeleteCall P N image owners k path in (writesFor (r .0), r .1, r .2)
 
   unfoldable pub mendAnswer : OwfsMended × List ℕ × List ℕ
-  mendAnswer = let r = mendCall P N image (numbersOf owners) in (mendedFor (r .0), r .1, bytesWith (r .2) owners)
+  mendAnswer = let r = mendCall P N image owners in (mendedFor (r .0), r .1, r .2)

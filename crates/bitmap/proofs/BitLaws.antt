@@ -17,6 +17,7 @@ use Rattle.rules.specs.BitmapLaws.{lowest, agree-difference, bit-of}
 use Rattle.owners.specs.Owned.{Represents, pageBit}
 use Rattle.owners.specs.BitLaws.{marks-none, bit-is as marked}
 use Rattle.rules.specs.Check.{judgeBits}
+use Rattle.rules.specs.Owners.{OwnerRecord}
 use Rattle.bitmap.specs.declared.Bits.{Bits}
 use Rattle.bitmap.specs.declared.Bits.the-variants as bits
 use Rattle.bitmap.specs.Bits.{ComparesPart, ComparesAll}
@@ -33,7 +34,7 @@ halved-all b value zero k e h = let i : value / 2 ^ 0 ≡ value = omega arith in
 halved-all b value (suc left) k e h = absurd (omega arith)
 
 -- ---- some bytes of a bitmap, after `at` others
-module _ (bytes : List ℕ) (at : ℕ) (table : List ℕ) where
+module _ (bytes : List ℕ) (at : ℕ) (table : List OwnerRecord) where
   -- bit j of the bytes is right
   abbrev pub Right : ℕ → Type 0
   Right j = getD bytes (j / 8) 0 / 2 ^ (j % 8) % 2 ≡ pageBit table 0 (8 * at + j)
@@ -102,7 +103,7 @@ module _ (raw used : List ℕ) where
       ap (λ (t : Bool). refuse-unless t 13 x) (ne-eqb x (8 * length raw) (λ q. omega arith)) ∙ refuse-false 13 x ∙ ap (λ (y : ℕ). err 13 y) e
 
 -- the bytes are the whole bitmap
-pub judged-all : (bytes table : List ℕ) (r : Bits) → ComparesPart bytes 0 table r → ComparesAll bytes table r
+pub judged-all : (bytes : List ℕ) (table : List OwnerRecord) (r : Bits) → ComparesPart bytes 0 table r → ComparesAll bytes table r
 judged-all bytes table bits.Same h used k =
     let l = h bytes used (λ i q. let e : 0 + i ≡ i = omega arith in rw e refl) k in
     judged-same bytes used (λ j p. l .agree j (omega arith) (omega arith))

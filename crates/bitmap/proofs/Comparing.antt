@@ -17,6 +17,7 @@ use Rattle.rules.specs.Bitmap.{bitAt}
 use Rattle.rules.specs.BitmapLaws.{IsLowest}
 use Rattle.owners.specs.Owned.{Represents}
 use Rattle.rules.specs.Check.{judgeBits}
+use Rattle.rules.specs.Owners.{OwnerRecord}
 use Rattle.chain.specs.declared.Cursor.{Cursor}
 use Rattle.chain.specs.declared.Step.{Step}
 use Rattle.chain.specs.declared.Step.the-variants as step
@@ -64,7 +65,7 @@ module _ (g : Geometry) (image : List ℕ) (fit : Fit g image) where
   -- one page of the chain compared, as the code reads it
   module _ {raw used : List ℕ} {total : ℕ} {c : Cursor} (C : Comparing g v raw used total c) {size : ℕ} {d : Cursor} {s : Step} (m : s ≡ step.Page size d) (o : s ≡ stepOf g v c)
       {page : List ℕ} (e : page ≡ pageOf g (c .page) image) {bytes : List ℕ} (i : bytes ≡ take size (drop 1 page)) where
-    module _ (table : List ℕ) (R : Represents table used) (r : Bits) (p : ComparesPart bytes (c .bytes) table r) where
+    module _ (table : List OwnerRecord) (R : Represents table used) (r : Bits) (p : ComparesPart bytes (c .bytes) table r) where
       part : (s : Bits) → r ≡ s → Part raw used (8 * c .bytes) (8 * length bytes) s
       part s q = subst (Part raw used (8 * c .bytes) (8 * length bytes)) q (p raw used (stands g image fit raw total c d bytes (C .read) (turned g image fit (C .read) m o e i)) R)
 

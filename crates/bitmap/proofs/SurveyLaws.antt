@@ -13,6 +13,7 @@ use Rattle.geometry.specs.ChooseLaws.{choose-true, choose-false}
 use Rattle.rules.specs.PageSets.{bit, mem}
 use Rattle.rules.specs.Bitmap.{bitAt}
 use Rattle.rules.specs.Careful.{mendable, allMendable, unowned}
+use Rattle.rules.specs.Owners.{OwnerRecord}
 use Rattle.owners.specs.Owned.{Represents, ownerAt, nonzero, pageBit}
 use Rattle.owners.specs.OwnerLaws.{owner-past}
 use Rattle.owners.specs.BitLaws.{bit-from}
@@ -39,7 +40,7 @@ not-true true e = absurd (false≢true e)
 not-true false e = refl
 
 -- a bit that a mend takes is marked if its page has an owner
-pub covered : (table : List ℕ) (page marked owned : ℕ) → owned ≡ pageBit table 0 page → takes (length table) page marked owned ≡ true → owned ≤ marked
+pub covered : (table : List OwnerRecord) (page marked owned : ℕ) → owned ≡ pageBit table 0 page → takes (length table) page marked owned ≡ true → owned ≤ marked
 covered table page marked owned e h = elim (decLt page (length table)) [
   | yes q ↦ let k : leb owned marked ≡ true = simp (lt-ltb page (length table) q, choose-true) at h in leb-true owned marked k
   | no q ↦
@@ -103,7 +104,7 @@ module _ (N : ℕ) (raw used : List ℕ) where
       ap (allMendable N raw used k) (sym e) ∙ all-joined k m (1 + (n - m - 1)) ∙ rw one (and-false (allMendable N raw used k m))
 
 -- ---- the bytes of a part
-module _ (bytes : List ℕ) (at : ℕ) (table : List ℕ) (passed : ℕ) where
+module _ (bytes : List ℕ) (at : ℕ) (table : List OwnerRecord) (passed : ℕ) where
   -- what is known of the first k bits
   abbrev pub Surveyed : ℕ → ℕ → Type 0
   Surveyed k u = (raw used : List ℕ) → ((i : ℕ) → i < length bytes → getD raw (at + i) 0 ≡ getD bytes i 0) → Represents table used → SurveyIs (length table) raw used (8 * at) k passed (survey.Unowned u)
@@ -133,7 +134,7 @@ module _ (bytes : List ℕ) (at : ℕ) (table : List ℕ) (passed : ℕ) where
     fails b raw used s r = one-fails (length table) raw used (8 * at) k (8 * length bytes) h (is-mendable raw used s r ∙ b)
 
 -- bytes that are the whole bitmap
-pub surveyed-all : (raw table : List ℕ) (r : Survey) → SurveysPart raw 0 table 0 r → SurveysAll raw table r
+pub surveyed-all : (raw : List ℕ) (table : List OwnerRecord) (r : Survey) → SurveysPart raw 0 table 0 r → SurveysAll raw table r
 surveyed-all raw table r h used R =
     let z : 8 * 0 ≡ 0 = omega arith in
     subst (λ (k : ℕ). SurveyIs (length table) raw used k (8 * length raw) 0 r) z (h raw used (λ i l. let e : 0 + i ≡ i = omega arith in ap (λ (j : ℕ). getD raw j 0) e) R)

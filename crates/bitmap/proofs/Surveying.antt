@@ -11,6 +11,7 @@ use Rattle.geometry.specs.Page.{pageOf}
 use Rattle.packet.specs.Packet.{View, viewOf}
 use Rattle.rules.specs.Chain.{Link, content}
 use Rattle.rules.specs.Careful.{allMendable, unowned}
+use Rattle.rules.specs.Owners.{OwnerRecord}
 use Rattle.owners.specs.Owned.{Represents}
 use Rattle.chain.specs.declared.Cursor.{Cursor}
 use Rattle.chain.specs.declared.Step.{Step}
@@ -54,7 +55,7 @@ module _ (g : Geometry) (image : List ℕ) (fit : Fit g image) where
   -- one page of the chain surveyed, as the code reads it
   module _ {N : ℕ} {raw used : List ℕ} {total : ℕ} {c : Cursor} {u : ℕ} (C : Surveying g (viewOf g image) N raw used total c u) {size : ℕ} {d : Cursor} {s : Step} (m : s ≡ step.Page size d)
       (o : s ≡ stepOf g (viewOf g image) c) {page : List ℕ} (e : page ≡ pageOf g (c .page) image) {bytes : List ℕ} (i : bytes ≡ take size (drop 1 page))
-      (table : List ℕ) (sized : length table ≡ N) (R : Represents table used) (r : Survey) (p : SurveysPart bytes (c .bytes) table u r) where
+      (table : List OwnerRecord) (sized : length table ≡ N) (R : Represents table used) (r : Survey) (p : SurveysPart bytes (c .bytes) table u r) where
     passed : Passed c d (C .read .more) bytes
     passed = turned g image fit (C .read) m o e i
 

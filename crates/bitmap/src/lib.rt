@@ -10,6 +10,7 @@ ghost use lib.ListN.{length};
 ghost use Rattle.geometry.specs.Choose.{choose};
 ghost use Rattle.geometry.specs.Geometry.{Fit};
 ghost use Rattle.packet.specs.Packet.{viewOf};
+ghost use Rattle.owners.specs.Records.{recordsOf};
 ghost use Rattle.bitmap.specs.Bits.{ComparesPart, ComparesAll, ComparesChain};
 ghost use Rattle.bitmap.specs.Surveys.{SurveysPart, SurveysAll, SurveysChain};
 ghost use Rattle.chain.specs.KnownChain.{KnownChain};
@@ -35,9 +36,9 @@ fn bit_of(b: u8, k: usize) -> usize
 }
 
 // Compares some bytes of a bitmap with the table; `at` bytes of the bitmap stand before them.
-fn compare_bytes(bytes: &[u8], at: usize, table: &[u16]) -> Bits
+fn compare_bytes(bytes: &[u8], at: usize, table: &[u8]) -> Bits
     requires { ⌜ (at ≤ 16777216) × (length (now bytes) ≤ 256) ⌝ }
-    ensures { λ r. ⌜ ComparesPart (now (bytes .entry)) at (now (table .entry)) r ⌝ }
+    ensures { λ r. ⌜ ComparesPart (now (bytes .entry)) at (recordsOf (now (table .entry))) r ⌝ }
 {
     let end = 8 * bytes.len();
     let mut k = 0;
@@ -52,18 +53,18 @@ fn compare_bytes(bytes: &[u8], at: usize, table: &[u16]) -> Bits
 }
 
 // Compares a bitmap that stands in the root's control field.
-pub fn compare_local(bytes: &[u8], table: &[u16]) -> Bits
+pub fn compare_local(bytes: &[u8], table: &[u8]) -> Bits
     requires { ⌜ length (now bytes) ≤ 256 ⌝ }
-    ensures { λ r. ⌜ ComparesAll (now (bytes .entry)) (now (table .entry)) r ⌝ }
+    ensures { λ r. ⌜ ComparesAll (now (bytes .entry)) (recordsOf (now (table .entry))) r ⌝ }
 {
     compare_bytes(bytes, 0, table)
 }
 
 // Compares a bitmap that stands in a chain which is known to stand, page by page.
-pub fn compare_chain(image: &[u8], g: Geometry, start: usize, table: &[u16]) -> Bits
+pub fn compare_chain(image: &[u8], g: Geometry, start: usize, table: &[u8]) -> Bits
     requires { ⌜ Fit g (now image) ⌝ }
     requires { ⌜ KnownChain g (viewOf g (now image)) start ⌝ }
-    ensures { λ r. ⌜ ComparesChain g (viewOf g (now (image .entry))) start (now (table .entry)) r ⌝ }
+    ensures { λ r. ⌜ ComparesChain g (viewOf g (now (image .entry))) start (recordsOf (now (table .entry))) r ⌝ }
 {
     let mut c = Cursor::new(start, start);
     loop {
@@ -108,10 +109,11 @@ fn is_uncovered(pages: usize, page: usize, marked: usize, owned: usize) -> bool
 }
 
 // Surveys some bytes of a bitmap; `at` bytes of the bitmap stand before them, in which so many marks have no owner.
-fn survey_bytes(bytes: &[u8], at: usize, table: &[u16], passed: usize) -> Survey
+fn survey_bytes(bytes: &[u8], at: usize, table: &[u8], passed: usize) -> Survey
     requires { ⌜ (at ≤ 16777216) × (length (now bytes) ≤ 256) × (passed ≤ 8 * at) ⌝ }
-    ensures { λ r. ⌜ SurveysPart (now (bytes .entry)) at (now (table .entry)) passed r ⌝ }
+    ensures { λ r. ⌜ SurveysPart (now (bytes .entry)) at (recordsOf (now (table .entry))) passed r ⌝ }
 {
+    let pages = owners::pages_of(table);
     let end = 8 * bytes.len();
     let mut unowned = passed;
     let mut k = 0;
@@ -119,7 +121,7 @@ fn survey_bytes(bytes: &[u8], at: usize, table: &[u16], passed: usize) -> Survey
         let page = 8 * at + k;
         let marked = bit_of(bytes[k / 8], k % 8);
         let owned = owners::bit(table, page, 0);
-        if is_uncovered(table.len(), page, marked, owned) {
+        if is_uncovered(pages, page, marked, owned) {
             return Survey::Uncovered;
         }
         unowned += marked - owned;
@@ -129,18 +131,18 @@ fn survey_bytes(bytes: &[u8], at: usize, table: &[u16], passed: usize) -> Survey
 }
 
 // Surveys a bitmap that stands in the root's control field.
-pub fn survey_local(bytes: &[u8], table: &[u16]) -> Survey
+pub fn survey_local(bytes: &[u8], table: &[u8]) -> Survey
     requires { ⌜ length (now bytes) ≤ 256 ⌝ }
-    ensures { λ r. ⌜ SurveysAll (now (bytes .entry)) (now (table .entry)) r ⌝ }
+    ensures { λ r. ⌜ SurveysAll (now (bytes .entry)) (recordsOf (now (table .entry))) r ⌝ }
 {
     survey_bytes(bytes, 0, table, 0)
 }
 
 // Surveys a bitmap that stands in a chain which is known to stand, page by page.
-pub fn survey_chain(image: &[u8], g: Geometry, start: usize, table: &[u16]) -> Survey
+pub fn survey_chain(image: &[u8], g: Geometry, start: usize, table: &[u8]) -> Survey
     requires { ⌜ Fit g (now image) ⌝ }
     requires { ⌜ KnownChain g (viewOf g (now image)) start ⌝ }
-    ensures { λ r. ⌜ SurveysChain g (viewOf g (now (image .entry))) start (now (table .entry)) r ⌝ }
+    ensures { λ r. ⌜ SurveysChain g (viewOf g (now (image .entry))) start (recordsOf (now (table .entry))) r ⌝ }
 {
     let mut c = Cursor::new(start, start);
     let mut unowned = 0;

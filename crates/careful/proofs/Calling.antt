@@ -1,8 +1,10 @@
 -- The calls: the check's fault first, and what they leave.
 use mathlib.Core.Path.{_≡_, ap, sym, _∙_}
 use mathlib.Core.List.{List, _++_}
-use Prim.Native.Nat.{ℕ, _<_}
+use Prim.Native.Nat.{ℕ, _<_, _*_}
 use lib.ListN.{length, getD, drop}
+use Rattle.rules.specs.Owners.{OwnerRecord}
+use Rattle.owners.specs.Records.{recordsOf}
 use Rattle.geometry.specs.declared.Geometry.{Geometry}
 use Rattle.geometry.specs.declared.Shape.the-variants.{Fits}
 use Rattle.geometry.specs.Geometry.{geometryOf}
@@ -34,7 +36,7 @@ unfolding carefulPut
 put-fault g k path bytes image n p e = simp (e, then-err)
 
 -- ---- an accepted image
-module _ (g : Geometry) (image table path bytes : List ℕ) (T : TableOf g image table) (k : ℕ) (budget : Budget) (b : budget ≡ withLimit k) (after : List ℕ) (o : Outcome)
+module _ (g : Geometry) (image : List ℕ) (table : List OwnerRecord) (path bytes : List ℕ) (T : TableOf g image table) (k : ℕ) (budget : Budget) (b : budget ≡ withLimit k) (after : List ℕ) (o : Outcome)
     (h : CarefulPathPut g image path bytes budget after o) where
   rule-is : carefulPut g k path bytes image ≡ andThen (andThen (putTarget path (T .tree .tree)) (carefulPutWrites g bytes (T .tree))) (λ ws. ok (haltedAt g k ws image))
   unfolding carefulPut
@@ -55,10 +57,11 @@ module _ (g : Geometry) (image table path bytes : List ℕ) (T : TableOf g image
 
 -- ---- any image
 module _ (P N : ℕ) (image table path bytes : List ℕ) (k : ℕ) where
-  pub putted : (g : Geometry) → geometryOf P N (length image) (length table) ≡ Fits g → (r : Halted) (after u : List ℕ) → EffectLeaves g image (carefulPut g k path bytes image) (countResult r) after u
-      → (countResult r, after, u ++ drop (g .pages) table) ≡ carefulPutCall P N image table k path bytes
+  pub putted : (g : Geometry) → geometryOf P N (length image) (length table) ≡ Fits g → (part : List ℕ) → length part ≡ 4 * g .pages → ((i : ℕ) → getD (part ++ drop (4 * g .pages) table) i 0 < 256)
+      → (r : Halted) (after : List ℕ) → EffectLeaves g image (carefulPut g k path bytes image) (countResult r) after (recordsOf part)
+      → (countResult r, after, part ++ drop (4 * g .pages) table) ≡ carefulPutCall P N image table k path bytes
   unfolding carefulPutCall
-  putted g e r after u l = effective-leaves P N image table g e (λ g. carefulPut g k path bytes image) (countResult r) after u l
+  putted g e part l h r after x = effective-leaves P N image table g e part l h (λ g. carefulPut g k path bytes image) (countResult r) after x
 
   pub put-is : (h : (i : ℕ) → getD image i 0 < 256) (hp : (i : ℕ) → getD path i 0 < 256) (hb : (i : ℕ) → getD bytes i 0 < 256) (r : Halted) (after t : List ℕ)
       → (countResult r, after, t) ≡ carefulPutCall P N image table k path bytes → CarefullyPuts P N image table k path bytes (IsDone (countResult r)) (countOf (countResult r)) after

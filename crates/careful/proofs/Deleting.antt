@@ -1,9 +1,11 @@
 -- The careful delete: it takes no page, so its marks are the bitmap as it stands, and its page writes are the plain delete's.
 use mathlib.Core.Path.{_≡_, refl, ap, sym, _∙_}
 use mathlib.Core.List.{List, _++_}
-use Prim.Native.Nat.{ℕ, _≤_, _<_}
+use Prim.Native.Nat.{ℕ, _≤_, _<_, _*_}
 use native.Mathlib.Omega.{arith}
 use lib.ListN.{length, getD, drop}
+use Rattle.rules.specs.Owners.{OwnerRecord}
+use Rattle.owners.specs.Records.{recordsOf}
 use Rattle.geometry.specs.declared.Geometry.{Geometry}
 use Rattle.geometry.specs.declared.Shape.the-variants.{Fits}
 use Rattle.geometry.specs.Geometry.{geometryOf, Fit}
@@ -43,7 +45,7 @@ fewer : (g : Geometry) (path image : List ℕ) (f : FileIn g path image) (i : Im
     → (x : ℕ) → 1 ≤ count x (used (edited g (q .directories) (deleteEdit q d) i)) → 1 ≤ count x (used i)
 fewer g path image f i q d a b c = rw (← a, ← b, ← c) (λ x j. omega (arith, delete-shows f .total x, j))
 
-same-writes : (g : Geometry) (path image : List ℕ) → Fit g image → (table : List ℕ) (T : TableOf g image table) (x : Target) → deleteTarget path (T .tree .tree) ≡ ok x
+same-writes : (g : Geometry) (path image : List ℕ) → Fit g image → (table : List OwnerRecord) (T : TableOf g image table) (x : Target) → deleteTarget path (T .tree .tree) ≡ ok x
     → carefulWrites g (x .to .directories) (deleteEdit (x .to) (x .place)) (T .tree) ≡ deleteWrites g (T .tree) x
 unfolding carefulWrites
 same-writes g path image fit table T x t = file-in g path image fit (T .bytes) (T .tree) (T .accepted) x t λ f a b c.
@@ -53,7 +55,7 @@ same-writes g path image fit table T x t = file-in g path image fit (T .bytes) (
     ap (λ (m : List ℕ). editWrites g m e i j) (marks-stand g i j (fewer g path image f i (x .to) (x .place) a b c))
 
 -- ---- an accepted image
-module _ (g : Geometry) (image table path : List ℕ) (fit : Fit g image) (T : TableOf g image table) (k : ℕ) (budget : Budget) (b : budget ≡ withLimit k) (after : List ℕ) (o : Outcome)
+module _ (g : Geometry) (image : List ℕ) (table : List OwnerRecord) (path : List ℕ) (fit : Fit g image) (T : TableOf g image table) (k : ℕ) (budget : Budget) (b : budget ≡ withLimit k) (after : List ℕ) (o : Outcome)
     (h : PathDeleted g image path budget after o) where
   rule-is : carefulDelete g k path image ≡ andThen (andThen (deleteTarget path (T .tree .tree)) (λ x. ok (deleteWrites g (T .tree) x))) (λ ws. ok (haltedAt g k ws image))
   unfolding carefulDelete
@@ -72,10 +74,11 @@ module _ (g : Geometry) (image table path : List ℕ) (fit : Fit g image) (T : T
 
 -- ---- any image
 module _ (P N : ℕ) (image table path : List ℕ) (k : ℕ) where
-  pub deleted : (g : Geometry) → geometryOf P N (length image) (length table) ≡ Fits g → (r : Halted) (after u : List ℕ) → EffectLeaves g image (carefulDelete g k path image) (countResult r) after u
-      → (countResult r, after, u ++ drop (g .pages) table) ≡ carefulDeleteCall P N image table k path
+  pub deleted : (g : Geometry) → geometryOf P N (length image) (length table) ≡ Fits g → (part : List ℕ) → length part ≡ 4 * g .pages → ((i : ℕ) → getD (part ++ drop (4 * g .pages) table) i 0 < 256)
+      → (r : Halted) (after : List ℕ) → EffectLeaves g image (carefulDelete g k path image) (countResult r) after (recordsOf part)
+      → (countResult r, after, part ++ drop (4 * g .pages) table) ≡ carefulDeleteCall P N image table k path
   unfolding carefulDeleteCall
-  deleted g e r after u l = effective-leaves P N image table g e (λ g. carefulDelete g k path image) (countResult r) after u l
+  deleted g e part l h r after x = effective-leaves P N image table g e part l h (λ g. carefulDelete g k path image) (countResult r) after x
 
   pub delete-is : (h : (i : ℕ) → getD image i 0 < 256) (r : Halted) (after t : List ℕ)
       → (countResult r, after, t) ≡ carefulDeleteCall P N image table k path → CarefullyDeletes P N image table k path (IsDone (countResult r)) (countOf (countResult r)) after

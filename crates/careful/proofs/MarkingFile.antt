@@ -24,6 +24,7 @@ use Rattle.rules.specs.Paths.{fileKey, Found, nothing, aFile, aDirectory, find,
 use Rattle.rules.specs.Writes.{mapWrites}
 use Rattle.rules.specs.Put.{keptPages}
 use Rattle.rules.specs.Careful.{bothMarked, carefulWrites}
+use Rattle.rules.specs.Owners.{OwnerRecord}
 use Rattle.owners.specs.Owned.{Marks}
 use Rattle.owners.specs.BitLaws.{marks-below}
 use Rattle.editing_theorems.specs.BudgetedWrites.{all-open, all-stopped}
@@ -61,7 +62,7 @@ found-links g v (aDirectory l d) h = tt
 chain-moved : {g : Geometry} {v w : View} {start : ℕ} {ls : List Link} → ChainAt g v start ls → HasPackets w (linked ls) → ChainAt g w start ls
 chain-moved c h = record { some = c .some; begins = c .begins; packets = h; within = c .within; few = c .few; onward = c .onward }
 
-module _ {g : Geometry} {image table bytes : List ℕ} (sized : length table ≡ g .pages) {f : NewFile} (Q : CarefulPutting g image table bytes f) where
+module _ {g : Geometry} {image : List ℕ} {table : List OwnerRecord} {bytes : List ℕ} (sized : length table ≡ g .pages) {f : NewFile} (Q : CarefulPutting g image table bytes f) where
   abbrev P : Putting (λ _ i. used i) g image table bytes f
   P = Q .putting
 

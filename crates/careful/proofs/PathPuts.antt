@@ -14,6 +14,7 @@ use Rattle.rules.specs.Tree.{Image}
 use Rattle.rules.specs.Check.{check}
 use Rattle.rules.specs.Paths.{Target}
 use Rattle.rules.specs.Put.{putTarget}
+use Rattle.rules.specs.Owners.{OwnerRecord}
 use Rattle.careful_theorems.specs.CarefulPuts as careful
 use Rattle.edit.specs.declared.NewFile.{NewFile}
 use Rattle.edit.specs.declared.Outcome.{Outcome}
@@ -26,7 +27,7 @@ use Rattle.put.specs.Places.{FilePlace, IsPlaced, Places}
 use Rattle.put.proofs.PathPuts.{asked, table-used}
 use Rattle.careful.specs.MarkedPuts.{CarefulPutting, carefulPutWrites, CarefullyPutsFile, CarefulPathPut}
 
-module _ (g : Geometry) (image table path bytes : List ℕ) (fit : Fit g image) (T : TableOf g image table) (pathFits : (i : ℕ) → getD path i 0 < 256) (bytesFit : (i : ℕ) → getD bytes i 0 < 256)
+module _ (g : Geometry) (image : List ℕ) (table : List OwnerRecord) (path bytes : List ℕ) (fit : Fit g image) (T : TableOf g image table) (pathFits : (i : ℕ) → getD path i 0 < 256) (bytesFit : (i : ℕ) → getD bytes i 0 < 256)
     (r : Placed) (h : Places g image path r) (budget : Budget) where
   abbrev tree : Image
   tree = T .tree

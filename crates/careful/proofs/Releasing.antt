@@ -9,6 +9,7 @@ use Rattle.packet.specs.Packet.{viewOf}
 use Rattle.packet.specs.declared.Budget.{Budget}
 use Rattle.packet.specs.Budgets.{Progress, Open, writeAll}
 use Rattle.rules.specs.Chain.{pages}
+use Rattle.rules.specs.Owners.{OwnerRecord}
 use Rattle.owners.specs.Owned.{Represents, ClaimsBelow}
 use Rattle.owners.specs.OwnerLaws.{represents-freed}
 use Rattle.owners.specs.BitLaws.{marks-none, represents-below}
@@ -20,7 +21,7 @@ use Rattle.edit.specs.OldChains.{OldChain, HasOld, FreesOld}
 use Rattle.edit.specs.StepLaws.{step₂, step₃, two-stopped, two-open, fit-then, has-root, map-is}
 use Rattle.careful.specs.MarkedPuts.{MarkedPut}
 
-module _ {g : Geometry} {image table bytes : List ℕ} {f : NewFile} {p : Pages} {n : ℕ} (budget : Budget) (o : Open budget) (M : MarkedPut g image table bytes f p n) {mid : List ℕ} {rest : Budget}
+module _ {g : Geometry} {image : List ℕ} {table : List OwnerRecord} {bytes : List ℕ} {f : NewFile} {p : Pages} {n : ℕ} (budget : Budget) (o : Open budget) (M : MarkedPut g image table bytes f p n) {mid : List ℕ} {rest : Budget}
     (carried : _≡_ {A = Progress} (record { image = mid; budget = rest }) (step₂ (M .plan .edit) budget)) where
   -- a write was held back
   pub marked-stop : rest .stopped ≡ true → _≡_ {A = Progress} (record { image = mid; budget = rest }) (step₃ (M .plan .edit) budget)
@@ -40,11 +41,11 @@ module _ {g : Geometry} {image table bytes : List ℕ} {f : NewFile} {p : Pages}
     marked-fit = (fit-then (M .plan .edit) mid image-is, has-root (M .plan .edit) mid image-is)
 
     -- the pages marked get owners, then those of the replaced chain are free
-    module _ {claimed u : List ℕ} (c : ClaimsBelow table (p .below) claimed) (r : FreesOld g (viewOf g mid) (f .replaces) claimed u) where
+    module _ {claimed u : List OwnerRecord} (c : ClaimsBelow table (p .below) claimed) (r : FreesOld g (viewOf g mid) (f .replaces) claimed u) where
       kept : Represents u (es.left (M .plan .edit))
       kept =
           let E = M .plan .edit in
-          subst (λ (t : List ℕ). Represents t (es.left E)) (sym (r (M .links) old))
+          subst (λ (t : List OwnerRecord). Represents t (es.left E)) (sym (r (M .links) old))
           (represents-freed claimed (M .all) (es.left E) (pages (M .links)) (represents-below table (M .all) (p .below) claimed (M .marks) c) (M .rest))
 
       pub marked-done : (after : List ℕ) (left : Budget) → WritesMap g u 0 mid rest after left → _≡_ {A = Progress} (record { image = after; budget = left }) (step₃ (M .plan .edit) budget)

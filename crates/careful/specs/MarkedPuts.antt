@@ -16,6 +16,7 @@ use Rattle.rules.specs.Paths.{fileKey, find, Target}
 use Rattle.rules.specs.Put.{putTarget, putEdit}
 use Rattle.rules.specs.Candidate.{chainPages}
 use Rattle.rules.specs.Careful.{carefulWrites}
+use Rattle.rules.specs.Owners.{OwnerRecord}
 use Rattle.owners.specs.Owned.{Marks}
 use Rattle.editing_theorems.specs.EditedImage.{left, image₂}
 use Rattle.edit.specs.declared.Pages.{Pages}
@@ -26,7 +27,7 @@ use Rattle.edit.specs.Plans.{changeOf, entryOf, Plan, Putting, Outcomes}
 use Rattle.edit.specs.StepLaws.{step₃}
 
 -- a file whose pages are marked: `all` has the pages in use and those taken; the chain that it replaces stands to the end, and its pages are the ones that then go
-pub record MarkedPut (g : Geometry) (image table bytes : List ℕ) (f : NewFile) (p : Pages) (n : ℕ) : Type 0 where
+pub record MarkedPut (g : Geometry) (image : List ℕ) (table : List OwnerRecord) (bytes : List ℕ) (f : NewFile) (p : Pages) (n : ℕ) : Type 0 where
   pub plan : Plan g image table bytes (changeOf f p) (entryOf f p n)
   pub all : List ℕ
   pub marks : Marks table (p .below) all
@@ -35,11 +36,11 @@ pub record MarkedPut (g : Geometry) (image table bytes : List ℕ) (f : NewFile)
   pub old : OldChain g (viewOf g (image₂ (plan .edit))) (f .replaces) links
   pub rest : (x : ℕ) → count x (left (plan .edit)) + count x (pages links) ≡ count x all
 
-abbrev pub PutsMarked : Geometry → List ℕ → List ℕ → List ℕ → NewFile → Pages → ℕ → Budget → List ℕ → Budget → Type 0
+abbrev pub PutsMarked : Geometry → List ℕ → List OwnerRecord → List ℕ → NewFile → Pages → ℕ → Budget → List ℕ → Budget → Type 0
 PutsMarked g image table bytes f p n budget after left = (m : MarkedPut g image table bytes f p n) → _≡_ {A = Progress} (record { image = after; budget = left }) (step₃ (m .plan .edit) budget)
 
 -- a careful put that nothing but room could refuse: the table tells of all pages in use, the replaced chain's among them
-pub record CarefulPutting (g : Geometry) (image table bytes : List ℕ) (f : NewFile) : Type 0 where
+pub record CarefulPutting (g : Geometry) (image : List ℕ) (table : List OwnerRecord) (bytes : List ℕ) (f : NewFile) : Type 0 where
   pub putting : Putting (λ _ i. used i) g image table bytes f
   pub old : OldChain g (viewOf g image) (f .replaces) (linksOf (find (fileKey (putting .asked .to)) (putting .asked .place .items)))
   pub pages-are : chainPages (find (fileKey (putting .asked .to)) (putting .asked .place .items)) ≡ pages (linksOf (find (fileKey (putting .asked .to)) (putting .asked .place .items)))
@@ -48,7 +49,7 @@ pub record CarefulPutting (g : Geometry) (image table bytes : List ℕ) (f : New
 abbrev pub carefulPutWrites : Geometry → List ℕ → Image → Target → Res (List Write)
 carefulPutWrites g bytes i x = andThen (putEdit g (freePages (used i) (g .pages)) (x .to) bytes (x .place)) (λ e. ok (carefulWrites g (x .to .directories) e i))
 
-abbrev pub CarefullyPutsFile : Geometry → List ℕ → List ℕ → List ℕ → NewFile → Budget → List ℕ → Outcome → Type 0
+abbrev pub CarefullyPutsFile : Geometry → List ℕ → List OwnerRecord → List ℕ → NewFile → Budget → List ℕ → Outcome → Type 0
 CarefullyPutsFile g image table bytes f budget after r = (p : CarefulPutting g image table bytes f)
     → Outcomes g (carefulPutWrites g bytes (p .putting .asked .tree) (record { to = p .putting .asked .to; place = p .putting .asked .place })) image budget after r
 

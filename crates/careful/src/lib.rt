@@ -4,14 +4,17 @@ use edit::Outcome;
 use edit::Pages;
 use edit::Taken;
 use geometry::Geometry;
+use geometry::RECORD_BYTES;
 use geometry::Shape;
 use packet::Budget;
 use put::Placed;
 use rules::Checked;
 use rules::Halted;
 use rules::WriteCount;
+ghost use Prim.Native.Nat.{_*_};
 ghost use mathlib.Core.Path.{_≡_};
 ghost use lib.ListN.{length};
+ghost use Rattle.owners.specs.Records.{recordsOf};
 ghost use Rattle.geometry.specs.Geometry.{Fit};
 ghost use Rattle.packet.specs.Budgets.{Open};
 ghost use Rattle.rules.specs.Answers.{countResult};
@@ -29,12 +32,12 @@ fn put_marked(
     taken: Pages,
     pages: usize,
     bytes: &[u8],
-    table: &mut [u16],
+    table: &mut [u8],
     budget: Budget,
 ) -> Budget
     requires { ⌜ Fit g (now image) ⌝ }
-    requires { ⌜ (length (now table) ≡ g .pages) × MarkedPut g (now image) (now table) (now bytes) file taken pages × Open budget ⌝ }
-    ensures { λ r. ⌜ PutsMarked g (now (image .entry)) (now (table .entry)) (now (bytes .entry)) file taken pages budget (now (image .exit)) r ⌝ }
+    requires { ⌜ (length (now table) ≡ 4 * g .pages) × MarkedPut g (now image) (recordsOf (now table)) (now bytes) file taken pages × Open budget ⌝ }
+    ensures { λ r. ⌜ PutsMarked g (now (image .entry)) (recordsOf (now (table .entry))) (now (bytes .entry)) file taken pages budget (now (image .exit)) r ⌝ }
 {
     let changed = edit::put_entry(image, g, file, taken, pages, bytes, table, budget);
     if changed.stopped {
@@ -51,12 +54,12 @@ fn put_file(
     g: Geometry,
     file: NewFile,
     bytes: &[u8],
-    table: &mut [u16],
+    table: &mut [u8],
     budget: Budget,
 ) -> Outcome
     requires { ⌜ Fit g (now image) ⌝ }
-    requires { ⌜ (length (now table) ≡ g .pages) × CarefulPutting g (now image) (now table) (now bytes) file × Open budget ⌝ }
-    ensures { λ r. ⌜ CarefullyPutsFile g (now (image .entry)) (now (table .entry)) (now (bytes .entry)) file budget (now (image .exit)) r ⌝ }
+    requires { ⌜ (length (now table) ≡ 4 * g .pages) × CarefulPutting g (now image) (recordsOf (now table)) (now bytes) file × Open budget ⌝ }
+    ensures { λ r. ⌜ CarefullyPutsFile g (now (image .entry)) (recordsOf (now (table .entry))) (now (bytes .entry)) file budget (now (image .exit)) r ⌝ }
 {
     let pages = writes::pages_for(bytes.len(), g.data_capacity());
     match edit::find_pages(table, file.extra, pages) {
@@ -77,11 +80,11 @@ fn put_path(
     g: Geometry,
     path: &[u8],
     bytes: &[u8],
-    table: &mut [u16],
+    table: &mut [u8],
     budget: Budget,
 ) -> Outcome
     requires { ⌜ Fit g (now image) ⌝ }
-    requires { ⌜ (length (now table) ≡ g .pages) × TableOf g (now image) (now table) × Open budget ⌝ }
+    requires { ⌜ (length (now table) ≡ 4 * g .pages) × TableOf g (now image) (recordsOf (now table)) × Open budget ⌝ }
     ensures { λ r. ⌜ CarefulPathPut g (now (image .entry)) (now (path .entry)) (now (bytes .entry)) budget (now (image .exit)) r ⌝ }
 {
     match put::place_file(image, g, path) {
@@ -113,12 +116,12 @@ fn put_in(
     g: Geometry,
     path: &[u8],
     bytes: &[u8],
-    table: &mut [u16],
+    table: &mut [u8],
     allowed: usize,
 ) -> Halted
     requires { ⌜ Fit g (now image) ⌝ }
-    requires { ⌜ length (now table) ≡ g .pages ⌝ }
-    ensures { λ r. ⌜ EffectLeaves g (now (image .entry)) (carefulPut g allowed (now (path .entry)) (now (bytes .entry)) (now (image .entry))) (countResult r) (now (image .exit)) (now (table .exit)) ⌝ }
+    requires { ⌜ length (now table) ≡ 4 * g .pages ⌝ }
+    ensures { λ r. ⌜ EffectLeaves g (now (image .entry)) (carefulPut g allowed (now (path .entry)) (now (bytes .entry)) (now (image .entry))) (countResult r) (now (image .exit)) (recordsOf (now (table .exit))) ⌝ }
 {
     match volume::check_table(image, g, table) {
         Checked::Refused(number, page) => Halted::Refused(number, page),
@@ -137,7 +140,7 @@ pub fn put(
     pages: u32,
     path: &[u8],
     bytes: &[u8],
-    table: &mut [u16],
+    table: &mut [u8],
     allowed: usize,
 ) -> Halted
     ensures { λ r. ⌜ (countResult r, now (image .exit), now (table .exit)) ≡ carefulPutCall size pages (now (image .entry)) (now (table .entry)) allowed (now (path .entry)) (now (bytes .entry)) ⌝ }
@@ -146,23 +149,17 @@ pub fn put(
     match Geometry::new(size, pages, image.len(), table.len()) {
         Shape::Invalid => Halted::Refused(1, 0),
         Shape::Fits(g) => {
-            let n = g.pages;
-            put_in(image, g, path, bytes, &mut table[..n], allowed)
+            let end = RECORD_BYTES * g.pages;
+            put_in(image, g, path, bytes, &mut table[..end], allowed)
         }
     }
 }
 
 // Deletes in an image whose geometry is known: the check, the delete, then the table of the image as it then stands.
-fn delete_in(
-    image: &mut [u8],
-    g: Geometry,
-    path: &[u8],
-    table: &mut [u16],
-    allowed: usize,
-) -> Halted
+fn delete_in(image: &mut [u8], g: Geometry, path: &[u8], table: &mut [u8], allowed: usize) -> Halted
     requires { ⌜ Fit g (now image) ⌝ }
-    requires { ⌜ length (now table) ≡ g .pages ⌝ }
-    ensures { λ r. ⌜ EffectLeaves g (now (image .entry)) (carefulDelete g allowed (now (path .entry)) (now (image .entry))) (countResult r) (now (image .exit)) (now (table .exit)) ⌝ }
+    requires { ⌜ length (now table) ≡ 4 * g .pages ⌝ }
+    ensures { λ r. ⌜ EffectLeaves g (now (image .entry)) (carefulDelete g allowed (now (path .entry)) (now (image .entry))) (countResult r) (now (image .exit)) (recordsOf (now (table .exit))) ⌝ }
 {
     match volume::check_table(image, g, table) {
         Checked::Refused(number, page) => Halted::Refused(number, page),
@@ -180,7 +177,7 @@ pub fn delete(
     size: u32,
     pages: u32,
     path: &[u8],
-    table: &mut [u16],
+    table: &mut [u8],
     allowed: usize,
 ) -> Halted
     ensures { λ r. ⌜ (countResult r, now (image .exit), now (table .exit)) ≡ carefulDeleteCall size pages (now (image .entry)) (now (table .entry)) allowed (now (path .entry)) ⌝ }
@@ -189,8 +186,8 @@ pub fn delete(
     match Geometry::new(size, pages, image.len(), table.len()) {
         Shape::Invalid => Halted::Refused(1, 0),
         Shape::Fits(g) => {
-            let n = g.pages;
-            delete_in(image, g, path, &mut table[..n], allowed)
+            let end = RECORD_BYTES * g.pages;
+            delete_in(image, g, path, &mut table[..end], allowed)
         }
     }
 }

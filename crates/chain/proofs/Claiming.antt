@@ -22,6 +22,7 @@ use Rattle.rules.specs.PageSets.{count, mem}
 use Rattle.rules.specs.PageSetLaws.{within-length, free-true, mem-true}
 use Rattle.rules.specs.Chain.{Link, link, pages, content, Body, Test, walk}
 use Rattle.rules.specs.ChainLaws.{packet-inv}
+use Rattle.rules.specs.Owners.{OwnerRecord, held}
 use Rattle.owners.specs.Owned.{ownerAt, Represents}
 use Rattle.owners.specs.OwnerLaws.{nonzero-pos, owner-inside, represents-within, represents-set, represents-length, free-represents, taken, inUse, inUse-room}
 use Rattle.chain.specs.declared.Cursor.{Cursor}
@@ -74,20 +75,20 @@ module _ (g : Geometry) (v : View) (test : Test) where
 
   module _ (owner from start : ℕ) where
     -- what holds before a page: the table t represents the claimed pages, and what answers the rest answers the whole
-    pub record Held (t₀ claimed₀ t : List ℕ) (c : Cursor) : Type 0 where
+    pub record Held (t₀ : List OwnerRecord) (claimed₀ : List ℕ) (t : List OwnerRecord) (c : Cursor) : Type 0 where
       pub claimed : List ℕ
       pub fuel : ℕ
       pub represents : Represents t claimed
       pub left : fuel + c .count ≡ suc (g .pages)
       pub counted : length claimed ≡ c .count + length claimed₀
       pub small : c .bytes ≤ 256 * c .count
-      pub same : (r : Claim) (u : List ℕ) → Agrees (c .count) (c .bytes) owner t (walk (g .pages) v test fuel (c .count) claimed (c .from) (c .page)) r u
+      pub same : (r : Claim) (u : List OwnerRecord) → Agrees (c .count) (c .bytes) owner t (walk (g .pages) v test fuel (c .count) claimed (c .from) (c .page)) r u
           → Agrees 0 0 owner t₀ (walk (g .pages) v test (suc (g .pages)) 0 claimed₀ from start) r u
 
-    pub held-first : (t claimed : List ℕ) (c : Cursor) → c ≡ firstStep start from → Represents t claimed → Held t claimed t c
+    pub held-first : (t : List OwnerRecord) (claimed : List ℕ) (c : Cursor) → c ≡ firstStep start from → Represents t claimed → Held t claimed t c
     held-first t claimed c e h = rw e (record { claimed = claimed; fuel = suc (g .pages); represents = h; left = omega arith; counted = omega arith; small = omega arith; same = λ r u a. a })
 
-    module _ {t₀ claimed₀ t : List ℕ} {c : Cursor} (H : Held t₀ claimed₀ t c) (l : length t ≡ g .pages) where
+    module _ {t₀ : List OwnerRecord} {claimed₀ : List ℕ} {t : List OwnerRecord} {c : Cursor} (H : Held t₀ claimed₀ t c) (l : length t ≡ g .pages) where
       open Held H using (claimed, fuel, represents, left, counted, small, same)
 
       -- a chain has at most N pages
@@ -128,7 +129,7 @@ module _ (g : Geometry) (v : View) (test : Test) where
           next-page : d .page ≡ x .next
           next-page = ap (λ (y : Cursor). y .page) is
 
-          pub last : d .page ≡ 0 → (u : List ℕ) → u ≡ set t (c .page) owner
+          pub last : d .page ≡ 0 → (u : List OwnerRecord) → u ≡ set t (c .page) (held owner (c .count))
               → Agrees 0 0 owner t₀ (walk (g .pages) v test (suc (g .pages)) 0 claimed₀ from start) (claim.Chain (d .count) (d .bytes)) u
           last y u w =
               let n : x .next ≡ 0 = sym next-page ∙ y in
@@ -142,8 +143,8 @@ module _ (g : Geometry) (v : View) (test : Test) where
                 w,
               )
 
-          onward : (d .page ≡ 0 → ⊥) → (r : Claim) (u : List ℕ)
-              → Agrees (suc (c .count)) (d .bytes) owner (set t (c .page) owner) (walk (g .pages) v test (g .pages - c .count) (suc (c .count)) (c .page ∷ claimed) (c .page) (x .next)) r u
+          onward : (d .page ≡ 0 → ⊥) → (r : Claim) (u : List OwnerRecord)
+              → Agrees (suc (c .count)) (d .bytes) owner (set t (c .page) (held owner (c .count))) (walk (g .pages) v test (g .pages - c .count) (suc (c .count)) (c .page ∷ claimed) (c .page) (x .next)) r u
               → Agrees (c .count) (c .bytes) owner t (walk (g .pages) v test fuel (c .count) claimed (c .from) (c .page)) r u
           onward y (claim.Chain n m) u (ls, w, a, o, b) = (
             link (c .page) (x .bytes) ∷ ls,
@@ -155,7 +156,7 @@ module _ (g : Geometry) (v : View) (test : Test) where
           onward y (claim.Refused n p) u w =
               one-left _ (walk-enter (g .pages - c .count) claimed c clear ∙ simp (was, then-ok, ne-eqb (x .next) 0 (λ q. y (next-page ∙ q)), choose-false, w, then-err))
 
-          pub again : (d .page ≡ 0 → ⊥) → 0 < owner → c .page < length t → d .bytes ≤ 256 * d .count → (u : List ℕ) → u ≡ set t (c .page) owner → Held t₀ claimed₀ u d
+          pub again : (d .page ≡ 0 → ⊥) → 0 < owner → c .page < length t → d .bytes ≤ 256 * d .count → (u : List OwnerRecord) → u ≡ set t (c .page) (held owner (c .count)) → Held t₀ claimed₀ u d
           again y o h i u w =
               let k : d .count ≡ c .count + 1 = ap (λ (y : Cursor). y .count) is in
               let k′ : d .count ≡ suc (c .count) = omega arith in
@@ -163,7 +164,7 @@ module _ (g : Geometry) (v : View) (test : Test) where
               rw w (record {
                 claimed = c .page ∷ claimed;
                 fuel = g .pages - c .count;
-                represents = represents-set t claimed (c .page) owner represents h z o;
+                represents = represents-set t claimed (c .page) (held owner (c .count)) represents h z o;
                 left = omega (arith, counts);
                 counted = omega arith;
                 small = i;

@@ -8,7 +8,7 @@ use Rattle.geometry.specs.declared.Geometry.{Geometry}
 use Rattle.packet.specs.Packet.{Packet, bad, good, View}
 use Rattle.rules.specs.Result.{Res, ok, err, andThen as _>>=_, andAfter as _>>_, refuse-unless}
 use Rattle.rules.specs.Chain.{Link, pages, content, Body, packetAt, Test, walk}
-use Rattle.rules.specs.Owners.{own}
+use Rattle.rules.specs.Owners.{OwnerRecord, ownFrom}
 use Rattle.owners.specs.Owned.{Represents, freed}
 use Rattle.chain.specs.declared.Cursor.{Cursor}
 use Rattle.chain.specs.declared.Entered.{Entered}
@@ -41,16 +41,16 @@ entered c (ok x) = enter.On (after c (length (x .bytes)) (x .next))
 entered c (err n p) = enter.Refused n p
 
 -- the answer r with the table u agrees with the walk's answer, where k pages and m bytes were passed before and the table then was t
-abbrev pub Agrees : ℕ → ℕ → ℕ → List ℕ → Res (List Link) → Claim → List ℕ → Type 0
+abbrev pub Agrees : ℕ → ℕ → ℕ → List OwnerRecord → Res (List Link) → Claim → List OwnerRecord → Type 0
 Agrees k m owner t walked (claim.Chain n b) u =
-    (ls : List Link) × (walked ≡ ok ls) × (n ≡ k + length ls) × (b ≡ m + length (content ls)) × (u ≡ own owner (pages ls) t)
+    (ls : List Link) × (walked ≡ ok ls) × (n ≡ k + length ls) × (b ≡ m + length (content ls)) × (u ≡ ownFrom owner k (pages ls) t)
 Agrees k m owner t walked (claim.Refused n p) u = walked ≡ err n p
 
 -- for every list of claimed pages that the table represents, the answer is the walk's
-abbrev pub Claims : Geometry → View → Test → ℕ → ℕ → ℕ → List ℕ → Claim → List ℕ → Type 0
+abbrev pub Claims : Geometry → View → Test → ℕ → ℕ → ℕ → List OwnerRecord → Claim → List OwnerRecord → Type 0
 Claims g v test owner from start t r u =
     (claimed : List ℕ) → Represents t claimed → Agrees 0 0 owner t (walk (g .pages) v test (suc (g .pages)) 0 claimed from start) r u
 
 -- the pages of the chain from `start` on are free again
-unfoldable pub Releases : Geometry → View → ℕ → List ℕ → List ℕ → Type 0
+unfoldable pub Releases : Geometry → View → ℕ → List OwnerRecord → List OwnerRecord → Type 0
 Releases g v start before after = (ls : List Link) → ChainAt g v start ls → after ≡ freed (pages ls) before

@@ -4,11 +4,12 @@ use geometry::Geometry;
 use packet::Judged;
 ghost use mathlib.Core.Path.{_≡_};
 ghost use mathlib.Core.Bool.{true};
-ghost use Prim.Native.Nat.{_+_, _<_};
+ghost use Prim.Native.Nat.{_+_, _*_, _<_};
 ghost use lib.ListN.{length};
 ghost use Rattle.geometry.specs.Geometry.{Fit};
 ghost use Rattle.packet.specs.Packet.{viewOf};
 ghost use Rattle.packet.specs.Judged.{judged};
+ghost use Rattle.owners.specs.Records.{recordsOf};
 ghost use Rattle.owners.specs.OwnerLaws.{inUse};
 ghost use Rattle.directory.specs.Faults.{testOf};
 ghost use Rattle.chain.specs.Steps.{firstStep, stepOf};
@@ -122,11 +123,11 @@ pub fn claim_chain(
     owner: usize,
     from: usize,
     start: usize,
-    table: &mut [u16],
+    table: &mut [u8],
 ) -> Claim
     requires { ⌜ Fit g (now image) ⌝ }
-    requires { ⌜ (length (now table) ≡ g .pages) × (0 < owner) × (inUse (now table) < g .pages → owner < 65536) ⌝ }
-    ensures { λ r. ⌜ Claims g (viewOf g (now (image .entry))) (testOf g kind) owner from start (now (table .entry)) r (now (table .exit)) ⌝ }
+    requires { ⌜ (length (now table) ≡ 4 * g .pages) × (0 < owner) × (inUse (recordsOf (now table)) < g .pages → owner < 65536) ⌝ }
+    ensures { λ r. ⌜ Claims g (viewOf g (now (image .entry))) (testOf g kind) owner from start (recordsOf (now (table .entry))) r (recordsOf (now (table .exit))) ⌝ }
 {
     let mut c = Cursor::new(start, from);
     loop {
@@ -139,7 +140,7 @@ pub fn claim_chain(
                 return Claim::Refused(number, at);
             }
             Entered::On(next) => {
-                owners::claim(table, page, owner);
+                owners::claim(table, page, owner, c.count);
                 if next.page == 0 {
                     return Claim::Chain(next.count, next.bytes);
                 }
@@ -150,10 +151,10 @@ pub fn claim_chain(
 }
 
 // Makes the pages of a chain that is known to stand free again.
-pub fn release_chain(image: &[u8], g: Geometry, start: usize, table: &mut [u16])
+pub fn release_chain(image: &[u8], g: Geometry, start: usize, table: &mut [u8])
     requires { ⌜ Fit g (now image) ⌝ }
-    requires { ⌜ KnownChain g (viewOf g (now image)) start × (length (now table) ≡ g .pages) ⌝ }
-    ensures { λ _. ⌜ Releases g (viewOf g (now (image .entry))) start (now (table .entry)) (now (table .exit)) ⌝ }
+    requires { ⌜ KnownChain g (viewOf g (now image)) start × (length (now table) ≡ 4 * g .pages) ⌝ }
+    ensures { λ _. ⌜ Releases g (viewOf g (now (image .entry))) start (recordsOf (now (table .entry))) (recordsOf (now (table .exit))) ⌝ }
 {
     let mut c = Cursor::new(start, start);
     loop {

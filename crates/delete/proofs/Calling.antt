@@ -1,8 +1,9 @@
 -- The call: the check's fault first, and what a delete that is done leaves.
 use mathlib.Core.Path.{_≡_, ap}
 use mathlib.Core.List.{List, _++_}
-use Prim.Native.Nat.{ℕ, _<_}
+use Prim.Native.Nat.{ℕ, _<_, _*_}
 use lib.ListN.{length, getD, drop}
+use Rattle.owners.specs.Records.{recordsOf}
 use Rattle.geometry.specs.declared.Geometry.{Geometry}
 use Rattle.geometry.specs.declared.Shape.the-variants.{Fits}
 use Rattle.geometry.specs.Geometry.{geometryOf}
@@ -25,10 +26,10 @@ unfolding delete
 delete-fault g path image n p e = simp (e, then-err)
 
 module _ (P N : ℕ) (image table path : List ℕ) where
-  pub deleted : (g : Geometry) → geometryOf P N (length image) (length table) ≡ Fits g → (r : Edited) (after u : List ℕ) → EditLeaves g image (delete g path image) r after u
-      → (editResult r, after, u ++ drop (g .pages) table) ≡ deleteCall P N image table path
+  pub deleted : (g : Geometry) → geometryOf P N (length image) (length table) ≡ Fits g → (part : List ℕ) → length part ≡ 4 * g .pages → ((i : ℕ) → getD (part ++ drop (4 * g .pages) table) i 0 < 256)
+      → (r : Edited) (after : List ℕ) → EditLeaves g image (delete g path image) r after (recordsOf part) → (editResult r, after, part ++ drop (4 * g .pages) table) ≡ deleteCall P N image table path
   unfolding deleteCall
-  deleted g e r after u k = changed-leaves P N image table g e (λ g. delete g path image) r after u k
+  deleted g e part l h r after k = changed-leaves P N image table g e part l h (λ g. delete g path image) r after k
 
   pub delete-is : (h : (i : ℕ) → getD image i 0 < 256) (r : Edited) (after t : List ℕ) → (editResult r, after, t) ≡ deleteCall P N image table path
       → Deletes P N image table path (editResult r ≡ ok tt) after

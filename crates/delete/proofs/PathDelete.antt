@@ -26,6 +26,7 @@ use Rattle.edit.specs.declared.Outcome.the-variants as outcome
 use Rattle.edit.specs.OutcomeLaws.{whole-done, whole-refused}
 use Rattle.edit.specs.Plans.{Outcomes}
 use Rattle.rules.specs.declared.Edited.the-variants as edited
+use Rattle.rules.specs.Owners.{OwnerRecord}
 use Rattle.volume.specs.Edits.{leaves, Answered, TableOf}
 use Rattle.delete.specs.Deletes.{CanDelete, deleteWrites, Unlinks, PathDeleted}
 
@@ -37,7 +38,7 @@ a-file : (l : Label) (ls : List Link) → present (aFile l ls) ≡ ok tt
 unfolding present
 a-file l ls = refl
 
-module _ (g : Geometry) (image table path : List ℕ) (T : TableOf g image table) where
+module _ (g : Geometry) (image : List ℕ) (table : List OwnerRecord) (path : List ℕ) (T : TableOf g image table) where
   open TableOf T using (tree, accepted)
 
   abbrev vs : Views

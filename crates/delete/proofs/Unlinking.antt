@@ -19,6 +19,7 @@ use Rattle.rules.specs.Paths.{Path, fileKey, Place, rootPlace, directoryAt}
 use Rattle.rules.specs.TargetLaws.{reached}
 use Rattle.rules.specs.Writes.{edited, editWrites}
 use Rattle.rules.specs.Delete.{deleteEdit}
+use Rattle.rules.specs.Owners.{OwnerRecord}
 use Rattle.owners.specs.Owned.{Represents}
 use Rattle.owners.specs.OwnerLaws.{represents-owners, represents-freed}
 use Rattle.reading_theorems.specs.Accepted.{accepted-iff}
@@ -34,7 +35,7 @@ use Rattle.lookup.specs.Targets.{FileAt}
 use Rattle.volume.specs.Edits.{TableOf}
 use Rattle.delete.specs.Deletes.{CanDelete}
 
-module _ {g : Geometry} {image table : List ℕ} (fit : Fit g image) {s : Slot} {e : Entry} (H : CanDelete g image table s e) where
+module _ {g : Geometry} {image : List ℕ} {table : List OwnerRecord} (fit : Fit g image) {s : Slot} {e : Entry} (H : CanDelete g image table s e) where
   open CanDelete H using (known, path, file)
   open TableOf known using (bytes, tree, accepted, table-is)
   open FileAt file using (target, label, links, found, chain, at)
@@ -62,7 +63,7 @@ module _ {g : Geometry} {image table : List ℕ} (fit : Fit g image) {s : Slot} 
   known-chain = record { links = links; chain = chain }
 
   -- the table without its pages, and the entry's place
-  pub plan : (u : List ℕ) → Releases g (viewOf g image) (e .start) table u → Removal g image u s
+  pub plan : (u : List OwnerRecord) → Releases g (viewOf g image) (e .start) table u → Removal g image u s
   unfolding Releases
   plan u r = record {
     marks = bitmapOf g (used tree) (tree .map);
@@ -84,13 +85,13 @@ module _ {g : Geometry} {image table : List ℕ} (fit : Fit g image) {s : Slot} 
       };
       joins = λ z. absurd (z refl);
     };
-    kept = subst (λ (t : List ℕ). Represents t (left removal)) (sym (r links chain)) (represents-freed table (used tree) (left removal) (pages links)
-        (subst (λ (t : List ℕ). Represents t (used tree)) (sym table-is) (represents-owners (g .pages) tree (well .holds .apart)))
+    kept = subst (λ (t : List OwnerRecord). Represents t (left removal)) (sym (r links chain)) (represents-freed table (used tree) (left removal) (pages links)
+        (subst (λ (t : List OwnerRecord). Represents t (used tree)) (sym table-is) (represents-owners (g .pages) tree (well .holds .apart)))
         (λ x. rw found at (pages-then g image bytes tree well (q .directories) place there k x)));
   }
 
   -- the page writes are the rule's
-  pub unlinked : (u : List ℕ) → Releases g (viewOf g image) (e .start) table u → (budget : Budget) (after : List ℕ) (rest : Budget) → RemovesEntry g image u s budget after rest
+  pub unlinked : (u : List OwnerRecord) → Releases g (viewOf g image) (e .start) table u → (budget : Budget) (after : List ℕ) (rest : Budget) → RemovesEntry g image u s budget after rest
       → _≡_ {A = Progress} (record { image = after; budget = rest })
       (writeAll g (editWrites g (bitmapOf g (used tree) (tree .map)) (deleteEdit q place) tree (edited g (q .directories) (deleteEdit q place) tree)) (record { image = image; budget = budget }))
   unfolding deleteEdit plan

@@ -15,6 +15,7 @@ use Rattle.rules.specs.Check.{check}
 use Rattle.rules.specs.Paths.{Target}
 use Rattle.rules.specs.Writes.{edited, editWrites}
 use Rattle.rules.specs.Delete.{deleteTarget, deleteEdit}
+use Rattle.rules.specs.Owners.{OwnerRecord}
 use Rattle.entries.specs.declared.Slot.{Slot}
 use Rattle.lookup.specs.Targets.{FileAt}
 use Rattle.edit.specs.declared.Outcome.{Outcome}
@@ -22,7 +23,7 @@ use Rattle.edit.specs.Plans.{Outcomes}
 use Rattle.volume.specs.Edits.{TableOf}
 
 -- the image is accepted, the table tells of it, and the entry e at the place s is that of a path's file
-pub record CanDelete (g : Geometry) (image table : List ℕ) (s : Slot) (e : Entry) : Type 0 where
+pub record CanDelete (g : Geometry) (image : List ℕ) (table : List OwnerRecord) (s : Slot) (e : Entry) : Type 0 where
   pub known : TableOf g image table
   pub path : List ℕ
   pub file : FileAt g (viewsOf g image) path (known .tree) s e
@@ -31,7 +32,7 @@ pub record CanDelete (g : Geometry) (image table : List ℕ) (s : Slot) (e : Ent
 abbrev pub deleteWrites : Geometry → Image → Target → List Write
 deleteWrites g i x = let e = deleteEdit (x .to) (x .place) in editWrites g (bitmapOf g (used i) (i .map)) e i (edited g (x .to .directories) e i)
 
-unfoldable pub Unlinks : Geometry → List ℕ → List ℕ → Slot → Entry → Budget → List ℕ → Budget → Type 0
+unfoldable pub Unlinks : Geometry → List ℕ → List OwnerRecord → Slot → Entry → Budget → List ℕ → Budget → Type 0
 Unlinks g image table s e budget after left = (h : CanDelete g image table s e)
     → _≡_ {A = Progress} (record { image = after; budget = left }) (writeAll g (deleteWrites g (h .known .tree) (h .file .target)) (record { image = image; budget = budget }))
 

@@ -3,14 +3,17 @@ use directory::extensions::extension_of;
 use edit::Outcome;
 use entries::Slot;
 use geometry::Geometry;
+use geometry::RECORD_BYTES;
 use geometry::Shape;
 use lookup::PathLookup;
 use packet::Budget;
 use rules::Checked;
 use rules::Edited;
 use rules::Entry;
+ghost use Prim.Native.Nat.{_*_};
 ghost use mathlib.Core.Path.{_≡_};
 ghost use lib.ListN.{length};
+ghost use Rattle.owners.specs.Records.{recordsOf};
 ghost use Rattle.geometry.specs.Geometry.{Fit};
 ghost use Rattle.rules.specs.Delete.{delete as deleted};
 ghost use Rattle.rules.specs.Result.{ok};
@@ -27,12 +30,12 @@ fn unlink(
     g: Geometry,
     slot: Slot,
     e: Entry,
-    table: &mut [u16],
+    table: &mut [u8],
     budget: Budget,
 ) -> Budget
     requires { ⌜ Fit g (now image) ⌝ }
-    requires { ⌜ (length (now table) ≡ g .pages) × CanDelete g (now image) (now table) slot e × Open budget ⌝ }
-    ensures { λ r. ⌜ Unlinks g (now (image .entry)) (now (table .entry)) slot e budget (now (image .exit)) r ⌝ }
+    requires { ⌜ (length (now table) ≡ 4 * g .pages) × CanDelete g (now image) (recordsOf (now table)) slot e × Open budget ⌝ }
+    ensures { λ r. ⌜ Unlinks g (now (image .entry)) (recordsOf (now (table .entry))) slot e budget (now (image .exit)) r ⌝ }
 {
     chain::release_chain(image, g, e.start, table);
     edit::remove_entry(image, g, slot, table, budget)
@@ -43,11 +46,11 @@ pub fn delete_path(
     image: &mut [u8],
     g: Geometry,
     path: &[u8],
-    table: &mut [u16],
+    table: &mut [u8],
     budget: Budget,
 ) -> Outcome
     requires { ⌜ Fit g (now image) ⌝ }
-    requires { ⌜ (length (now table) ≡ g .pages) × TableOf g (now image) (now table) × Open budget ⌝ }
+    requires { ⌜ (length (now table) ≡ 4 * g .pages) × TableOf g (now image) (recordsOf (now table)) × Open budget ⌝ }
     ensures { λ r. ⌜ PathDeleted g (now (image .entry)) (now (path .entry)) budget (now (image .exit)) r ⌝ }
 {
     match lookup::find_file(image, g, path) {
@@ -64,10 +67,10 @@ pub fn delete_path(
 }
 
 // Deletes in an image whose geometry is known: the check, the delete, then the table of the image as it then stands.
-fn delete_in(image: &mut [u8], g: Geometry, path: &[u8], table: &mut [u16]) -> Edited
+fn delete_in(image: &mut [u8], g: Geometry, path: &[u8], table: &mut [u8]) -> Edited
     requires { ⌜ Fit g (now image) ⌝ }
-    requires { ⌜ length (now table) ≡ g .pages ⌝ }
-    ensures { λ r. ⌜ EditLeaves g (now (image .entry)) (deleted g (now (path .entry)) (now (image .entry))) r (now (image .exit)) (now (table .exit)) ⌝ }
+    requires { ⌜ length (now table) ≡ 4 * g .pages ⌝ }
+    ensures { λ r. ⌜ EditLeaves g (now (image .entry)) (deleted g (now (path .entry)) (now (image .entry))) r (now (image .exit)) (recordsOf (now (table .exit))) ⌝ }
 {
     match volume::check_table(image, g, table) {
         Checked::Refused(number, page) => Edited::Refused(number, page),
@@ -83,15 +86,15 @@ fn delete_in(image: &mut [u8], g: Geometry, path: &[u8], table: &mut [u16]) -> E
 }
 
 // Deletes the file at a path. Fills the owner table as a check of the image as it then stands.
-pub fn delete(image: &mut [u8], size: u32, pages: u32, path: &[u8], table: &mut [u16]) -> Edited
+pub fn delete(image: &mut [u8], size: u32, pages: u32, path: &[u8], table: &mut [u8]) -> Edited
     ensures { λ r. ⌜ (editResult r, now (image .exit), now (table .exit)) ≡ deleteCall size pages (now (image .entry)) (now (table .entry)) (now (path .entry)) ⌝ }
     ensures { λ r. ⌜ Deletes size pages (now (image .entry)) (now (table .entry)) (now (path .entry)) (editResult r ≡ ok tt) (now (image .exit)) ⌝ }
 {
     match Geometry::new(size, pages, image.len(), table.len()) {
         Shape::Invalid => Edited::Refused(1, 0),
         Shape::Fits(g) => {
-            let n = g.pages;
-            delete_in(image, g, path, &mut table[..n])
+            let end = RECORD_BYTES * g.pages;
+            delete_in(image, g, path, &mut table[..end])
         }
     }
 }

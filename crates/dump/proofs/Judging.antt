@@ -2,11 +2,12 @@
 use mathlib.Core.Path.{_≡_, refl, ap, sym, _∙_, subst}
 use mathlib.Core.Bool.{Bool, true, false}
 use mathlib.Core.List.{List}
-use Prim.Native.Nat.{ℕ, _-_, _≤_}
+use Prim.Native.Nat.{ℕ, _-_, _≤_, _*_}
 use native.Mathlib.Omega.{arith}
 use lib.ListN.{length, take, drop, length-drop}
 use lib.Seq.{take-all}
 use borrow.Author.Tests.{le-leb}
+use Rattle.rules.specs.Owners.{OwnerRecord}
 use Rattle.geometry.specs.declared.Geometry.{Geometry}
 use Rattle.geometry.specs.declared.Shape.the-variants.{Fits, Invalid}
 use Rattle.geometry.specs.Choose.{choose}
@@ -58,17 +59,17 @@ image-is dump offset e =
     take-all (length dump - offset) (drop offset dump) (omega (arith, length-drop offset dump)) ∙ ap (λ (o : ℕ). drop o dump) (k .1)
 
 -- ---- the check
-pub checks-invalid : (P N : ℕ) (image : List ℕ) → geometryOf P N (length image) 65535 ≡ Invalid → Checks P N image (checked.Refused 1 0)
+pub checks-invalid : (P N : ℕ) (image : List ℕ) → geometryOf P N (length image) 262140 ≡ Invalid → Checks P N image (checked.Refused 1 0)
 checks-invalid P N image e = rw e refl
 
-module _ (P N : ℕ) (image : List ℕ) (g : Geometry) (e : geometryOf P N (length image) 65535 ≡ Fits g) where
+module _ (P N : ℕ) (image : List ℕ) (g : Geometry) (e : geometryOf P N (length image) 262140 ≡ Fits g) where
   pub fits : Fit g image
-  fits = let z = sized-of P N (length image) 65535 g e in record { valid = z .valid; whole = z .whole }
+  fits = let z = sized-of P N (length image) 262140 g e in record { valid = z .valid; whole = z .whole }
 
-  pub few : g .pages ≤ 65535
-  few = fits .valid .few
+  pub room : 4 * g .pages ≤ 262140
+  room = sized-of P N (length image) 262140 g e .room
 
-  module _ (r : Checked) (u : List ℕ) (k : TableChecked g (viewsOf g image) r u) where
+  module _ (r : Checked) (u : List OwnerRecord) (k : TableChecked g (viewsOf g image) r u) where
     pub checks-refused : (n p : ℕ) → r ≡ w.Refused n p → Checks P N image (checked.Refused n p)
     checks-refused n p i = let a : TableChecked g (viewsOf g image) (w.Refused n p) u = subst (λ (x : Checked). TableChecked g (viewsOf g image) x u) i k in rw e (a .0)
 

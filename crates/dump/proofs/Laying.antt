@@ -115,7 +115,7 @@ fails (Fits g) c f n p e = rw e (then-err n p (f g))
 answered : (dump image : List ℕ) (a : Opened) → Checks (dumpSize dump) (dumpPages dump) image a → answerText image a ≡ refusalText (dumpText dump image)
 unfolding answerText dumpText refusalText
 answered dump image (checked.Refused n p) k =
-    ap refusalText (sym (fails (geometryOf (dumpSize dump) (dumpPages dump) (length image) 65535) (λ g. check g (viewsOf g image)) (λ g i. ok (totalsText g (totals i) ++ linesText (linesOf 0 (i .tree)))) n p k))
+    ap refusalText (sym (fails (geometryOf (dumpSize dump) (dumpPages dump) (length image) 262140) (λ g. check g (viewsOf g image)) (λ g i. ok (totalsText g (totals i) ++ linesText (linesOf 0 (i .tree)))) n p k))
 answered dump image (checked.Done g t) k =
     let a = k .1 in
     rw (k .0, a .accepted, then-ok (a .tree) (λ i. ok (totalsText g (totals i) ++ linesText (linesOf 0 (i .tree)))))

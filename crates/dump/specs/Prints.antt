@@ -48,10 +48,10 @@ abbrev pub IsOpened : List ℕ → Opened → Type 0
 IsOpened image (checked.Refused n p) = Unit {0}
 IsOpened image (checked.Done g t) = AcceptedWith g image t
 
--- the check's answer in a table of 65,535 numbers
+-- the check's answer in a table of 65,535 records
 abbrev pub Checks : ℕ → ℕ → List ℕ → Opened → Type 0
-Checks P N image (checked.Refused n p) = inGeometry (geometryOf P N (length image) 65535) (err 1 0) (λ g. check g (viewsOf g image)) ≡ err n p
-Checks P N image (checked.Done g t) = (geometryOf P N (length image) 65535 ≡ Fits g) × AcceptedWith g image t
+Checks P N image (checked.Refused n p) = inGeometry (geometryOf P N (length image) 262140) (err 1 0) (λ g. check g (viewsOf g image)) ≡ err n p
+Checks P N image (checked.Done g t) = (geometryOf P N (length image) 262140 ≡ Fits g) × AcceptedWith g image t
 
 -- the text of an answer
 unfoldable pub answerText : List ℕ → Opened → List ℕ

@@ -42,12 +42,12 @@ image-fits g image h = go (check g (viewsOf g image)) refl
 
 dump-fits : (dump image : List ℕ) → length image ≤ 32768 → length (refusalText (dumpText dump image)) ≤ 102600
 unfolding dumpText
-dump-fits dump image h = go (geometryOf (dumpSize dump) (dumpPages dump) (length image) 65535) refl
+dump-fits dump image h = go (geometryOf (dumpSize dump) (dumpPages dump) (length image) 262140) refl
   where
-    go : (s : Shape) → geometryOf (dumpSize dump) (dumpPages dump) (length image) 65535 ≡ s → length (refusalText (dumpText dump image)) ≤ 102600
+    go : (s : Shape) → geometryOf (dumpSize dump) (dumpPages dump) (length image) 262140 ≡ s → length (refusalText (dumpText dump image)) ≤ 102600
     go Invalid e = unfold dumpText in rw e (omega (arith, refusal-short 1 0))
     go (Fits g) e =
-        let z = sized-of (dumpSize dump) (dumpPages dump) (length image) 65535 g e in
+        let z = sized-of (dumpSize dump) (dumpPages dump) (length image) 262140 g e in
         unfold dumpText in rw e (image-fits g image (few-pages (g .size) (g .pages) (z .valid .least) (omega (arith, z .whole, h))))
 
 pub text-fits : (dump : List ℕ) → length (listText dump) ≤ 102600

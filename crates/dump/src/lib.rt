@@ -1,6 +1,7 @@
 // The text of `list` for a dump: P (2 bytes), N (2), offset of page 0 (4), low byte first; the image stands at that offset and ends the dump.
 use geometry::Geometry;
-use geometry::MOST_OWNERS;
+use geometry::MOST_TABLE_BYTES;
+use geometry::RECORD_BYTES;
 use geometry::Shape;
 use listing::LineSearch;
 use rules::Checked;
@@ -78,12 +79,12 @@ fn place_of(dump: &[u8]) -> Place
 fn check_image(image: &[u8], size: u32, pages: u32) -> Opened
     ensures { λ r. ⌜ Checks size pages (now (image .entry)) r ⌝ }
 {
-    match Geometry::new(size, pages, image.len(), MOST_OWNERS) {
+    match Geometry::new(size, pages, image.len(), MOST_TABLE_BYTES) {
         Shape::Invalid => Opened::Refused(1, 0),
         Shape::Fits(g) => {
-            let n = g.pages;
-            let mut table = [0u16; MOST_OWNERS];
-            match volume::check_table(image, g, &mut table[..n]) {
+            let end = RECORD_BYTES * g.pages;
+            let mut table = [0u8; MOST_TABLE_BYTES];
+            match volume::check_table(image, g, &mut table[..end]) {
                 Checked::Refused(number, page) => Opened::Refused(number, page),
                 Checked::Done(totals) => Opened::Done(g, totals),
             }

@@ -13,6 +13,7 @@ use Rattle.packet.specs.Budgets.{Progress, Open, writeAll}
 use Rattle.rules.specs.declared.Entry.{Entry}
 use Rattle.rules.specs.Chain.{Link, linked, chainOf, pagesFor}
 use Rattle.rules.specs.Names.{entryBytes}
+use Rattle.rules.specs.Owners.{OwnerRecord}
 use Rattle.editing_theorems.specs.EditedImage.{ws₂, image₁, fit₁}
 use Rattle.writes.specs.declared.Change.{Change}
 use Rattle.writes.specs.Stores.{HasRoom, Stores}
@@ -21,7 +22,7 @@ use Rattle.edit.specs.Plans.{Plan}
 use Rattle.edit.specs.StepLaws.{step₁, step₂, stopped₁, open₁}
 use Rattle.edit.specs.ChangeLaws.{can-change, changed-is}
 
-module _ (g : Geometry) (image table bytes : List ℕ) (c : Change) (e : Entry) (budget : Budget) (o : Open budget) (P : Plan g image table bytes c e) where
+module _ (g : Geometry) (image : List ℕ) (table : List OwnerRecord) (bytes : List ℕ) (c : Change) (e : Entry) (budget : Budget) (o : Open budget) (P : Plan g image table bytes c e) where
   pub has-room : HasRoom g table (e .start) (length bytes)
   has-room = record { used = P .used; represents = P .represents; enough = P .enough }
 

@@ -33,6 +33,7 @@ use Rattle.owners.specs.Free.{freeFrom}
 use Rattle.owners.specs.BitLaws.{marks-below}
 use Rattle.editing_theorems.specs.Capacity.{capacity-least}
 use Rattle.rules.specs.EditLaws.{find-none}
+use Rattle.rules.specs.Owners.{OwnerRecord}
 use Rattle.editing_theorems.specs.PutDirectory.{extra-one, extra-old}
 use Rattle.editing_theorems.specs.PutLaws as laws
 use Rattle.editing_theorems.specs.PutLaws.{Asked}
@@ -52,7 +53,7 @@ use Rattle.edit.specs.FilePlans.{full, T′, theEdit, edit-is, plan-of, 
 use Rattle.edit.specs.StepLaws.{step₂, step₃, whole-is, two-stopped, two-open, fit-then, has-root, map-is}
 use Rattle.edit.specs.Plans.{changeOf, entryOf, Plan, Putting, PlainPutting, Outcomes, putWrites}
 
-module _ (g : Geometry) (image table bytes : List ℕ) (sized : length table ≡ g .pages) (f : NewFile) (P : PlainPutting g image table bytes f) where
+module _ (g : Geometry) (image : List ℕ) (table : List OwnerRecord) (bytes : List ℕ) (sized : length table ≡ g .pages) (f : NewFile) (P : PlainPutting g image table bytes f) where
   abbrev a : Asked g image (P .path) bytes
   a = P .asked
 

@@ -10,6 +10,7 @@ use Rattle.packet.specs.Packet.{viewOf, afterWrites}
 use Rattle.packet.specs.declared.Budget.{Budget}
 use Rattle.packet.specs.Budgets.{Progress, Open, writeAll}
 use Rattle.rules.specs.Chain.{Link, linked}
+use Rattle.rules.specs.Owners.{OwnerRecord}
 use Rattle.owners.specs.BitLaws.{marks-none}
 use Rattle.editing_theorems.specs.EditedImage as es
 use Rattle.marks.specs.MapPages.{HasRoot, WritesMap}
@@ -20,7 +21,7 @@ use Rattle.edit.specs.Plans.{Removal}
 use Rattle.edit.specs.ChangeLaws.{can-change, changed-is}
 use Rattle.edit.specs.StepLaws.{step₁, step₂, step₃, two-stopped, two-open, fit-then, has-root, map-is}
 
-module _ (g : Geometry) (image table : List ℕ) (s : Slot) (budget : Budget) (o : Open budget) (R : Removal g image table s) where
+module _ (g : Geometry) (image : List ℕ) (table : List OwnerRecord) (s : Slot) (budget : Budget) (o : Open budget) (R : Removal g image table s) where
   abbrev change : Change
   change = record { slot = s; first = s .at; last = s .at + 1; joins = 0 }
 

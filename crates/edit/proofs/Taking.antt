@@ -6,6 +6,7 @@ use native.Mathlib.Omega.{arith}
 use lib.ListN.{length, take, drop}
 use Rattle.rules.specs.PageSets.{count, freePages}
 use Rattle.rules.specs.PageSetLaws.{hit-same}
+use Rattle.rules.specs.Owners.{OwnerRecord}
 use Rattle.owners.specs.Owned.{Represents}
 use Rattle.owners.specs.OwnerLaws.{taken, represents-taken}
 use Rattle.owners.specs.Free.{freeFrom, Next, found, none, NextFree, RoomBelow, RoomIs, Rooms}
@@ -25,7 +26,7 @@ ahead : (used : List ℕ) (k N r : ℕ) → Next used k N r → 1 ≤ length (fr
 ahead used k N r (found h e) n = record { below = h; head = e; from = from-free used r N h (from-unused used r k N (omega (arith, ap (count r) e, hit-same r))) }
 ahead used k N r (none h e) n = absurd (omega (arith, ap length e))
 
-module _ (table : List ℕ) (extra pages : ℕ) (some : 1 ≤ pages) (r : Room) (R : Rooms table (extra + pages) r) where
+module _ (table : List OwnerRecord) (extra pages : ℕ) (some : 1 ≤ pages) (r : Room) (R : Rooms table (extra + pages) r) where
   pub too-few : r ≡ room.Full → Takes table extra pages took.Full
   unfolding Rooms Takes
   too-few e used h = subst (RoomIs used (length table) (extra + pages)) e (R used h)

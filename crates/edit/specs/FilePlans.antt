@@ -33,6 +33,7 @@ use Rattle.owners.specs.Free.{freeFrom}
 use Rattle.owners.specs.BitLaws.{marks-below}
 use Rattle.editing_theorems.specs.Capacity.{capacity-least}
 use Rattle.rules.specs.EditLaws.{find-none}
+use Rattle.rules.specs.Owners.{OwnerRecord}
 use Rattle.editing_theorems.specs.PutDirectory.{extra-one, extra-old}
 use Rattle.editing_theorems.specs.PutLaws as laws
 use Rattle.editing_theorems.specs.PutLaws.{Asked}
@@ -76,7 +77,7 @@ pages-fit g v size extra h k =
     let q = (size - 1) / c in
     omega (arith, capacity-least g v, div-mul-le-self (size - 1) c, mul-le-mul-right q (capacity-least g v))
 
-module _ {inUse : Path → Image → List ℕ} {g : Geometry} {image table bytes : List ℕ} (sized : length table ≡ g .pages) {f : NewFile} (P : Putting inUse g image table bytes f) where
+module _ {inUse : Path → Image → List ℕ} {g : Geometry} {image : List ℕ} {table : List OwnerRecord} {bytes : List ℕ} (sized : length table ≡ g .pages) {f : NewFile} (P : Putting inUse g image table bytes f) where
   abbrev a : Asked g image (P .path) bytes
   a = P .asked
 

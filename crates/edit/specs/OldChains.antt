@@ -6,6 +6,7 @@ use Rattle.geometry.specs.declared.Geometry.{Geometry}
 use Rattle.packet.specs.Packet.{View}
 use Rattle.rules.specs.Chain.{Link, pages}
 use Rattle.rules.specs.Paths.{Found, nothing, aFile, aDirectory}
+use Rattle.rules.specs.Owners.{OwnerRecord}
 use Rattle.owners.specs.Owned.{freed}
 use Rattle.chain.specs.KnownChain.{ChainAt}
 
@@ -25,5 +26,5 @@ pub record HasOld (g : Geometry) (v : View) (start : ℕ) : Type 0 where
   pub old : OldChain g v start links
 
 -- its pages are free again
-abbrev pub FreesOld : Geometry → View → ℕ → List ℕ → List ℕ → Type 0
+abbrev pub FreesOld : Geometry → View → ℕ → List OwnerRecord → List OwnerRecord → Type 0
 FreesOld g v start before after = (ls : List Link) → OldChain g v start ls → after ≡ freed (pages ls) before

@@ -4,6 +4,7 @@ use mathlib.Core.List.{List, _∷_}
 use Prim.Native.Nat.{ℕ, _+_, _≤_, _<_}
 use lib.ListN.{length, take, drop}
 use Rattle.rules.specs.PageSets.{freePages}
+use Rattle.rules.specs.Owners.{OwnerRecord}
 use Rattle.owners.specs.Owned.{Represents}
 use Rattle.owners.specs.Free.{freeFrom}
 use Rattle.edit.specs.declared.Pages.{Pages}
@@ -24,5 +25,5 @@ abbrev pub TakenIs : List ℕ → ℕ → ℕ → ℕ → Taken → Type 0
 TakenIs used N extra pages (taken.At p) = PagesTaken used N extra pages p
 TakenIs used N extra pages taken.Full = length (freePages used N) < extra + pages
 
-unfoldable pub Takes : List ℕ → ℕ → ℕ → Taken → Type 0
+unfoldable pub Takes : List OwnerRecord → ℕ → ℕ → Taken → Type 0
 Takes table extra pages r = (used : List ℕ) → Represents table used → TakenIs used (length table) extra pages r

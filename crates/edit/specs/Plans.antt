@@ -18,6 +18,7 @@ use Rattle.rules.specs.Bitmap.{bitmapOf}
 use Rattle.rules.specs.Paths.{Path, fileLabel, Target}
 use Rattle.rules.specs.Writes.{edited, editWrites}
 use Rattle.rules.specs.Put.{keptPages, extraPages, itemsAfter, putEdit}
+use Rattle.rules.specs.Owners.{OwnerRecord}
 use Rattle.owners.specs.Owned.{Represents}
 use Rattle.owners.specs.Free.{freeFrom}
 use Rattle.editing_theorems.specs.PageChange.{controlOn}
@@ -41,7 +42,7 @@ abbrev pub entryOf : NewFile → Pages → ℕ → Entry
 entryOf f p n = record { name = f .name; extension = f .extension; start = p .start; pages = n }
 
 -- an edit of a directory of the image whose new chain has the bytes in the lowest free pages from the entry's start page on, and the change that enters the entry
-pub record Plan (g : Geometry) (image table bytes : List ℕ) (c : Change) (e : Entry) : Type 0 where
+pub record Plan (g : Geometry) (image : List ℕ) (table : List OwnerRecord) (bytes : List ℕ) (c : Change) (e : Entry) : Type 0 where
   pub marks : List ℕ
   pub directory : DirectoryOf g image marks
   pub edit : OneEdit directory
@@ -52,12 +53,12 @@ pub record Plan (g : Geometry) (image table bytes : List ℕ) (c : Change) (e : 
   pub entering : Entering edit c (e ∷ [])
 
 -- its first two steps
-abbrev pub Carries : Geometry → List ℕ → List ℕ → List ℕ → Change → Entry → Budget → List ℕ → Budget → Type 0
+abbrev pub Carries : Geometry → List ℕ → List OwnerRecord → List ℕ → Change → Entry → Budget → List ℕ → Budget → Type 0
 Carries g image table bytes c e budget after left = (p : Plan g image table bytes c e) → _≡_ {A = Progress} (record { image = after; budget = left }) (step₂ (p .edit) budget)
 
 -- ---- a removal
 -- an edit without a new chain that takes the entry at a slot out of its directory; the table tells of the pages that stay in use
-pub record Removal (g : Geometry) (image table : List ℕ) (s : Slot) : Type 0 where
+pub record Removal (g : Geometry) (image : List ℕ) (table : List OwnerRecord) (s : Slot) : Type 0 where
   pub marks : List ℕ
   pub directory : DirectoryOf g image marks
   pub edit : OneEdit directory
@@ -65,7 +66,7 @@ pub record Removal (g : Geometry) (image table : List ℕ) (s : Slot) : Type 0 w
   pub entering : Entering edit (record { slot = s; first = s .at; last = s .at + 1; joins = 0 }) []
   pub kept : Represents table (left edit)
 
-abbrev pub RemovesEntry : Geometry → List ℕ → List ℕ → Slot → Budget → List ℕ → Budget → Type 0
+abbrev pub RemovesEntry : Geometry → List ℕ → List OwnerRecord → Slot → Budget → List ℕ → Budget → Type 0
 RemovesEntry g image table s budget after rest = (p : Removal g image table s) → _≡_ {A = Progress} (record { image = after; budget = rest }) (step₃ (p .edit) budget)
 
 -- ---- a put
@@ -99,7 +100,7 @@ pub record EntryPlace (g : Geometry) (image : List ℕ) (q : Path) (d : Items) (
   pub in-new-page : f .extra ≡ 1 → PutInNewPage g (fileLabel q) d f
 
 -- a put that nothing but room could refuse; the table tells of the pages that must not be taken, those that stay in use among them
-pub record Putting (inUse : Path → Image → List ℕ) (g : Geometry) (image table bytes : List ℕ) (f : NewFile) : Type 0 where
+pub record Putting (inUse : Path → Image → List ℕ) (g : Geometry) (image : List ℕ) (table : List OwnerRecord) (bytes : List ℕ) (f : NewFile) : Type 0 where
   pub path : List ℕ
   pub asked : Asked g image path bytes
   pub at : EntryPlace g image (asked .to) (asked .place .items) f
@@ -107,7 +108,7 @@ pub record Putting (inUse : Path → Image → List ℕ) (g : Geometry) (image t
   pub clear : (x : ℕ) → count x (freePages (inUse (asked .to) (asked .tree)) (g .pages)) + count x (keptPages (asked .to) (asked .tree)) ≤ count x (range (g .pages))
 
 -- a plain put: every page that does not stay in use is free
-abbrev pub PlainPutting : Geometry → List ℕ → List ℕ → List ℕ → NewFile → Type 0
+abbrev pub PlainPutting : Geometry → List ℕ → List OwnerRecord → List ℕ → NewFile → Type 0
 PlainPutting = Putting keptPages
 
 -- the page writes that a rule gives, carried out; or its refusal
@@ -121,6 +122,6 @@ abbrev pub putWrites : Geometry → List ℕ → Image → Target → Res (List 
 putWrites g bytes i x = andThen (putEdit g (freePages (keptPages (x .to) i) (g .pages)) (x .to) bytes (x .place))
     (λ e. ok (editWrites g (bitmapOf g (used i) (i .map)) e i (edited g (x .to .directories) e i)))
 
-abbrev pub PutsFile : Geometry → List ℕ → List ℕ → List ℕ → NewFile → Budget → List ℕ → Outcome → Type 0
+abbrev pub PutsFile : Geometry → List ℕ → List OwnerRecord → List ℕ → NewFile → Budget → List ℕ → Outcome → Type 0
 PutsFile g image table bytes f budget after r = (p : PlainPutting g image table bytes f)
     → Outcomes g (putWrites g bytes (p .asked .tree) (record { to = p .asked .to; place = p .asked .place })) image budget after r

@@ -18,6 +18,7 @@ use Rattle.rules.specs.Tree.{Items, Map, inRoot, inFile}
 use Rattle.rules.specs.Bitmap.{bitmapOf, remap}
 use Rattle.rules.specs.WellFormed.{MapHolds}
 use Rattle.rules.specs.Writes.{mapWrites}
+use Rattle.rules.specs.Owners.{OwnerRecord}
 use Rattle.owners.specs.Owned.{Marks}
 use Rattle.editing_theorems.specs.MapWrites.{refill-twice}
 use Rattle.editing_theorems.specs.BudgetedWrites.{all-open, all-stopped, all-stand}
@@ -112,7 +113,7 @@ module _ {g : Geometry} {image marks : List ℕ} {D : DirectoryOf g image marks}
     has-root = subst (λ (i : List ℕ). HasRoot g (viewOf g i)) (sym e) (record { bits = marks; tree = es.whole E; map = D .tree .map; held = held })
 
     -- written from a table that gives the bits of the pages then in use
-    pub map-is : (table : List ℕ) (below : ℕ) → Marks table below (es.left E) → (budget : Budget) (after : List ℕ) (left : Budget) → WritesMap g table below now budget after left
+    pub map-is : (table : List OwnerRecord) (below : ℕ) → Marks table below (es.left E) → (budget : Budget) (after : List ℕ) (left : Budget) → WritesMap g table below now budget after left
         → _≡_ {A = Progress} (record { image = after; budget = left }) (writeAll g (es.ws₃ E) (record { image = now; budget = budget }))
     unfolding WritesMap
     map-is table below h budget after left w =

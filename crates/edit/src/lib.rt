@@ -7,8 +7,9 @@ use packet::Budget;
 use rules::Entry;
 use writes::Change;
 ghost use mathlib.Core.Path.{_≡_};
-ghost use Prim.Native.Nat.{_+_, _≤_, _<_};
+ghost use Prim.Native.Nat.{_+_, _≤_, _<_, _*_};
 ghost use lib.ListN.{length};
+ghost use Rattle.owners.specs.Records.{recordsOf};
 ghost use Rattle.geometry.specs.Geometry.{Fit};
 ghost use Rattle.packet.specs.Packet.{viewOf};
 ghost use Rattle.packet.specs.Budgets.{Open};
@@ -49,10 +50,10 @@ pub struct NewFile {
 }
 
 // Makes the pages of a chain free again; none if its start page is past the image.
-pub fn release_old(image: &[u8], g: Geometry, start: usize, table: &mut [u16])
+pub fn release_old(image: &[u8], g: Geometry, start: usize, table: &mut [u8])
     requires { ⌜ Fit g (now image) ⌝ }
-    requires { ⌜ HasOld g (viewOf g (now image)) start × (length (now table) ≡ g .pages) ⌝ }
-    ensures { λ _. ⌜ FreesOld g (viewOf g (now (image .entry))) start (now (table .entry)) (now (table .exit)) ⌝ }
+    requires { ⌜ HasOld g (viewOf g (now image)) start × (length (now table) ≡ 4 * g .pages) ⌝ }
+    ensures { λ _. ⌜ FreesOld g (viewOf g (now (image .entry))) start (recordsOf (now (table .entry))) (recordsOf (now (table .exit))) ⌝ }
 {
     if start < g.pages {
         chain::release_chain(image, g, start, table);
@@ -60,9 +61,9 @@ pub fn release_old(image: &[u8], g: Geometry, start: usize, table: &mut [u16])
 }
 
 // Finds the lowest free pages for a page that joins, if `extra` is 1, and then for a chain of so many pages.
-pub fn find_pages(table: &[u16], extra: usize, pages: usize) -> Taken
+pub fn find_pages(table: &[u8], extra: usize, pages: usize) -> Taken
     requires { ⌜ (extra ≤ 1) × (1 ≤ pages) × (extra + pages ≤ 18446744073709551615) ⌝ }
-    ensures { λ r. ⌜ Takes (now (table .entry)) extra pages r ⌝ }
+    ensures { λ r. ⌜ Takes (recordsOf (now (table .entry))) extra pages r ⌝ }
 {
     match owners::find_room(table, extra + pages) {
         Room::Full => Taken::Full,
@@ -91,12 +92,12 @@ pub fn put_chain(
     change: Change,
     e: Entry,
     bytes: &[u8],
-    table: &[u16],
+    table: &[u8],
     budget: Budget,
 ) -> Budget
     requires { ⌜ Fit g (now image) ⌝ }
-    requires { ⌜ (length (now table) ≡ g .pages) × Plan g (now image) (now table) (now bytes) change e × Open budget ⌝ }
-    ensures { λ r. ⌜ Carries g (now (image .entry)) (now (table .entry)) (now (bytes .entry)) change e budget (now (image .exit)) r ⌝ }
+    requires { ⌜ (length (now table) ≡ 4 * g .pages) × Plan g (now image) (recordsOf (now table)) (now bytes) change e × Open budget ⌝ }
+    ensures { λ r. ⌜ Carries g (now (image .entry)) (recordsOf (now (table .entry))) (now (bytes .entry)) change e budget (now (image .exit)) r ⌝ }
 {
     let stored = writes::store_chain(image, g, table, e.start, bytes, budget);
     if stored.stopped {
@@ -116,12 +117,12 @@ pub fn put_entry(
     taken: Pages,
     pages: usize,
     bytes: &[u8],
-    table: &[u16],
+    table: &[u8],
     budget: Budget,
 ) -> Budget
     requires { ⌜ Fit g (now image) ⌝ }
-    requires { ⌜ (length (now table) ≡ g .pages) × Plan g (now image) (now table) (now bytes) (changeOf file taken) (entryOf file taken pages) × Open budget ⌝ }
-    ensures { λ r. ⌜ Carries g (now (image .entry)) (now (table .entry)) (now (bytes .entry)) (changeOf file taken) (entryOf file taken pages) budget (now (image .exit)) r ⌝ }
+    requires { ⌜ (length (now table) ≡ 4 * g .pages) × Plan g (now image) (recordsOf (now table)) (now bytes) (changeOf file taken) (entryOf file taken pages) × Open budget ⌝ }
+    ensures { λ r. ⌜ Carries g (now (image .entry)) (recordsOf (now (table .entry))) (now (bytes .entry)) (changeOf file taken) (entryOf file taken pages) budget (now (image .exit)) r ⌝ }
 {
     let slot = file.slot;
     let change = Change {
@@ -145,12 +146,12 @@ pub fn put_file(
     g: Geometry,
     file: NewFile,
     bytes: &[u8],
-    table: &[u16],
+    table: &[u8],
     budget: Budget,
 ) -> Outcome
     requires { ⌜ Fit g (now image) ⌝ }
-    requires { ⌜ (length (now table) ≡ g .pages) × PlainPutting g (now image) (now table) (now bytes) file × Open budget ⌝ }
-    ensures { λ r. ⌜ PutsFile g (now (image .entry)) (now (table .entry)) (now (bytes .entry)) file budget (now (image .exit)) r ⌝ }
+    requires { ⌜ (length (now table) ≡ 4 * g .pages) × PlainPutting g (now image) (recordsOf (now table)) (now bytes) file × Open budget ⌝ }
+    ensures { λ r. ⌜ PutsFile g (now (image .entry)) (recordsOf (now (table .entry))) (now (bytes .entry)) file budget (now (image .exit)) r ⌝ }
 {
     let pages = writes::pages_for(bytes.len(), g.data_capacity());
     match find_pages(table, file.extra, pages) {
@@ -170,12 +171,12 @@ pub fn remove_entry(
     image: &mut [u8],
     g: Geometry,
     slot: Slot,
-    table: &[u16],
+    table: &[u8],
     budget: Budget,
 ) -> Budget
     requires { ⌜ Fit g (now image) ⌝ }
-    requires { ⌜ Removal g (now image) (now table) slot × (slot .at < slot .count) × Open budget ⌝ }
-    ensures { λ r. ⌜ RemovesEntry g (now (image .entry)) (now (table .entry)) slot budget (now (image .exit)) r ⌝ }
+    requires { ⌜ Removal g (now image) (recordsOf (now table)) slot × (slot .at < slot .count) × Open budget ⌝ }
+    ensures { λ r. ⌜ RemovesEntry g (now (image .entry)) (recordsOf (now (table .entry))) slot budget (now (image .exit)) r ⌝ }
 {
     let change = Change {
         slot,

@@ -11,6 +11,7 @@ use Rattle.geometry.specs.Geometry.{dataCapacity, bitmapSize, Valid, Fit}
 use Rattle.packet.specs.Packet.{Write, write, writePage, afterWrites}
 use Rattle.rules.specs.Chain.{linked, chainOf, pagesFor}
 use Rattle.rules.specs.Format.{upward}
+use Rattle.rules.specs.Owners.{OwnerRecord}
 use Rattle.editing_theorems.specs.Capacity.{capacity-is, capacity-least}
 use Rattle.editing_theorems.specs.FormatLaws.{map-room}
 use Rattle.marks.specs.Marks.{marksFrom}
@@ -28,7 +29,7 @@ pages-last : (capacity n : ℕ) → 0 < capacity → n ≤ capacity → pagesFor
 pages-last capacity n h k = ap suc (div-eq-of-lt (omega arith))
 
 -- ---- the packets from a page on: so many bytes left after those done
-module _ (capacity : ℕ) (h : 0 < capacity) (table : List ℕ) (bound : ℕ) where
+module _ (capacity : ℕ) (h : 0 < capacity) (table : List OwnerRecord) (bound : ℕ) where
   abbrev pub bitsFrom : ℕ → ℕ → ℕ → List Write
   bitsFrom page done left = linked (chainOf capacity (upward page (pagesFor capacity left)) (marksFrom table bound (8 * done) left))
 
@@ -63,12 +64,12 @@ module _ (g : Geometry) (v : Valid g) (bytes capacity : ℕ) (e : bytes ≡ bitm
   unfolding mapPageCount
   count-is count k = k ∙ ap₂ pagesFor f e
 
-  pub count-below : (count : ℕ) (table : List ℕ) → count ≡ pagesFor capacity bytes → length table ≡ g .pages → count < length table
+  pub count-below : (count : ℕ) → count ≡ pagesFor capacity bytes → count < g .pages
   unfolding mapPageCount
-  count-below count table k l = omega (arith, count-is count k, map-room g v)
+  count-below count k = omega (arith, count-is count k, map-room g v)
 
 -- ---- the loop: what is left to write from here gives the whole
-pub record Held (g : Geometry) (table : List ℕ) (bound : ℕ) (start image : List ℕ) (capacity page done left : ℕ) : Type 0 where
+pub record Held (g : Geometry) (table : List OwnerRecord) (bound : ℕ) (start image : List ℕ) (capacity page done left : ℕ) : Type 0 where
   pub fit : Fit g image
   pub capacity-is : capacity ≡ dataCapacity g
   pub some : 1 ≤ left
@@ -77,7 +78,7 @@ pub record Held (g : Geometry) (table : List ℕ) (bound : ℕ) (start image : L
   pub below : page + pagesFor capacity left ≤ g .pages
   pub onward : afterWrites g (linked (chainOf capacity (upward page (pagesFor capacity left)) (marksFrom table bound (8 * done) left))) image ≡ afterWrites g (bitsWrites g table bound) start
 
-pub held-first : (g : Geometry) (table : List ℕ) (bound : ℕ) (image : List ℕ) (capacity size : ℕ) → Fit g image → capacity ≡ dataCapacity g → size ≡ bitmapSize g → Held g table bound image image capacity 1 0 size
+pub held-first : (g : Geometry) (table : List OwnerRecord) (bound : ℕ) (image : List ℕ) (capacity size : ℕ) → Fit g image → capacity ≡ dataCapacity g → size ≡ bitmapSize g → Held g table bound image image capacity 1 0 size
 unfolding bitsWrites mapPageCount
 held-first g table bound image capacity size fit e f = rw (e, f) (record {
   fit = fit;
@@ -89,7 +90,7 @@ held-first g table bound image capacity size fit e f = rw (e, f) (record {
   onward = refl;
 })
 
-module _ {g : Geometry} {table : List ℕ} {bound : ℕ} {start image : List ℕ} {capacity page done left : ℕ} (held : Held g table bound start image capacity page done left) where
+module _ {g : Geometry} {table : List OwnerRecord} {bound : ℕ} {start image : List ℕ} {capacity page done left : ℕ} (held : Held g table bound start image capacity page done left) where
   pub some-capacity : 0 < capacity
   some-capacity = omega (arith, held .capacity-is, capacity-least g (held .fit .valid))
 

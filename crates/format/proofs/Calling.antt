@@ -2,8 +2,9 @@
 use mathlib.Core.Path.{_≡_, ap}
 use mathlib.Core.Bool.{Bool}
 use mathlib.Core.List.{List, _++_}
-use Prim.Native.Nat.{ℕ, _<_}
+use Prim.Native.Nat.{ℕ, _<_, _*_}
 use lib.ListN.{length, getD, drop}
+use Rattle.owners.specs.Records.{recordsOf}
 use Rattle.geometry.specs.declared.Geometry.{Geometry}
 use Rattle.geometry.specs.declared.Shape.the-variants.{Fits}
 use Rattle.geometry.specs.Geometry.{geometryOf}
@@ -20,10 +21,10 @@ use Rattle.volume.proofs.EditLaws.{changed-leaves}
 
 module _ (P N : ℕ) (image table : List ℕ) where
   -- ---- format
-  pub format-leaves : (g : Geometry) → geometryOf P N (length image) (length table) ≡ Fits g → (local : Bool) (r : Edited) (after u : List ℕ) → EditLeaves g image (format g local image) r after u
-      → (editResult r, after, u ++ drop (g .pages) table) ≡ formatCall P N image table local
+  pub format-leaves : (g : Geometry) → geometryOf P N (length image) (length table) ≡ Fits g → (part : List ℕ) → length part ≡ 4 * g .pages → ((i : ℕ) → getD (part ++ drop (4 * g .pages) table) i 0 < 256)
+      → (local : Bool) (r : Edited) (after : List ℕ) → EditLeaves g image (format g local image) r after (recordsOf part) → (editResult r, after, part ++ drop (4 * g .pages) table) ≡ formatCall P N image table local
   unfolding formatCall
-  format-leaves g e local r after u k = changed-leaves P N image table g e (λ g. format g local image) r after u k
+  format-leaves g e part l h local r after k = changed-leaves P N image table g e part l h (λ g. format g local image) r after k
 
   pub format-is : ((i : ℕ) → getD image i 0 < 256) → (local : Bool) (r : Edited) (after t : List ℕ) → (editResult r, after, t) ≡ formatCall P N image table local
       → Formats P N image table local (editResult r ≡ ok tt) (λ x. editResult r ≡ x) after

@@ -21,6 +21,7 @@ use Rattle.rules.specs.Bitmap.{bitmapFrom, refill}
 use Rattle.rules.specs.BitmapLaws.{length-bitmap, bytes-bitmap, refill-same}
 use Rattle.owners.specs.Owned.{Marks}
 use Rattle.rules.specs.Format.{upward, emptyImage, formatWrites, format}
+use Rattle.rules.specs.Owners.{OwnerRecord}
 use Rattle.editing_theorems.specs.AfterWrites.{bytes-after-writes, after-writes-packets, after-writes-same}
 use Rattle.editing_theorems.specs.NewChains.{length-upward}
 use Rattle.editing_theorems.specs.FormatLaws.{root-fits, map-content, map-bits}
@@ -73,7 +74,7 @@ module _ (g : Geometry) (valid : Valid g) where
       let c = length-chain-of (dataCapacity g) (upward 1 (pagesFor (dataCapacity g) (bitmapSize g))) fileBits ∙ length-upward 1 (pagesFor (dataCapacity g) (bitmapSize g)) in
       ap (λ (m : ℕ). controlField (g .width) 0 (placeBytes (g .width) 1 m)) (sym c) ∙ sym (append-nil (rootControl (g .width) fileBits (inFile fileChain)))
 
-  pub file-emptied : (image root after table : List ℕ) (below : ℕ) (four : List ℕ) (count : ℕ) → count ≡ mapPageCount g → Marks table below (0 ∷ upward 1 count)
+  pub file-emptied : (image root after : List ℕ) (table : List OwnerRecord) (below : ℕ) (four : List ℕ) (count : ℕ) → count ≡ mapPageCount g → Marks table below (0 ∷ upward 1 count)
       → four ≡ placeBytes (g .width) 1 count → root ≡ writePage g (write 0 (controlField (g .width) 0 four) 0) image → after ≡ afterWrites g (bitsWrites g table below) root → after ≡ emptied g false image
   unfolding emptied afterWrites bitsWrites mapPageCount
   file-emptied image root after table below four count c h p e f =

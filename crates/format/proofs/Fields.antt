@@ -11,6 +11,7 @@ use Rattle.geometry.specs.NumberLaws.{length-number}
 use Rattle.geometry.specs.Page.{overwritten}
 use Rattle.packet.proofs.Fronts.{front, front-more, front-whole, zeros-front, front-size}
 use Rattle.rules.specs.Control.{marker, placeBytes}
+use Rattle.rules.specs.Owners.{OwnerRecord}
 use Rattle.editing_theorems.specs.Capacity.{capacity-is, capacity-least}
 use Rattle.marks.specs.Marks.{marksFrom}
 use Rattle.format.specs.Formats.{controlField}
@@ -87,5 +88,5 @@ control-room g v = omega (arith, capacity-least g v, v .two)
 pub capacity-most : (g : Geometry) → Valid g → (n : ℕ) → n ≤ dataCapacity g → n ≤ 252
 capacity-most g v n h = omega (arith, capacity-is g, v .most, v .one)
 
-pub marks-front : (table : List ℕ) (below : ℕ) (xs : List ℕ) (k size room : ℕ) → size ≤ room → xs ≡ marksFrom table below k (length (take size (replicate {A = ℕ} room 0))) → xs ≡ marksFrom table below k size
+pub marks-front : (table : List OwnerRecord) (below : ℕ) (xs : List ℕ) (k size room : ℕ) → size ≤ room → xs ≡ marksFrom table below k (length (take size (replicate {A = ℕ} room 0))) → xs ≡ marksFrom table below k size
 marks-front table below xs k size room h e = e ∙ ap (marksFrom table below k) (zeros-front size room h)

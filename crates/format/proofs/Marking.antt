@@ -8,6 +8,7 @@ use lib.ListN.{replicate}
 use Rattle.rules.specs.PageSets.{count, range}
 use Rattle.rules.specs.PageSetLaws.{range-below, range-above}
 use Rattle.rules.specs.Format.{upward}
+use Rattle.rules.specs.Owners.{OwnerRecord, free}
 use Rattle.owners.specs.Owned.{ownerAt, nonzero, Marks}
 use Rattle.owners.specs.OwnerLaws.{represents-none}
 use Rattle.owners.specs.BitLaws.{bit-below, bit-from}
@@ -18,8 +19,8 @@ up-to x last =
     let e : 0 + suc last ≡ suc last = omega arith in
     omega (arith, count-upward x 0 (suc last), ap (λ (n : ℕ). count x (range n)) e)
 
-pub new-marks : (table : List ℕ) (n last : ℕ) → table ≡ replicate n 0 → Marks table (last + 1) (0 ∷ upward 1 last)
+pub new-marks : (table : List OwnerRecord) (n last : ℕ) → table ≡ replicate n free → Marks table (last + 1) (0 ∷ upward 1 last)
 new-marks table n last e x = elim (decLt x (last + 1)) [
   | yes h ↦ up-to x last ∙ range-below x (suc last) (omega arith) ∙ sym (bit-below table (last + 1) x h)
-  | no h ↦ up-to x last ∙ range-above x (suc last) (omega arith) ∙ sym (bit-from table (last + 1) x (omega arith) ∙ ap (λ (t : List ℕ). nonzero (ownerAt t x)) e ∙ sym (represents-none n x))
+  | no h ↦ up-to x last ∙ range-above x (suc last) (omega arith) ∙ sym (bit-from table (last + 1) x (omega arith) ∙ ap (λ (t : List OwnerRecord). nonzero (ownerAt t x)) e ∙ sym (represents-none n x))
 ]

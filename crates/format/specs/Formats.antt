@@ -9,6 +9,7 @@ use Rattle.packet.specs.Packet.{Write, afterWrites}
 use Rattle.rules.specs.Chain.{linked, chainOf, pagesFor}
 use Rattle.rules.specs.Control.{marker}
 use Rattle.rules.specs.Format.{upward, emptyImage, formatWrites}
+use Rattle.rules.specs.Owners.{OwnerRecord}
 use Rattle.marks.specs.Marks.{marksFrom}
 
 -- marker, map address 0, bitmap control, four bytes
@@ -20,7 +21,7 @@ unfoldable pub mapPageCount : Geometry → ℕ
 mapPageCount g = pagesFor (dataCapacity g) (bitmapSize g)
 
 -- the packets of a new bitmap file whose bits an owner table and a bound tell
-unfoldable pub bitsWrites : Geometry → List ℕ → ℕ → List Write
+unfoldable pub bitsWrites : Geometry → List OwnerRecord → ℕ → List Write
 bitsWrites g table below = linked (chainOf (dataCapacity g) (upward 1 (mapPageCount g)) (marksFrom table below 0 (bitmapSize g)))
 
 -- the image without entries, written over an image

@@ -12,12 +12,14 @@ use geometry::MARKER_BYTES;
 use geometry::MOST_CONTROL_BYTES;
 use geometry::MOST_DATA_BYTES;
 use geometry::MOST_LOCAL_PAGES;
+use geometry::RECORD_BYTES;
 use geometry::Shape;
 use rules::Edited;
 ghost use mathlib.Core.Path.{_≡_};
 ghost use mathlib.Core.Bool.{true, false, not, _||_};
 ghost use Prim.Native.Nat.{_+_, _*_, _≤_, _<_};
 ghost use lib.ListN.{length};
+ghost use Rattle.owners.specs.Records.{recordsOf};
 ghost use Rattle.geometry.specs.Geometry.{Fit, dataCapacity};
 ghost use Rattle.packet.specs.Packet.{writePage, write, afterWrites};
 ghost use Rattle.rules.specs.Control.{placeBytes, localAllowed};
@@ -89,12 +91,12 @@ fn write_bytes(
     next: usize,
     done: usize,
     size: usize,
-    table: &[u16],
+    table: &[u8],
     below: usize,
 )
     requires { ⌜ Fit g (now image) ⌝ }
     requires { ⌜ (page < g .pages) × (size ≤ dataCapacity g) × (done + size ≤ 65536) ⌝ }
-    ensures { λ _. ⌜ now (image .exit) ≡ writePage g (write page (marksFrom (now (table .entry)) below (8 * done) size) next) (now (image .entry)) ⌝ }
+    ensures { λ _. ⌜ now (image .exit) ≡ writePage g (write page (marksFrom (recordsOf (now (table .entry))) below (8 * done) size) next) (now (image .entry)) ⌝ }
 {
     let mut bytes = [0u8; MOST_DATA_BYTES];
     marks::fill(&mut bytes[..size], 8 * done, table, below);
@@ -102,9 +104,9 @@ fn write_bytes(
 }
 
 // Writes the bitmap file from page 1 upward: full packets, then the last.
-fn write_bits(image: &mut [u8], g: Geometry, table: &[u16], below: usize)
+fn write_bits(image: &mut [u8], g: Geometry, table: &[u8], below: usize)
     requires { ⌜ Fit g (now image) ⌝ }
-    ensures { λ _. ⌜ now (image .exit) ≡ afterWrites g (bitsWrites g (now (table .entry)) below) (now (image .entry)) ⌝ }
+    ensures { λ _. ⌜ now (image .exit) ≡ afterWrites g (bitsWrites g (recordsOf (now (table .entry))) below) (now (image .entry)) ⌝ }
 {
     let capacity = g.data_capacity();
     let mut left = g.bitmap_size();
@@ -120,9 +122,9 @@ fn write_bits(image: &mut [u8], g: Geometry, table: &[u16], below: usize)
 }
 
 // Writes an image without entries with a bitmap file: the pages up to its last are in use, no others.
-fn write_file(image: &mut [u8], g: Geometry, table: &mut [u16])
+fn write_file(image: &mut [u8], g: Geometry, table: &mut [u8])
     requires { ⌜ Fit g (now image) ⌝ }
-    requires { ⌜ length (now table) ≡ g .pages ⌝ }
+    requires { ⌜ length (now table) ≡ 4 * g .pages ⌝ }
     ensures { λ _. ⌜ now (image .exit) ≡ emptied g false (now (image .entry)) ⌝ }
 {
     let count = writes::pages_for(g.bitmap_size(), g.data_capacity());
@@ -134,9 +136,9 @@ fn write_file(image: &mut [u8], g: Geometry, table: &mut [u16])
 }
 
 // Writes an image without entries.
-fn write_empty(image: &mut [u8], g: Geometry, table: &mut [u16], local: bool)
+fn write_empty(image: &mut [u8], g: Geometry, table: &mut [u8], local: bool)
     requires { ⌜ Fit g (now image) ⌝ }
-    requires { ⌜ length (now table) ≡ g .pages ⌝ }
+    requires { ⌜ length (now table) ≡ 4 * g .pages ⌝ }
     ensures { λ _. ⌜ now (image .exit) ≡ emptied g local (now (image .entry)) ⌝ }
 {
     if local {
@@ -157,10 +159,10 @@ fn is_allowed(g: Geometry, local: bool) -> bool
 }
 
 // Formats an image whose geometry is known: 4 for a local bitmap with N above 32.
-fn format_in(image: &mut [u8], g: Geometry, table: &mut [u16], local: bool) -> Edited
+fn format_in(image: &mut [u8], g: Geometry, table: &mut [u8], local: bool) -> Edited
     requires { ⌜ Fit g (now image) ⌝ }
-    requires { ⌜ length (now table) ≡ g .pages ⌝ }
-    ensures { λ r. ⌜ EditLeaves g (now (image .entry)) (formatted g local (now (image .entry))) r (now (image .exit)) (now (table .exit)) ⌝ }
+    requires { ⌜ length (now table) ≡ 4 * g .pages ⌝ }
+    ensures { λ r. ⌜ EditLeaves g (now (image .entry)) (formatted g local (now (image .entry))) r (now (image .exit)) (recordsOf (now (table .exit))) ⌝ }
 {
     if is_allowed(g, local) {
         write_empty(image, g, table, local);
@@ -173,15 +175,15 @@ fn format_in(image: &mut [u8], g: Geometry, table: &mut [u16], local: bool) -> E
 
 // Formats an image: page 0 and, unless the bitmap is to be local, the bitmap file from page 1 upward.
 // Fills the owner table as a check of the image as it then stands.
-pub fn format(image: &mut [u8], size: u32, pages: u32, table: &mut [u16], local: bool) -> Edited
+pub fn format(image: &mut [u8], size: u32, pages: u32, table: &mut [u8], local: bool) -> Edited
     ensures { λ r. ⌜ (editResult r, now (image .exit), now (table .exit)) ≡ formatCall size pages (now (image .entry)) (now (table .entry)) local ⌝ }
     ensures { λ r. ⌜ Formats size pages (now (image .entry)) (now (table .entry)) local (editResult r ≡ ok tt) (λ x. editResult r ≡ x) (now (image .exit)) ⌝ }
 {
     match Geometry::new(size, pages, image.len(), table.len()) {
         Shape::Invalid => Edited::Refused(1, 0),
         Shape::Fits(g) => {
-            let n = g.pages;
-            format_in(image, g, &mut table[..n], local)
+            let end = RECORD_BYTES * g.pages;
+            format_in(image, g, &mut table[..end], local)
         }
     }
 }

@@ -34,13 +34,13 @@ module _ (P N i o : ℕ) where
           wrong-image h = simp (geometryOf, right, le-leb 32 P a, le-leb P 256 b, le-leb 2 N c, le-leb N 65535 d, ne-eqb i (P * N) h, choose-false)
 
           module _ (e : i ≡ P * N) where
-            pub short-table : o < N → Invalid ≡ geometryOf P N i o
+            pub short-table : o < 4 * N → Invalid ≡ geometryOf P N i o
             unfolding geometryOf right
-            short-table h = simp (geometryOf, right, le-leb 32 P a, le-leb P 256 b, le-leb 2 N c, le-leb N 65535 d, eq-eqb i (P * N) e, lt-leb N o h, choose-false)
+            short-table h = simp (geometryOf, right, le-leb 32 P a, le-leb P 256 b, le-leb 2 N c, le-leb N 65535 d, eq-eqb i (P * N) e, lt-leb (4 * N) o h, choose-false)
 
-            pub fitting : (w : ℕ) → N ≤ o → w ≡ widthFor N → Fits (record { size = P; pages = N; width = w }) ≡ geometryOf P N i o
+            pub fitting : (w : ℕ) → 4 * N ≤ o → w ≡ widthFor N → Fits (record { size = P; pages = N; width = w }) ≡ geometryOf P N i o
             unfolding geometryOf right
-            fitting w h k = simp (geometryOf, right, le-leb 32 P a, le-leb P 256 b, le-leb 2 N c, le-leb N 65535 d, eq-eqb i (P * N) e, le-leb N o h, choose-true, k)
+            fitting w h k = simp (geometryOf, right, le-leb 32 P a, le-leb P 256 b, le-leb 2 N c, le-leb N 65535 d, eq-eqb i (P * N) e, le-leb (4 * N) o h, choose-true, k)
 
 pub narrow : (N : ℕ) → N ≤ 256 → 1 ≡ widthFor N
 unfolding widthFor

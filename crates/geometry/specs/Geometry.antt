@@ -14,9 +14,9 @@ use Rattle.geometry.specs.Choose.{choose}
 unfoldable pub widthFor : ℕ → ℕ
 widthFor pages = choose (leb pages 256) 1 2
 
--- P is 32 to 256, N is 2 to 65,535, the image exactly P times N bytes, the owner table at least N numbers
+-- P is 32 to 256, N is 2 to 65,535, the image exactly P times N bytes, the owner table at least four bytes a page
 unfoldable pub right : ℕ → ℕ → ℕ → ℕ → Bool
-right size pages image owners = leb 32 size && (leb size 256 && (leb 2 pages && (leb pages 65535 && (eqb image (size * pages) && leb pages owners))))
+right size pages image owners = leb 32 size && (leb size 256 && (leb 2 pages && (leb pages 65535 && (eqb image (size * pages) && leb (4 * pages) owners))))
 
 -- the geometry, or number 1
 unfoldable pub geometryOf : ℕ → ℕ → ℕ → ℕ → Shape

@@ -24,7 +24,7 @@ width-two N = on-choose (leb N 256) 1 2 (widthFor N) refl (λ t e. omega (arith,
 pub record Sized (i o : ℕ) (g : Geometry) : Type 0 where
   pub valid : Valid g
   pub whole : i ≡ g .size * g .pages
-  pub room : g .pages ≤ o
+  pub room : 4 * g .pages ≤ o
 
 pub sized-of : (P N i o : ℕ) (g : Geometry) → geometryOf P N i o ≡ Fits g → Sized i o g
 unfolding geometryOf right
@@ -47,7 +47,7 @@ sized-of P N i o g e = on-choose _ _ _ _ e
         two = width-two N;
       };
       whole = eqb-true i (P * N) (r₅ .0);
-      room = leb-true N o (r₅ .1);
+      room = leb-true (4 * N) o (r₅ .1);
     }))
     (λ t e. absurd (let z : _≡_ {A = ℕ} 0 1 = cc in omega arith))
 

@@ -31,7 +31,7 @@ pub const MOST_PAGES: u32 = 65535;
 // The same as lengths in memory: a buffer for any page, an owner table for any image.
 pub const MOST_PAGE_BYTES: usize = MOST_SIZE as usize;
 
-pub const MOST_OWNERS: usize = MOST_PAGES as usize;
+pub const MOST_TABLE_BYTES: usize = RECORD_BYTES * MOST_PAGES as usize;
 
 // The greatest page count whose page numbers take one byte.
 pub const MOST_NARROW: usize = 256;
@@ -104,6 +104,9 @@ pub const MOST_FILE: u8 = 99;
 
 pub const DIRECTORY: u8 = 127;
 
+// The bytes of a page's record in the owner table.
+pub const RECORD_BYTES: usize = 4;
+
 // The owner's numbers in the owner table: of the root, of the bitmap file, and of the entry at walk position 0; a free page has 0.
 pub const ROOT_OWNER: usize = 1;
 
@@ -139,7 +142,7 @@ impl Geometry {
         if image != size * pages {
             return Shape::Invalid;
         }
-        if owners < pages {
+        if owners < RECORD_BYTES * pages {
             return Shape::Invalid;
         }
         let mut width = 2;

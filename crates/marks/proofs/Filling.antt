@@ -10,8 +10,9 @@ use Rattle.owners.specs.Owned.{pageBit}
 use Rattle.owners.specs.BitLaws.{bit-le}
 use Rattle.marks.specs.Marks.{byteMarks, marksFrom}
 use Rattle.marks.specs.MarkLaws.{marks-append}
+use Rattle.rules.specs.Owners.{OwnerRecord}
 
-module _ (t : List ℕ) (below : ℕ) where
+module _ (t : List OwnerRecord) (below : ℕ) where
   -- four bits
   pub four : (k a b c d r : ℕ) → a ≡ pageBit t below k → b ≡ pageBit t below (k + 1) → c ≡ pageBit t below (k + 2) → d ≡ pageBit t below (k + 3)
       → r ≡ a + 2 * b + 4 * c + 8 * d → (r ≡ byteMarks t below k 4) × (r < 16)

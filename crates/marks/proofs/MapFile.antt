@@ -20,6 +20,7 @@ use Rattle.rules.specs.PageSetLaws.{hit-same}
 use Rattle.rules.specs.Chain.{Link, link, pages, first, content, linked}
 use Rattle.rules.specs.Bitmap.{refill}
 use Rattle.rules.specs.BitmapLaws.{first-refill}
+use Rattle.rules.specs.Owners.{OwnerRecord}
 use Rattle.reading_theorems.specs.DirectoryComplete.{pages-fit}
 use Rattle.editing_theorems.specs.AfterWrites.{writePages, WriteFits}
 use Rattle.editing_theorems.specs.BudgetedWrites.{one-fit, one-elsewhere}
@@ -34,7 +35,7 @@ use Rattle.marks.specs.MarkLaws.{length-marks, marks-append, bytes-marks
 use Rattle.marks.specs.MapPages.{MapFileAt, fileWrites}
 
 -- before a page is written
-pub record Writing (g : Geometry) (table : List ℕ) (below total : ℕ) (target : Progress) (image : List ℕ) (budget : Budget) (c : Cursor) : Type 0 where
+pub record Writing (g : Geometry) (table : List OwnerRecord) (below total : ℕ) (target : Progress) (image : List ℕ) (budget : Budget) (c : Cursor) : Type 0 where
   pub fit : Fit g image
   pub more : List Link
   pub following : Following g (viewOf g image) total c more
@@ -43,10 +44,10 @@ pub record Writing (g : Geometry) (table : List ℕ) (below total : ℕ) (target
   pub open-still : Open budget
 
 -- the bitmap file written whole
-abbrev pub fileWritten : Geometry → List ℕ → ℕ → List Link → List ℕ → Budget → Progress
+abbrev pub fileWritten : Geometry → List OwnerRecord → ℕ → List Link → List ℕ → Budget → Progress
 fileWritten g table below ls image budget = writeAll g (fileWrites table below ls) (record { image = image; budget = budget })
 
-pub write-first : (g : Geometry) (table : List ℕ) (below start : ℕ) (c : Cursor) (ls : List Link) (image : List ℕ) (budget : Budget) → Fit g image → Open budget → c ≡ firstStep start start
+pub write-first : (g : Geometry) (table : List OwnerRecord) (below start : ℕ) (c : Cursor) (ls : List Link) (image : List ℕ) (budget : Budget) → Fit g image → Open budget → c ≡ firstStep start start
     → MapFileAt g (viewOf g image) start ls → Writing g table below (length ls) (fileWritten g table below ls image budget) image budget c
 write-first g table below start c ls image budget fit o e d =
     let b : c .bytes ≡ 0 = ap (λ (x : Cursor). x .bytes) e in
@@ -61,7 +62,7 @@ write-first g table below start c ls image budget fit o e d =
     }
 
 -- a chain's first write, and those that are left
-refill-split : (table : List ℕ) (below k p : ℕ) (b : List ℕ) (ls : List Link) → linked (refill (link p b ∷ ls) (marksFrom table below k (length (b ++ content ls))))
+refill-split : (table : List OwnerRecord) (below k p : ℕ) (b : List ℕ) (ls : List Link) → linked (refill (link p b ∷ ls) (marksFrom table below k (length (b ++ content ls))))
     ≡ write p (marksFrom table below k (length b)) (first ls) ∷ linked (refill ls (marksFrom table below (k + 8 * length b) (length (content ls))))
 refill-split table below k p b ls =
     let n = length b in
@@ -78,7 +79,7 @@ first-small N [] z h = z
 first-small N (link p b ∷ ls) z h = h p (omega (arith, hit-same p))
 
 -- ---- one page written
-module _ {g : Geometry} {table : List ℕ} {under total : ℕ} {target : Progress} {image : List ℕ} {budget : Budget} {c : Cursor} (W : Writing g table under total target image budget c)
+module _ {g : Geometry} {table : List OwnerRecord} {under total : ℕ} {target : Progress} {image : List ℕ} {budget : Budget} {c : Cursor} (W : Writing g table under total target image budget c)
     {size : ℕ} {d : Cursor} {s : Step} (m : s ≡ step.Page size d) (o : s ≡ stepOf g (viewOf g image) c) where
   abbrev v : View
   v = viewOf g image

@@ -19,6 +19,7 @@ use Rattle.rules.specs.Control.{rootControl}
 use Rattle.rules.specs.Bitmap.{bitmapFrom, bitmapOf, refill}
 use Rattle.rules.specs.WellFormed.{HasPackets, IsDirectory}
 use Rattle.rules.specs.Writes.{mapWrites}
+use Rattle.rules.specs.Owners.{OwnerRecord}
 use Rattle.reading_theorems.specs.DirectoryComplete.{pages-fit}
 use Rattle.chain.proofs.Following.{first-stands}
 use Rattle.marks.specs.Marks.{marksFrom}
@@ -86,7 +87,7 @@ module _ (g : Geometry) (image : List ℕ) (r : Bool) (T : TellsLocal g (viewOf 
         let R = subst (RootHeld g v (H .bits) (H .tree)) (local-map (H .bits) (H .tree) (H .map) (H .held)) (H .held) in
         record { bits = H .bits; rest = _; next = _; stands = local-stands (H .bits) (H .tree) R }
 
-    module _ (table : List ℕ) (below : ℕ) (budget : Budget) (after : List ℕ) (left : Budget) where
+    module _ (table : List OwnerRecord) (below : ℕ) (budget : Budget) (after : List ℕ) (left : Budget) where
       abbrev from : Progress
       from = record { image = image; budget = budget }
 
@@ -110,7 +111,7 @@ module _ (g : Geometry) (image : List ℕ) (r : Bool) (T : TellsLocal g (viewOf 
     pub has-file : HasRoot g v → HasMapFile g v start
     has-file H = has-file′ (H .bits) (H .tree) (H .map) (H .held)
 
-    pub map-file : (table : List ℕ) (below : ℕ) (budget : Budget) (after : List ℕ) (left : Budget) → WritesFile g table below start image budget after left
+    pub map-file : (table : List OwnerRecord) (below : ℕ) (budget : Budget) (after : List ℕ) (left : Budget) → WritesFile g table below start image budget after left
         → WritesMap g table below image budget after left
     unfolding WritesMap WritesFile TellsLocal TellsStart
     map-file table below budget after left W bits t inRoot R used u = absurd (mathlib.Core.Bool.false≢true (sym y ∙ T bits t inRoot R))

@@ -22,6 +22,7 @@ use Rattle.packet.specs.Reading.{Right, right-packet, frame-right}
 use Rattle.rules.specs.Chain.{Link, first}
 use Rattle.rules.specs.Tree.{Map, inRoot, inFile}
 use Rattle.rules.specs.Control.{marker, controlByte, bitmapField, rootControl}
+use Rattle.rules.specs.Owners.{OwnerRecord}
 use Rattle.reading_theorems.specs.ByteLaws.{number-front}
 use Rattle.reading_theorems.specs.ControlLaws.{isLocal}
 use Rattle.marks.specs.Marks.{marksFrom}
@@ -111,7 +112,7 @@ module _ (n : ℕ) (bits rest more marks : List ℕ) (four : length bits ≡ 4) 
   field-put = ap (take (length (rootControl n bits inRoot ++ rest))) put-is ∙ take-at (rootControl n marks inRoot ++ rest) more (length (rootControl n bits inRoot ++ rest)) same-size
 
 -- ---- page 0 written
-module _ (g : Geometry) (image : List ℕ) (fit : Fit g image) (table : List ℕ) (below : ℕ) (buffer copied : List ℕ) (r : Judged) (C : CopiesRoot g (viewOf g image) r buffer copied)
+module _ (g : Geometry) (image : List ℕ) (fit : Fit g image) (table : List OwnerRecord) (below : ℕ) (buffer copied : List ℕ) (r : Judged) (C : CopiesRoot g (viewOf g image) r buffer copied)
     (bits rest : List ℕ) (next : ℕ) (L : LocalMapAt g (viewOf g image) bits rest next) where
   abbrev n : ℕ
   n = g .width

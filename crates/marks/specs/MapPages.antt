@@ -18,6 +18,7 @@ use Rattle.rules.specs.Control.{rootControl, mostLocal}
 use Rattle.rules.specs.Bitmap.{mapSize, bitmapOf, refill}
 use Rattle.rules.specs.WellFormed.{HasPackets, IsDirectory}
 use Rattle.rules.specs.Writes.{mapWrites}
+use Rattle.rules.specs.Owners.{OwnerRecord}
 use Rattle.owners.specs.Owned.{Marks}
 use Rattle.reading_theorems.specs.ControlLaws.{isLocal}
 use Rattle.chain.specs.KnownChain.{ChainAt}
@@ -40,7 +41,7 @@ unfoldable pub CopiesRoot : Geometry → View → Judged → List ℕ → List �
 CopiesRoot g v r before after = (b : List ℕ) (next : ℕ) → v 0 ≡ good b next → (r ≡ judged (good b next)) × (after ≡ b ++ drop (length b) before)
 
 -- page 0 written again with four bytes of the table
-unfoldable pub WritesLocal : Geometry → List ℕ → ℕ → List ℕ → Budget → List ℕ → Budget → Type 0
+unfoldable pub WritesLocal : Geometry → List OwnerRecord → ℕ → List ℕ → Budget → List ℕ → Budget → Type 0
 WritesLocal g table below before budget after left =
     (bits rest : List ℕ) (next : ℕ) → LocalMapAt g (viewOf g before) bits rest next
     → _≡_ {A = Progress} (record { image = after; budget = left }) (writeOne g (write 0 (rootControl (g .width) (marksFrom table below 0 4) inRoot ++ rest) next) (record { image = before; budget = budget }))
@@ -56,10 +57,10 @@ pub record HasMapFile (g : Geometry) (v : View) (start : ℕ) : Type 0 where
   pub stands : MapFileAt g v start links
 
 -- its pages in chain order, their packets' lengths kept, with the bytes of the table
-abbrev pub fileWrites : List ℕ → ℕ → List Link → List Write
+abbrev pub fileWrites : List OwnerRecord → ℕ → List Link → List Write
 fileWrites table below ls = linked (refill ls (marksFrom table below 0 (length (content ls))))
 
-unfoldable pub WritesFile : Geometry → List ℕ → ℕ → ℕ → List ℕ → Budget → List ℕ → Budget → Type 0
+unfoldable pub WritesFile : Geometry → List OwnerRecord → ℕ → ℕ → List ℕ → Budget → List ℕ → Budget → Type 0
 WritesFile g table below start before budget after left =
     (ls : List Link) → MapFileAt g (viewOf g before) start ls → _≡_ {A = Progress} (record { image = after; budget = left }) (writeAll g (fileWrites table below ls) (record { image = before; budget = budget }))
 
@@ -83,7 +84,7 @@ pub record HasRoot (g : Geometry) (v : View) : Type 0 where
   pub held : RootHeld g v bits tree map
 
 -- the bitmap's pages with the bits that the table gives with a bound
-unfoldable pub WritesMap : Geometry → List ℕ → ℕ → List ℕ → Budget → List ℕ → Budget → Type 0
+unfoldable pub WritesMap : Geometry → List OwnerRecord → ℕ → List ℕ → Budget → List ℕ → Budget → Type 0
 WritesMap g table below before budget after left =
     (bits : List ℕ) (t : Items) (m : Map) → RootHeld g (viewOf g before) bits t m → (used : List ℕ) → Marks table below used
     → _≡_ {A = Progress} (record { image = after; budget = left }) (writeAll g (mapWrites g (bitmapOf g used m) t m) (record { image = before; budget = budget }))

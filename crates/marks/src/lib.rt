@@ -14,6 +14,7 @@ use packet::Judged;
 ghost use mathlib.Core.Path.{_≡_};
 ghost use Prim.Native.Nat.{_+_, _*_, _≤_, _<_};
 ghost use lib.ListN.{length};
+ghost use Rattle.owners.specs.Records.{recordsOf};
 ghost use Rattle.geometry.specs.Geometry.{Fit};
 ghost use Rattle.packet.specs.Packet.{viewOf};
 ghost use Rattle.packet.specs.Budgets.{Open};
@@ -26,9 +27,9 @@ const CONTROL_AT: usize = LENGTH_BYTES + BITMAP_CONTROL_PAST;
 const PLACE_END: usize = LENGTH_BYTES + BITMAP_FIELD_END;
 
 // The bits of the four pages from k on.
-fn four_bits(table: &[u16], below: usize, k: usize) -> usize
+fn four_bits(table: &[u8], below: usize, k: usize) -> usize
     requires { ⌜ k ≤ 1073741824 ⌝ }
-    ensures { λ r. ⌜ (r ≡ byteMarks (now (table .entry)) below k 4) × (r < 16) ⌝ }
+    ensures { λ r. ⌜ (r ≡ byteMarks (recordsOf (now (table .entry))) below k 4) × (r < 16) ⌝ }
 {
     let first = owners::bit(table, k, below);
     let second = owners::bit(table, k + 1, below);
@@ -38,17 +39,17 @@ fn four_bits(table: &[u16], below: usize, k: usize) -> usize
 }
 
 // The byte of the bitmap for the eight pages from k on.
-fn byte_of(table: &[u16], below: usize, k: usize) -> u8
+fn byte_of(table: &[u8], below: usize, k: usize) -> u8
     requires { ⌜ k + 4 ≤ 1073741824 ⌝ }
-    ensures { λ r. ⌜ r ≡ byteMarks (now (table .entry)) below k 8 ⌝ }
+    ensures { λ r. ⌜ r ≡ byteMarks (recordsOf (now (table .entry))) below k 8 ⌝ }
 {
     (four_bits(table, below, k) + 16 * four_bits(table, below, k + 4)) as u8
 }
 
 // Fills a slice with the bytes of the bitmap from page k on.
-pub fn fill(bytes: &mut [u8], k: usize, table: &[u16], below: usize)
+pub fn fill(bytes: &mut [u8], k: usize, table: &[u8], below: usize)
     requires { ⌜ k + 8 * length (now bytes) ≤ 1073741824 ⌝ }
-    ensures { λ _. ⌜ now (bytes .exit) ≡ marksFrom (now (table .entry)) below k (length (now (bytes .entry))) ⌝ }
+    ensures { λ _. ⌜ now (bytes .exit) ≡ marksFrom (recordsOf (now (table .entry))) below k (length (now (bytes .entry))) ⌝ }
 {
     let mut i = 0;
     while i < bytes.len() {
@@ -78,14 +79,14 @@ fn copy_root(image: &[u8], g: Geometry, buffer: &mut [u8]) -> Judged
 fn write_root(
     image: &mut [u8],
     g: Geometry,
-    table: &[u16],
+    table: &[u8],
     below: usize,
     buffer: &mut [u8],
     budget: Budget,
 ) -> Budget
     requires { ⌜ Fit g (now image) ⌝ }
     requires { ⌜ (length (now buffer) ≡ 256) × HasLocal g (viewOf g (now image)) ⌝ }
-    ensures { λ r. ⌜ WritesLocal g (now (table .entry)) below (now (image .entry)) budget (now (image .exit)) r ⌝ }
+    ensures { λ r. ⌜ WritesLocal g (recordsOf (now (table .entry))) below (now (image .entry)) budget (now (image .exit)) r ⌝ }
 {
     let at = g.width + BITMAP_FIELD_PAST;
     let end = at + BITMAP_FIELD_BYTES;
@@ -100,10 +101,10 @@ fn write_root(
 }
 
 // Writes the bitmap in the root's control field from the table; all else of page 0's packet stays.
-fn write_local(image: &mut [u8], g: Geometry, table: &[u16], below: usize, budget: Budget) -> Budget
+fn write_local(image: &mut [u8], g: Geometry, table: &[u8], below: usize, budget: Budget) -> Budget
     requires { ⌜ Fit g (now image) ⌝ }
     requires { ⌜ HasLocal g (viewOf g (now image)) ⌝ }
-    ensures { λ r. ⌜ WritesLocal g (now (table .entry)) below (now (image .entry)) budget (now (image .exit)) r ⌝ }
+    ensures { λ r. ⌜ WritesLocal g (recordsOf (now (table .entry))) below (now (image .entry)) budget (now (image .exit)) r ⌝ }
 {
     let mut buffer = [0u8; MOST_PAGE_BYTES];
     write_root(image, g, table, below, &mut buffer, budget)
@@ -114,14 +115,14 @@ fn write_pages(
     image: &mut [u8],
     g: Geometry,
     start: usize,
-    table: &[u16],
+    table: &[u8],
     below: usize,
     buffer: &mut [u8],
     budget: Budget,
 ) -> Budget
     requires { ⌜ Fit g (now image) ⌝ }
     requires { ⌜ (length (now buffer) ≡ 256) × HasMapFile g (viewOf g (now image)) start × Open budget ⌝ }
-    ensures { λ r. ⌜ WritesFile g (now (table .entry)) below start (now (image .entry)) budget (now (image .exit)) r ⌝ }
+    ensures { λ r. ⌜ WritesFile g (recordsOf (now (table .entry))) below start (now (image .entry)) budget (now (image .exit)) r ⌝ }
 {
     let mut left = budget;
     let mut c = Cursor::new(start, start);
@@ -152,13 +153,13 @@ fn write_file(
     image: &mut [u8],
     g: Geometry,
     start: usize,
-    table: &[u16],
+    table: &[u8],
     below: usize,
     budget: Budget,
 ) -> Budget
     requires { ⌜ Fit g (now image) ⌝ }
     requires { ⌜ HasMapFile g (viewOf g (now image)) start × Open budget ⌝ }
-    ensures { λ r. ⌜ WritesFile g (now (table .entry)) below start (now (image .entry)) budget (now (image .exit)) r ⌝ }
+    ensures { λ r. ⌜ WritesFile g (recordsOf (now (table .entry))) below start (now (image .entry)) budget (now (image .exit)) r ⌝ }
 {
     let mut buffer = [0u8; MOST_PAGE_BYTES];
     write_pages(image, g, start, table, below, &mut buffer, budget)
@@ -186,13 +187,13 @@ fn map_start(image: &[u8], g: Geometry) -> usize
 pub fn write_map(
     image: &mut [u8],
     g: Geometry,
-    table: &[u16],
+    table: &[u8],
     below: usize,
     budget: Budget,
 ) -> Budget
     requires { ⌜ Fit g (now image) ⌝ }
     requires { ⌜ HasRoot g (viewOf g (now image)) × Open budget ⌝ }
-    ensures { λ r. ⌜ WritesMap g (now (table .entry)) below (now (image .entry)) budget (now (image .exit)) r ⌝ }
+    ensures { λ r. ⌜ WritesMap g (recordsOf (now (table .entry))) below (now (image .entry)) budget (now (image .exit)) r ⌝ }
 {
     if is_local(image, g) {
         return write_local(image, g, table, below, budget);

@@ -4,6 +4,7 @@ use mathlib.Core.Bool.{true, false, false≢true}
 use mathlib.Core.List.{List, _++_}
 use Prim.Native.Nat.{ℕ, _*_, _<_}
 use lib.ListN.{length, getD, drop}
+use Rattle.owners.specs.Records.{recordsOf}
 use Rattle.geometry.specs.declared.Geometry.{Geometry}
 use Rattle.geometry.specs.declared.Shape.the-variants.{Fits}
 use Rattle.geometry.specs.Geometry.{geometryOf, Fit}
@@ -21,7 +22,7 @@ use Rattle.rules.specs.Result.{Res, ok, err}
 use Rattle.rules.specs.ResultLaws.{ok-inj, on-then, on-refuse, then-ok, refuse-true}
 use Rattle.rules.specs.Chain.{viewsOf}
 use Rattle.rules.specs.Tree.{Image, used}
-use Rattle.rules.specs.Owners.{owners}
+use Rattle.rules.specs.Owners.{OwnerRecord, owners}
 use Rattle.rules.specs.Check.{Scan, scan, check}
 use Rattle.rules.specs.WellFormed.{WellFormedWith}
 use Rattle.rules.specs.Answers.{mendResult}
@@ -42,7 +43,7 @@ use Rattle.volume.specs.Surveyed.{TableSurveyed}
 use Rattle.volume.specs.Edits.{effectOf, EffectLeaves}
 use Rattle.volume.proofs.EditLaws.{effective-leaves}
 
-module _ (g : Geometry) (image : List ℕ) (fit : Fit g image) (bytes : Bytes image) (r : Survey) (u : List ℕ) (S : TableSurveyed g (viewsOf g image) r u) where
+module _ (g : Geometry) (image : List ℕ) (fit : Fit g image) (bytes : Bytes image) (r : Survey) (u : List OwnerRecord) (S : TableSurveyed g (viewsOf g image) r u) where
   -- ---- refused
   module _ (e : r ≡ survey.Uncovered) where
     uncovered : TableSurveyed g (viewsOf g image) survey.Uncovered u
@@ -53,13 +54,13 @@ module _ (g : Geometry) (image : List ℕ) (fit : Fit g image) (bytes : Bytes im
     unfolding mend
     marked x h = on-then _ _ _ h λ s q h. on-refuse _ _ _ _ _ h λ a _. (s, q, a)
 
-    pub never : {C : Type 0} (c : Checked) (v : List ℕ) (t : Totals) → TableChecked g (viewsOf g image) c v → c ≡ w.Done t → C
+    pub never : {C : Type 0} (c : Checked) (v : List OwnerRecord) (t : Totals) → TableChecked g (viewsOf g image) c v → c ≡ w.Done t → C
     never c v t k q =
         let d = subst (λ (x : Checked). TableChecked g (viewsOf g image) x v) q k in
         let m = accepted-mendable g image fit bytes (d .0) (d .1) in
         absurd (false≢true (sym (uncovered (m .0) (m .1)) ∙ m .2))
 
-    pub refused-as : (c : Checked) (v : List ℕ) (n p : ℕ) → TableChecked g (viewsOf g image) c v → c ≡ w.Refused n p → EffectLeaves {A = ℕ} g image (mend g image) (err n p) image v
+    pub refused-as : (c : Checked) (v : List OwnerRecord) (n p : ℕ) → TableChecked g (viewsOf g image) c v → c ≡ w.Refused n p → EffectLeaves {A = ℕ} g image (mend g image) (err n p) image v
     refused-as c v n p k q =
         let d = subst (λ (x : Checked). TableChecked g (viewsOf g image) x v) q k in
         let z : mend g image ≡ err n p = elim (mend-alike g image fit bytes n p (d .0)) [
@@ -83,7 +84,7 @@ module _ (g : Geometry) (image : List ℕ) (fit : Fit g image) (bytes : Bytes im
     has-root = record { bits = s .raw; tree = s .image .tree; map = s .image .map; held = root-held g image (s .raw) (s .image) well }
 
     table-used : Represents u (used (s .image))
-    table-used = subst (λ (t : List ℕ). Represents t (used (s .image))) (sym (covered .4)) (represents-owners (g .pages) (s .image) (well .apart))
+    table-used = subst (λ (t : List OwnerRecord). Represents t (used (s .image))) (sym (covered .4)) (represents-owners (g .pages) (s .image) (well .apart))
 
     module _ (budget : Budget) (b : budget ≡ unlimited) (after : List ℕ) (left : Budget) (k : WritesMap g u 0 image budget after left) where
       after-is : after ≡ afterWrites g (mendWrites g (s .image)) image
@@ -95,15 +96,15 @@ module _ (g : Geometry) (image : List ℕ) (fit : Fit g image) (bytes : Bytes im
       unfolding mend
       rule-is = simp (covered .1, then-ok, covered .2, refuse-true) (ap₂ (λ (a : ℕ) (i : List ℕ). ok (record { answer = a; image = i })) (sym (covered .3)) (sym after-is))
 
-      pub mended-as : (c : Checked) (v : List ℕ) → TableChecked g (viewsOf g after) c v → EffectLeaves {A = ℕ} g image (mend g image) (ok n) after v
+      pub mended-as : (c : Checked) (v : List OwnerRecord) → TableChecked g (viewsOf g after) c v → EffectLeaves {A = ℕ} g image (mend g image) (ok n) after v
       mended-as c v t = record { answers = sym (ap (effectOf image) rule-is); check = c; checked = t }
 
 -- ---- any image
 module _ (P N : ℕ) (image table : List ℕ) where
-  pub mend-left : (g : Geometry) → geometryOf P N (length image) (length table) ≡ Fits g → (r : Mended) (after u : List ℕ) → EffectLeaves g image (mend g image) (mendResult r) after u
-      → (mendResult r, after, u ++ drop (g .pages) table) ≡ mendCall P N image table
+  pub mend-left : (g : Geometry) → geometryOf P N (length image) (length table) ≡ Fits g → (part : List ℕ) → length part ≡ 4 * g .pages → ((i : ℕ) → getD (part ++ drop (4 * g .pages) table) i 0 < 256)
+      → (r : Mended) (after : List ℕ) → EffectLeaves g image (mend g image) (mendResult r) after (recordsOf part) → (mendResult r, after, part ++ drop (4 * g .pages) table) ≡ mendCall P N image table
   unfolding mendCall
-  mend-left g e r after u l = effective-leaves P N image table g e (λ g. mend g image) (mendResult r) after u l
+  mend-left g e part l h r after x = effective-leaves P N image table g e part l h (λ g. mend g image) (mendResult r) after x
 
   pub mend-is : (h : (i : ℕ) → getD image i 0 < 256) (r : Mended) (after t : List ℕ)
       → (mendResult r, after, t) ≡ mendCall P N image table → Mends P N image table (IsDone (mendResult r)) (λ x. mendResult r ≡ x) (clearedOf (mendResult r)) after

@@ -5,15 +5,12 @@ use answers::OwfsLength;
 use answers::OwfsMended;
 use answers::OwfsTotals;
 use answers::OwfsWrites;
-use geometry::MOST_OWNERS;
 ghost use mathlib.Core.Path.{_≡_};
-ghost use Prim.Native.Nat.{_/_, min};
 ghost use Rattle.crc16.specs.Crc16.{crc16};
 ghost use Rattle.rules.specs.Listing.{lineAt, linesOf};
 ghost use Rattle.rules.specs.Calls.{readBytes, lengthOf, filled};
 ghost use Rattle.rules.specs.Promises.{Accepts, TellsTree, Formats, Puts, Deletes};
 ghost use Rattle.rules.specs.CarefulPromises.{CarefullyPuts, CarefullyDeletes, Mends};
-ghost use Rattle.owners.specs.TableBytes.{numbersOf};
 ghost use Rattle.answers.specs.ExportedAnswers.{entryFor, lengthFor, answerFor, asksLocal, mendedFor, countTold, checkAnswer, listAnswer, readAnswer, formatAnswer, putAnswer, deleteAnswer, carefulPutAnswer, carefulDeleteAnswer, mendAnswer};
 
 // The CRC-16 register after the bytes of a slice, not inverted.
@@ -24,23 +21,13 @@ pub extern "C" fn owfs_crc16(start: u16, bytes: &[u8]) -> u16
     crc16::crc_of(start, bytes)
 }
 
-// The numbers in so many bytes, no more than an image has pages.
-fn count(bytes: usize) -> usize
-    ensures { λ r. ⌜ r ≡ min (bytes / 2) 65535 ⌝ }
-{
-    let n = bytes / 2;
-    if n <= MOST_OWNERS { n } else { MOST_OWNERS }
-}
-
 // Checks an image: pages in use, files and directories, or the first fault. Fills the owner table.
 #[no_mangle]
 pub extern "C" fn owfs_check(size: u32, pages: u32, image: &[u8], owners: &mut [u8]) -> OwfsTotals
     ensures { λ r. ⌜ (r, now (owners .exit)) ≡ checkAnswer size pages (now (image .entry)) (now (owners .entry)) ⌝ }
-    ensures { λ r. ⌜ Accepts size pages (now (image .entry)) (numbersOf (now (owners .entry))) (r .number ≡ 0) ⌝ }
+    ensures { λ r. ⌜ Accepts size pages (now (image .entry)) (now (owners .entry)) (r .number ≡ 0) ⌝ }
 {
-    let n = count(owners.len());
-    let mut table = [0u16; MOST_OWNERS];
-    calls::check_over(size, pages, image, &mut table[..n], owners)
+    answers::tell(volume::check(image, size, pages, owners))
 }
 
 // Lists the entry at a walk position from 0, or 15. Fills the owner table.
@@ -53,11 +40,9 @@ pub extern "C" fn owfs_list(
     position: u32,
 ) -> OwfsEntry
     ensures { λ r. ⌜ (r, now (owners .exit)) ≡ listAnswer size pages (now (image .entry)) (now (owners .entry)) position ⌝ }
-    ensures { λ r. ⌜ TellsTree size pages (now (image .entry)) (numbersOf (now (owners .entry))) (λ i. lineAt position (linesOf 0 (i .tree))) (λ x. r ≡ entryFor x) (r .number ≡ 0) ⌝ }
+    ensures { λ r. ⌜ TellsTree size pages (now (image .entry)) (now (owners .entry)) (λ i. lineAt position (linesOf 0 (i .tree))) (λ x. r ≡ entryFor x) (r .number ≡ 0) ⌝ }
 {
-    let n = count(owners.len());
-    let mut table = [0u16; MOST_OWNERS];
-    calls::list_over(size, pages, image, &mut table[..n], owners, position)
+    answers::tell_entry(query::list(image, size, pages, owners, position as usize))
 }
 
 // Reads the file at a path to the front of the output. Fills the owner table.
@@ -71,12 +56,10 @@ pub extern "C" fn owfs_read(
     owners: &mut [u8],
 ) -> OwfsLength
     ensures { λ r. ⌜ (r, now (out .exit), now (owners .exit)) ≡ readAnswer size pages (now (image .entry)) (now (owners .entry)) (now (path .entry)) (now (out .entry)) ⌝ }
-    ensures { λ r. ⌜ TellsTree size pages (now (image .entry)) (numbersOf (now (owners .entry))) (readBytes (now (path .entry)) (now (out .entry)))
+    ensures { λ r. ⌜ TellsTree size pages (now (image .entry)) (now (owners .entry)) (readBytes (now (path .entry)) (now (out .entry)))
         (λ x. (r ≡ lengthFor (lengthOf x)) × (now (out .exit) ≡ filled (now (out .entry)) x)) (r .number ≡ 0) ⌝ }
 {
-    let n = count(owners.len());
-    let mut table = [0u16; MOST_OWNERS];
-    calls::read_over(size, pages, image, path, out, &mut table[..n], owners)
+    answers::tell_length(query::read(image, size, pages, path, out, owners))
 }
 
 // Formats an image, with a bitmap file where `local` is 0, else with the bitmap in the root. Fills the owner table.
@@ -89,11 +72,9 @@ pub extern "C" fn owfs_format(
     local: u32,
 ) -> OwfsAnswer
     ensures { λ r. ⌜ (r, now (image .exit), now (owners .exit)) ≡ formatAnswer size pages (now (image .entry)) (now (owners .entry)) local ⌝ }
-    ensures { λ r. ⌜ Formats size pages (now (image .entry)) (numbersOf (now (owners .entry))) (asksLocal local) (r .number ≡ 0) (λ x. r ≡ answerFor x) (now (image .exit)) ⌝ }
+    ensures { λ r. ⌜ Formats size pages (now (image .entry)) (now (owners .entry)) (asksLocal local) (r .number ≡ 0) (λ x. r ≡ answerFor x) (now (image .exit)) ⌝ }
 {
-    let n = count(owners.len());
-    let mut table = [0u16; MOST_OWNERS];
-    calls::format_over(size, pages, image, &mut table[..n], owners, local)
+    answers::tell_answer(format::format(image, size, pages, owners, local != 0))
 }
 
 // Puts bytes at a path: makes the file or replaces it. Fills the owner table.
@@ -107,11 +88,9 @@ pub extern "C" fn owfs_put(
     owners: &mut [u8],
 ) -> OwfsAnswer
     ensures { λ r. ⌜ (r, now (image .exit), now (owners .exit)) ≡ putAnswer size pages (now (image .entry)) (now (owners .entry)) (now (path .entry)) (now (bytes .entry)) ⌝ }
-    ensures { λ r. ⌜ Puts size pages (now (image .entry)) (numbersOf (now (owners .entry))) (now (path .entry)) (now (bytes .entry)) (r .number ≡ 0) (λ x. r ≡ answerFor x) (now (image .exit)) ⌝ }
+    ensures { λ r. ⌜ Puts size pages (now (image .entry)) (now (owners .entry)) (now (path .entry)) (now (bytes .entry)) (r .number ≡ 0) (λ x. r ≡ answerFor x) (now (image .exit)) ⌝ }
 {
-    let n = count(owners.len());
-    let mut table = [0u16; MOST_OWNERS];
-    calls::put_over(size, pages, image, path, bytes, &mut table[..n], owners)
+    answers::tell_answer(put::put(image, size, pages, path, bytes, owners))
 }
 
 // Deletes the file at a path. Fills the owner table.
@@ -124,11 +103,9 @@ pub extern "C" fn owfs_delete(
     owners: &mut [u8],
 ) -> OwfsAnswer
     ensures { λ r. ⌜ (r, now (image .exit), now (owners .exit)) ≡ deleteAnswer size pages (now (image .entry)) (now (owners .entry)) (now (path .entry)) ⌝ }
-    ensures { λ r. ⌜ Deletes size pages (now (image .entry)) (numbersOf (now (owners .entry))) (now (path .entry)) (r .number ≡ 0) (now (image .exit)) ⌝ }
+    ensures { λ r. ⌜ Deletes size pages (now (image .entry)) (now (owners .entry)) (now (path .entry)) (r .number ≡ 0) (now (image .exit)) ⌝ }
 {
-    let n = count(owners.len());
-    let mut table = [0u16; MOST_OWNERS];
-    calls::delete_over(size, pages, image, path, &mut table[..n], owners)
+    answers::tell_answer(delete::delete(image, size, pages, path, owners))
 }
 
 // Puts bytes at a path in an order of page writes that may stop after any of them, and makes at most so many. Fills the owner table.
@@ -143,20 +120,9 @@ pub extern "C" fn owfs_careful_put(
     allowed: u32,
 ) -> OwfsWrites
     ensures { λ r. ⌜ (r, now (image .exit), now (owners .exit)) ≡ carefulPutAnswer size pages (now (image .entry)) (now (owners .entry)) (now (path .entry)) (now (bytes .entry)) allowed ⌝ }
-    ensures { λ r. ⌜ CarefullyPuts size pages (now (image .entry)) (numbersOf (now (owners .entry))) allowed (now (path .entry)) (now (bytes .entry)) (r .number ≡ 0) (countTold r) (now (image .exit)) ⌝ }
+    ensures { λ r. ⌜ CarefullyPuts size pages (now (image .entry)) (now (owners .entry)) allowed (now (path .entry)) (now (bytes .entry)) (r .number ≡ 0) (countTold r) (now (image .exit)) ⌝ }
 {
-    let n = count(owners.len());
-    let mut table = [0u16; MOST_OWNERS];
-    calls::careful_put_over(
-        size,
-        pages,
-        image,
-        path,
-        bytes,
-        &mut table[..n],
-        owners,
-        allowed,
-    )
+    answers::tell_writes(careful::put(image, size, pages, path, bytes, owners, allowed as usize))
 }
 
 // Deletes the file at a path in an order of page writes that may stop after any of them, and makes at most so many. Fills the owner table.
@@ -170,11 +136,9 @@ pub extern "C" fn owfs_careful_delete(
     allowed: u32,
 ) -> OwfsWrites
     ensures { λ r. ⌜ (r, now (image .exit), now (owners .exit)) ≡ carefulDeleteAnswer size pages (now (image .entry)) (now (owners .entry)) (now (path .entry)) allowed ⌝ }
-    ensures { λ r. ⌜ CarefullyDeletes size pages (now (image .entry)) (numbersOf (now (owners .entry))) allowed (now (path .entry)) (r .number ≡ 0) (countTold r) (now (image .exit)) ⌝ }
+    ensures { λ r. ⌜ CarefullyDeletes size pages (now (image .entry)) (now (owners .entry)) allowed (now (path .entry)) (r .number ≡ 0) (countTold r) (now (image .exit)) ⌝ }
 {
-    let n = count(owners.len());
-    let mut table = [0u16; MOST_OWNERS];
-    calls::careful_delete_over(size, pages, image, path, &mut table[..n], owners, allowed)
+    answers::tell_writes(careful::delete(image, size, pages, path, owners, allowed as usize))
 }
 
 // Clears the marks of pages that no chain owns, which a stopped careful edit leaves. Fills the owner table.
@@ -186,9 +150,7 @@ pub extern "C" fn owfs_mend(
     owners: &mut [u8],
 ) -> OwfsMended
     ensures { λ r. ⌜ (r, now (image .exit), now (owners .exit)) ≡ mendAnswer size pages (now (image .entry)) (now (owners .entry)) ⌝ }
-    ensures { λ r. ⌜ Mends size pages (now (image .entry)) (numbersOf (now (owners .entry))) (r .number ≡ 0) (λ x. r ≡ mendedFor x) (r .cleared) (now (image .exit)) ⌝ }
+    ensures { λ r. ⌜ Mends size pages (now (image .entry)) (now (owners .entry)) (r .number ≡ 0) (λ x. r ≡ mendedFor x) (r .cleared) (now (image .exit)) ⌝ }
 {
-    let n = count(owners.len());
-    let mut table = [0u16; MOST_OWNERS];
-    calls::mend_over(size, pages, image, &mut table[..n], owners)
+    answers::tell_mended(mend::mend(image, size, pages, owners))
 }

@@ -14,6 +14,7 @@ use borrow.Author.Tests.{eq-eqb}
 use Rattle.geometry.specs.ChooseLaws.{choose-true, choose-false}
 use Rattle.rules.specs.PageSets.{count, mem, freePages}
 use Rattle.rules.specs.PageSetLaws.{mem-true, mem-false}
+use Rattle.rules.specs.Owners.{OwnerRecord}
 use Rattle.owners.specs.Owned.{ownerAt, isOwned, nonzero, Represents, pageBit}
 use Rattle.owners.specs.OwnerLaws.{nonzero-le, nonzero-pos, nonzero-zero, owner-past, free-represents}
 use Rattle.owners.specs.BitLaws.{bit-from}
@@ -22,37 +23,37 @@ use Rattle.owners.specs.FreeLaws.{from-past, from-used, from-free, from-
 use Rattle.owners.specs.declared.Room.the-variants as room
 
 -- ---- whether a page has an owner
-pub owned-in : (table : List ℕ) (p : ℕ) → not (eqb (getD table p 0) 0) ≡ isOwned table p
-unfolding isOwned ownerAt
-owned-in table p = refl
+pub owned-in : (table : List OwnerRecord) (p m : ℕ) → m ≡ ownerAt table p → not (eqb m 0) ≡ isOwned table p
+unfolding isOwned
+owned-in table p m e = ap (λ (x : ℕ). not (eqb x 0)) e
 
-pub owned-past : (table : List ℕ) (p : ℕ) → length table ≤ p → false ≡ isOwned table p
+pub owned-past : (table : List OwnerRecord) (p : ℕ) → length table ≤ p → false ≡ isOwned table p
 unfolding isOwned
 owned-past table p h = simp (isOwned, eq-eqb (ownerAt table p) 0 (owner-past table p h))
 
 -- its bit
-pub bit-owned : (table : List ℕ) (below p : ℕ) → below ≤ p → 0 < ownerAt table p → 1 ≡ pageBit table below p
+pub bit-owned : (table : List OwnerRecord) (below p : ℕ) → below ≤ p → 0 < ownerAt table p → 1 ≡ pageBit table below p
 bit-owned table below p h k = omega (arith, bit-from table below p h, nonzero-pos (ownerAt table p) k)
 
-pub bit-free : (table : List ℕ) (below p : ℕ) → below ≤ p → ownerAt table p ≡ 0 → 0 ≡ pageBit table below p
+pub bit-free : (table : List OwnerRecord) (below p : ℕ) → below ≤ p → ownerAt table p ≡ 0 → 0 ≡ pageBit table below p
 bit-free table below p h k = omega (arith, bit-from table below p h, ap nonzero k)
 
 -- what a page's bit says of its owner
-pub bit-none : (table : List ℕ) (p b : ℕ) → b ≡ pageBit table 0 p → b ≡ 0 → ownerAt table p ≡ 0
+pub bit-none : (table : List OwnerRecord) (p b : ℕ) → b ≡ pageBit table 0 p → b ≡ 0 → ownerAt table p ≡ 0
 bit-none table p b e z = nonzero-zero (ownerAt table p) (omega (arith, bit-from table 0 p (omega arith)))
 
-pub bit-some : (table : List ℕ) (p b : ℕ) → b ≡ pageBit table 0 p → (b ≡ 0 → ⊥) → 0 < ownerAt table p
+pub bit-some : (table : List OwnerRecord) (p b : ℕ) → b ≡ pageBit table 0 p → (b ≡ 0 → ⊥) → 0 < ownerAt table p
 bit-some table p b e z = elim (eq-zero-or-pos (ownerAt table p)) [ inl y ↦ absurd (z (omega (arith, bit-from table 0 p (omega arith), ap nonzero y))) | inr y ↦ y ]
 
 -- a page with an owner is in use
-in-use : (table used : List ℕ) (p : ℕ) → Represents table used → 0 < ownerAt table p → 1 ≤ count p used
+in-use : (table : List OwnerRecord) (used : List ℕ) (p : ℕ) → Represents table used → 0 < ownerAt table p → 1 ≤ count p used
 in-use table used p r z = omega (arith, r p, nonzero-pos (ownerAt table p) z)
 
 -- ---- no page before this one is free
-unfoldable pub Searched : List ℕ → ℕ → ℕ → Type 0
+unfoldable pub Searched : List OwnerRecord → ℕ → ℕ → Type 0
 Searched table from page = (used : List ℕ) → Represents table used → freeFrom used from (length table) ≡ freeFrom used page (length table)
 
-module _ (table : List ℕ) (from : ℕ) where
+module _ (table : List OwnerRecord) (from : ℕ) where
   pub search-first : Searched table from from
   unfolding Searched
   search-first used r = refl
@@ -71,7 +72,7 @@ module _ (table : List ℕ) (from : ℕ) where
     none-left h used r = none refl (s used r ∙ from-past used page (length table) h)
 
 -- ---- of the pages looked for, so many are still to be found from this page on
-unfoldable pub Counted : List ℕ → ℕ → ℕ → ℕ → Type 0
+unfoldable pub Counted : List OwnerRecord → ℕ → ℕ → ℕ → Type 0
 Counted table need left page = (used : List ℕ) → Represents table used → left + length (freePages used page) ≡ need
 
 free-more : (used : List ℕ) (page : ℕ) → count page used ≡ 0 → length (freePages used (page + 1)) ≡ length (freePages used page) + 1
@@ -82,7 +83,7 @@ free-same : (used : List ℕ) (page : ℕ) → 1 ≤ count page used → length 
 unfolding freePages
 free-same used page z = rw (add-one page, mem-true page used z, choose-true, length-append) (omega arith)
 
-module _ (table : List ℕ) (need : ℕ) where
+module _ (table : List OwnerRecord) (need : ℕ) where
   pub count-first : Counted table need need 0
   unfolding Counted freePages
   count-first used r = omega arith

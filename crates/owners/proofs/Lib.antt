@@ -1,3 +1,2 @@
--- Laws of the owner table, for this crate alone: loaded and stored number by number, searched page by page.
-mod ByteSteps
+-- Laws of the owner table, for this crate alone: searched page by page.
 mod Finding

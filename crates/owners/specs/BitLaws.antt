@@ -12,6 +12,7 @@ use borrow.Author.Tests.{lt-ltb, le-ltb}
 use Rattle.geometry.specs.ChooseLaws.{choose-true, choose-false}
 use Rattle.rules.specs.PageSets.{bit, count, mem, freePages}
 use Rattle.rules.specs.PageSetLaws.{free-none, free-all, range-above, range-below}
+use Rattle.rules.specs.Owners.{OwnerRecord}
 use Rattle.owners.specs.Owned.{ownerAt, nonzero, Represents, pageBit, Marks, ClaimsBelow}
 use Rattle.owners.specs.OwnerLaws.{nonzero-le}
 
@@ -19,7 +20,7 @@ use Rattle.owners.specs.OwnerLaws.{nonzero-le}
 free-from : (kept : List ℕ) (below x : ℕ) → below ≤ x → count x (freePages kept below) ≡ 0
 free-from kept below x h = elim (eq-zero-or-pos (count x kept)) [ inl z ↦ free-all x kept below z ∙ range-above x below h | inr z ↦ free-none x kept below z ]
 
-module _ (table : List ℕ) where
+module _ (table : List OwnerRecord) where
   pub bit-below : (below p : ℕ) → p < below → pageBit table below p ≡ 1
   unfolding pageBit
   bit-below below p h = rw (lt-ltb p below h, choose-true)
@@ -56,7 +57,7 @@ module _ (table : List ℕ) where
   ]
 
   -- a table whose bits these are, with all pages below the bound claimed
-  pub represents-below : (used : List ℕ) (below : ℕ) (after : List ℕ) → Marks table below used → ClaimsBelow table below after → Represents after used
+  pub represents-below : (used : List ℕ) (below : ℕ) (after : List OwnerRecord) → Marks table below used → ClaimsBelow table below after → Represents after used
   represents-below used below after h c x = h x ∙ sym (c .owned x)
 
   -- a bit as the rule tells it

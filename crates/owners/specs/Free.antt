@@ -5,6 +5,7 @@ use Prim.Native.Nat.{ℕ, zero, suc, _+_, _-_, _≤_, _<_}
 use lib.ListN.{length, take}
 use Rattle.geometry.specs.Choose.{choose}
 use Rattle.rules.specs.PageSets.{mem, freePages}
+use Rattle.rules.specs.Owners.{OwnerRecord}
 use Rattle.owners.specs.Owned.{Represents}
 use Rattle.owners.specs.declared.Room.{Room}
 use Rattle.owners.specs.declared.Room.the-variants as room
@@ -23,7 +24,7 @@ pub data Next (used : List ℕ) (k N r : ℕ) : Type 0 where
   found : r < N → freeFrom used k N ≡ r ∷ freeFrom used (r + 1) N → Next used k N r
   none : r ≡ N → freeFrom used k N ≡ [] → Next used k N r
 
-unfoldable pub NextFree : List ℕ → ℕ → ℕ → Type 0
+unfoldable pub NextFree : List OwnerRecord → ℕ → ℕ → Type 0
 NextFree table from r = (used : List ℕ) → Represents table used → Next used from (length table) r
 
 -- the lowest free pages, so many of them, are the free pages below a bound
@@ -37,5 +38,5 @@ abbrev pub RoomIs : List ℕ → ℕ → ℕ → Room → Type 0
 RoomIs used N need (room.Below b) = RoomBelow used N need b
 RoomIs used N need room.Full = length (freePages used N) < need
 
-unfoldable pub Rooms : List ℕ → ℕ → Room → Type 0
+unfoldable pub Rooms : List OwnerRecord → ℕ → Room → Type 0
 Rooms table need r = (used : List ℕ) → Represents table used → RoomIs used (length table) need r

@@ -14,6 +14,7 @@ use Rattle.geometry.specs.Choose.{choose}
 use Rattle.geometry.specs.ChooseLaws.{choose-true, choose-false}
 use Rattle.rules.specs.PageSets.{count, mem, range, Within, freePages}
 use Rattle.rules.specs.PageSetLaws.{same, other, hits, count-append, mem-true, mem-false, free-none, free-all, free-law, range-below, range-le}
+use Rattle.rules.specs.Owners.{OwnerRecord}
 use Rattle.owners.specs.Owned.{Represents}
 use Rattle.owners.specs.Free.{freeAmong, freeFrom, Next, found, none}
 
@@ -92,7 +93,7 @@ unfolding freeFrom
 from-same a b k N h = among-same a b (N - k) k h
 
 -- all that a table represents has the same free pages
-pub from-represents : (table a b : List ℕ) (k N : ℕ) → Represents table a → Represents table b → freeFrom a k N ≡ freeFrom b k N
+pub from-represents : (table : List OwnerRecord) (a b : List ℕ) (k N : ℕ) → Represents table a → Represents table b → freeFrom a k N ≡ freeFrom b k N
 from-represents table a b k N h i = from-same a b k N (λ x j. h x ∙ sym (i x))
 
 -- a page before them that is taken changes nothing

@@ -1,7 +1,7 @@
 pub mod Owned
+pub mod Records
+pub mod RecordLaws
 pub mod OwnerLaws
 pub mod Free
 pub mod FreeLaws
 pub mod BitLaws
-pub mod TableBytes
-pub mod TableLaws

@@ -1,8 +1,9 @@
 -- The call: the check's fault first, and what a put leaves, demand 3 among it.
 use mathlib.Core.Path.{_≡_, ap}
 use mathlib.Core.List.{List, _++_}
-use Prim.Native.Nat.{ℕ, _<_}
+use Prim.Native.Nat.{ℕ, _*_, _<_}
 use lib.ListN.{length, getD, drop}
+use Rattle.owners.specs.Records.{recordsOf}
 use Rattle.geometry.specs.declared.Geometry.{Geometry}
 use Rattle.geometry.specs.declared.Shape.the-variants.{Fits}
 use Rattle.geometry.specs.Geometry.{geometryOf}
@@ -25,10 +26,10 @@ unfolding put
 put-fault g path bytes image n p e = simp (e, then-err)
 
 module _ (P N : ℕ) (image table path bytes : List ℕ) where
-  pub putted : (g : Geometry) → geometryOf P N (length image) (length table) ≡ Fits g → (r : Edited) (after u : List ℕ) → EditLeaves g image (put g path bytes image) r after u
-      → (editResult r, after, u ++ drop (g .pages) table) ≡ putCall P N image table path bytes
+  pub putted : (g : Geometry) → geometryOf P N (length image) (length table) ≡ Fits g → (part : List ℕ) → length part ≡ 4 * g .pages → ((i : ℕ) → getD (part ++ drop (4 * g .pages) table) i 0 < 256)
+      → (r : Edited) (after : List ℕ) → EditLeaves g image (put g path bytes image) r after (recordsOf part) → (editResult r, after, part ++ drop (4 * g .pages) table) ≡ putCall P N image table path bytes
   unfolding putCall
-  putted g e r after u k = changed-leaves P N image table g e (λ g. put g path bytes image) r after u k
+  putted g e part l h r after k = changed-leaves P N image table g e part l h (λ g. put g path bytes image) r after k
 
   pub put-is : (h : (i : ℕ) → getD image i 0 < 256) (hp : (i : ℕ) → getD path i 0 < 256) (hb : (i : ℕ) → getD bytes i 0 < 256) (r : Edited) (after t : List ℕ)
       → (editResult r, after, t) ≡ putCall P N image table path bytes → Puts P N image table path bytes (editResult r ≡ ok tt) (λ x. editResult r ≡ x) after

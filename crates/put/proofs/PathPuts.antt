@@ -15,7 +15,7 @@ use Rattle.rules.specs.ResultLaws.{ok-inj, then-ok, then-err, then-assoc, then-
 use Rattle.rules.specs.PageSets.{count, freePages}
 use Rattle.rules.specs.Chain.{viewsOf, pages}
 use Rattle.rules.specs.Tree.{Image, used}
-use Rattle.rules.specs.Owners.{owners}
+use Rattle.rules.specs.Owners.{OwnerRecord, owners}
 use Rattle.rules.specs.Check.{check}
 use Rattle.rules.specs.Paths.{fileKey, find, Target}
 use Rattle.rules.specs.Put.{keptPages, putTarget, putEdit, plainEdit, put}
@@ -36,7 +36,7 @@ use Rattle.put.specs.declared.Placed.{Placed}
 use Rattle.put.specs.declared.Placed.the-variants as placed
 use Rattle.put.specs.Places.{FilePlace, IsPlaced, Places, PathPut}
 
-module _ (g : Geometry) (image table path bytes : List ℕ) (fit : Fit g image) (T : TableOf g image table) (pathFits : (i : ℕ) → getD path i 0 < 256) (bytesFit : (i : ℕ) → getD bytes i 0 < 256) where
+module _ (g : Geometry) (image : List ℕ) (table : List OwnerRecord) (path bytes : List ℕ) (fit : Fit g image) (T : TableOf g image table) (pathFits : (i : ℕ) → getD path i 0 < 256) (bytesFit : (i : ℕ) → getD bytes i 0 < 256) where
   open TableOf T using (tree, accepted, table-is)
 
   abbrev pub asked : (x : Target) → putTarget path (T .tree .tree) ≡ ok x → Asked g image path bytes
@@ -71,7 +71,7 @@ module _ (g : Geometry) (image table path bytes : List ℕ) (fit : Fit g image) 
       pub has-old : HasOld g (viewOf g image) (f .replaces)
       has-old = record { links = linksOf (find (fileKey (place .target .to)) (place .target .place .items)); old = place .old }
 
-      module _ (u : List ℕ) (freed-old : FreesOld g (viewOf g image) (f .replaces) table u) where
+      module _ (u : List OwnerRecord) (freed-old : FreesOld g (viewOf g image) (f .replaces) table u) where
         pub to-put : PlainPutting g image u bytes f
         to-put =
             let a = asked (place .target) (place .reached) in
@@ -80,7 +80,7 @@ module _ (g : Geometry) (image table path bytes : List ℕ) (fit : Fit g image) 
               path = path;
               asked = a;
               at = place .at;
-              represents = subst (λ (t : List ℕ). Represents t k) (sym (freed-old _ (place .old)))
+              represents = subst (λ (t : List OwnerRecord). Represents t k) (sym (freed-old _ (place .old)))
                   (represents-freed table (used tree) k (pages (linksOf (find (fileKey (place .target .to)) (place .target .place .items)))) (table-used (place .target) (place .reached))
                   (λ x. omega (arith, kept-old g image path bytes a x, ap (count x) (place .pages-are))));
               clear = free-clear g image path bytes a;

@@ -3,14 +3,17 @@ use directory::extensions::extension_of;
 use edit::NewFile;
 use edit::Outcome;
 use geometry::Geometry;
+use geometry::RECORD_BYTES;
 use geometry::Shape;
 use lookup::PathLookup;
 use lookup::space::Space;
 use packet::Budget;
 use rules::Checked;
 use rules::Edited;
+ghost use Prim.Native.Nat.{_*_};
 ghost use mathlib.Core.Path.{_≡_};
 ghost use lib.ListN.{length};
+ghost use Rattle.owners.specs.Records.{recordsOf};
 ghost use Rattle.geometry.specs.Geometry.{Fit};
 ghost use Rattle.packet.specs.Budgets.{Open};
 ghost use Rattle.rules.specs.Put.{put as putRule};
@@ -94,11 +97,11 @@ fn put_path(
     g: Geometry,
     path: &[u8],
     bytes: &[u8],
-    table: &mut [u16],
+    table: &mut [u8],
     budget: Budget,
 ) -> Outcome
     requires { ⌜ Fit g (now image) ⌝ }
-    requires { ⌜ (length (now table) ≡ g .pages) × TableOf g (now image) (now table) × Open budget ⌝ }
+    requires { ⌜ (length (now table) ≡ 4 * g .pages) × TableOf g (now image) (recordsOf (now table)) × Open budget ⌝ }
     ensures { λ r. ⌜ PathPut g (now (image .entry)) (now (path .entry)) (now (bytes .entry)) budget (now (image .exit)) r ⌝ }
 {
     match place_file(image, g, path) {
@@ -111,10 +114,10 @@ fn put_path(
 }
 
 // Puts into an image whose geometry is known: the check, the put, then the table of the image as it then stands.
-fn put_in(image: &mut [u8], g: Geometry, path: &[u8], bytes: &[u8], table: &mut [u16]) -> Edited
+fn put_in(image: &mut [u8], g: Geometry, path: &[u8], bytes: &[u8], table: &mut [u8]) -> Edited
     requires { ⌜ Fit g (now image) ⌝ }
-    requires { ⌜ length (now table) ≡ g .pages ⌝ }
-    ensures { λ r. ⌜ EditLeaves g (now (image .entry)) (putRule g (now (path .entry)) (now (bytes .entry)) (now (image .entry))) r (now (image .exit)) (now (table .exit)) ⌝ }
+    requires { ⌜ length (now table) ≡ 4 * g .pages ⌝ }
+    ensures { λ r. ⌜ EditLeaves g (now (image .entry)) (putRule g (now (path .entry)) (now (bytes .entry)) (now (image .entry))) r (now (image .exit)) (recordsOf (now (table .exit))) ⌝ }
 {
     match volume::check_table(image, g, table) {
         Checked::Refused(number, page) => Edited::Refused(number, page),
@@ -136,7 +139,7 @@ pub fn put(
     pages: u32,
     path: &[u8],
     bytes: &[u8],
-    table: &mut [u16],
+    table: &mut [u8],
 ) -> Edited
     ensures { λ r. ⌜ (editResult r, now (image .exit), now (table .exit)) ≡ putCall size pages (now (image .entry)) (now (table .entry)) (now (path .entry)) (now (bytes .entry)) ⌝ }
     ensures { λ r. ⌜ Puts size pages (now (image .entry)) (now (table .entry)) (now (path .entry)) (now (bytes .entry)) (editResult r ≡ ok tt) (λ x. editResult r ≡ x) (now (image .exit)) ⌝ }
@@ -144,8 +147,8 @@ pub fn put(
     match Geometry::new(size, pages, image.len(), table.len()) {
         Shape::Invalid => Edited::Refused(1, 0),
         Shape::Fits(g) => {
-            let n = g.pages;
-            put_in(image, g, path, bytes, &mut table[..n])
+            let end = RECORD_BYTES * g.pages;
+            put_in(image, g, path, bytes, &mut table[..end])
         }
     }
 }

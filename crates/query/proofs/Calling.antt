@@ -1,7 +1,7 @@
 -- The calls list and read: the check's refusal, or the answer of the accepted image.
-use mathlib.Core.Path.{_≡_, refl, ap, sym, _∙_, subst}
+use mathlib.Core.Path.{_≡_, refl, ap, ap₂, sym, _∙_, subst}
 use mathlib.Core.List.{List, _++_}
-use Prim.Native.Nat.{ℕ, _<_}
+use Prim.Native.Nat.{ℕ, _*_, _<_}
 use lib.ListN.{length, getD, drop}
 use Rattle.geometry.specs.declared.Geometry.{Geometry}
 use Rattle.geometry.specs.declared.Shape.the-variants.{Fits}
@@ -12,6 +12,9 @@ use Rattle.rules.specs.declared.Line.{Line}
 use Rattle.rules.specs.Result.{Res, ok, err, IsOk}
 use Rattle.rules.specs.ResultLaws.{clash}
 use Rattle.rules.specs.Chain.{viewsOf}
+use Rattle.rules.specs.Owners.{tableWith}
+use Rattle.owners.specs.Records.{recordsOf}
+use Rattle.owners.specs.RecordLaws.{part-back}
 use Rattle.rules.specs.Listing.{linesOf, lineAt}
 use Rattle.rules.specs.Calls.{readBytes, lengthOf, filled, asked, listCall, readCall}
 use Rattle.rules.specs.Promises.{TellsTree}
@@ -33,35 +36,48 @@ length-ok : (r : Res (List ℕ)) (n : ℕ) → lengthOf r ≡ ok n → IsOk r
 length-ok (ok bytes) n e = (bytes, refl)
 length-ok (err m p) n e = clash e
 
--- ---- an image in its geometry, checked
-module _ (P N : ℕ) (image table : List ℕ) (g : Geometry) (e : geometryOf P N (length image) (length table) ≡ Fits g) (c : Checked) (u : List ℕ) (K : TableChecked g (viewsOf g image) c u) where
-  module _ (n p : ℕ) (q : c ≡ w.Refused n p) where
-    fault : TableChecked g (viewsOf g image) (w.Refused n p) u
-    fault = subst (λ (x : Checked). TableChecked g (viewsOf g image) x u) q K
-
-    pub list-fault : (k : ℕ) → (lineResult (listed.Refused n p), u ++ drop (g .pages) table) ≡ listCall P N image table k
-    unfolding listCall
-    list-fault k = sym (asked-refused P N image table g e (λ i. lineAt k (linesOf 0 (i .tree))) n p u fault)
-
-    pub read-fault : (path out : List ℕ) → (lengthResult (length′.Refused n p), out, u ++ drop (g .pages) table) ≡ readCall P N image table path out
-    unfolding readCall
-    read-fault path out = sym (ap (λ (x : Res (List ℕ) × List ℕ). (lengthOf (x .0), filled out (x .0), x .1)) (asked-refused P N image table g e (readBytes path out) n p u fault))
-
+-- ---- an image in its geometry, checked; `part` is the part of the table that was lent, come back
+module _ (P N : ℕ) (image table : List ℕ) (g : Geometry) (e : geometryOf P N (length image) (length table) ≡ Fits g) (c : Checked) (part : List ℕ) (K : TableChecked g (viewsOf g image) c (recordsOf part)) where
   module _ (d : Totals) (q : c ≡ w.Done d) where
-    done : TableChecked g (viewsOf g image) (w.Done d) u
-    done = subst (λ (x : Checked). TableChecked g (viewsOf g image) x u) q K
+    done : TableChecked g (viewsOf g image) (w.Done d) (recordsOf part)
+    done = subst (λ (x : Checked). TableChecked g (viewsOf g image) x (recordsOf part)) q K
 
     pub is-accepted : HasImage g (viewsOf g image)
     is-accepted = record { image = done .0; accepted = done .1 }
 
-    pub list-done : (k : ℕ) (r : Listed) → LineOf g (viewsOf g image) k r → (lineResult r, u ++ drop (g .pages) table) ≡ listCall P N image table k
-    unfolding listCall
-    list-done k r h = ap (λ (x : Res Line). (x, u ++ drop (g .pages) table)) (h (done .0) (done .1)) ∙ sym (asked-done P N image table g e (λ i. lineAt k (linesOf 0 (i .tree))) d u done)
+  module _ (l : length part ≡ 4 * g .pages) (h : (i : ℕ) → getD (part ++ drop (4 * g .pages) table) i 0 < 256) where
+    abbrev left : List ℕ
+    left = part ++ drop (4 * g .pages) table
 
-    pub read-done : (path out : List ℕ) (r : Length) (after : List ℕ) → PathRead g (viewsOf g image) path out r after → (lengthResult r, after, u ++ drop (g .pages) table) ≡ readCall P N image table path out
-    unfolding readCall
-    read-done path out r after h = ap (λ (x : Res ℕ × List ℕ). (x .0, x .1, u ++ drop (g .pages) table)) (h (done .0) (done .1))
-        ∙ sym (ap (λ (x : Res (List ℕ) × List ℕ). (lengthOf (x .0), filled out (x .0), x .1)) (asked-done P N image table g e (readBytes path out) d u done))
+    back : left ≡ tableWith (recordsOf part) table
+    back = part-back (g .pages) part table l h
+
+    module _ (n p : ℕ) (q : c ≡ w.Refused n p) where
+      fault : TableChecked g (viewsOf g image) (w.Refused n p) (recordsOf part)
+      fault = subst (λ (x : Checked). TableChecked g (viewsOf g image) x (recordsOf part)) q K
+
+      pub list-fault : (k : ℕ) → (lineResult (listed.Refused n p), left) ≡ listCall P N image table k
+      unfolding listCall
+      list-fault k = ap (λ (y : List ℕ). (err n p, y)) back ∙ sym (asked-refused P N image table g e (λ i. lineAt k (linesOf 0 (i .tree))) n p (recordsOf part) fault)
+
+      pub read-fault : (path out : List ℕ) → (lengthResult (length′.Refused n p), out, left) ≡ readCall P N image table path out
+      unfolding readCall
+      read-fault path out = ap (λ (y : List ℕ). (err n p, out, y)) back
+          ∙ sym (ap (λ (x : Res (List ℕ) × List ℕ). (lengthOf (x .0), filled out (x .0), x .1)) (asked-refused P N image table g e (readBytes path out) n p (recordsOf part) fault))
+
+    module _ (d : Totals) (q : c ≡ w.Done d) where
+      pub list-done : (k : ℕ) (r : Listed) → LineOf g (viewsOf g image) k r → (lineResult r, left) ≡ listCall P N image table k
+      unfolding listCall
+      list-done k r a =
+          let t = done d q in
+          ap₂ (λ (x : Res Line) (y : List ℕ). (x, y)) (a (t .0) (t .1)) back ∙ sym (asked-done P N image table g e (λ i. lineAt k (linesOf 0 (i .tree))) d (recordsOf part) t)
+
+      pub read-done : (path out : List ℕ) (r : Length) (after : List ℕ) → PathRead g (viewsOf g image) path out r after → (lengthResult r, after, left) ≡ readCall P N image table path out
+      unfolding readCall
+      read-done path out r after a =
+          let t = done d q in
+          ap₂ (λ (x : Res ℕ × List ℕ) (y : List ℕ). (x .0, x .1, y)) (a (t .0) (t .1)) back
+          ∙ sym (ap (λ (x : Res (List ℕ) × List ℕ). (lengthOf (x .0), filled out (x .0), x .1)) (asked-done P N image table g e (readBytes path out) d (recordsOf part) t))
 
 -- ---- the tree of the well-formed image
 module _ (P N : ℕ) (image table : List ℕ) (h : (i : ℕ) → getD image i 0 < 256) where

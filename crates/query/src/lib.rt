@@ -1,5 +1,6 @@
 // Questions about an image: the entry at a walk position, and the bytes of a file.
 use geometry::Geometry;
+use geometry::RECORD_BYTES;
 use geometry::Shape;
 use listing::LineSearch;
 use lookup::PathLookup;
@@ -33,15 +34,15 @@ fn entry_of(image: &[u8], g: Geometry, position: usize) -> Listed
 }
 
 // Lists the entry at a walk position from 0: 15 at or past the end. Fills the owner table as a check does.
-pub fn list(image: &[u8], size: u32, pages: u32, table: &mut [u16], position: usize) -> Listed
+pub fn list(image: &[u8], size: u32, pages: u32, table: &mut [u8], position: usize) -> Listed
     ensures { λ r. ⌜ (lineResult r, now (table .exit)) ≡ listCall size pages (now (image .entry)) (now (table .entry)) position ⌝ }
     ensures { λ r. ⌜ TellsTree size pages (now (image .entry)) (now (table .entry)) (λ i. lineAt position (linesOf 0 (i .tree))) (λ x. lineResult r ≡ x) (IsOk (lineResult r)) ⌝ }
 {
     match Geometry::new(size, pages, image.len(), table.len()) {
         Shape::Invalid => Listed::Refused(1, 0),
         Shape::Fits(g) => {
-            let n = g.pages;
-            match volume::check_table(image, g, &mut table[..n]) {
+            let end = RECORD_BYTES * g.pages;
+            match volume::check_table(image, g, &mut table[..end]) {
                 Checked::Refused(number, page) => Listed::Refused(number, page),
                 Checked::Done(_) => entry_of(image, g, position),
             }
@@ -84,7 +85,7 @@ pub fn read(
     pages: u32,
     path: &[u8],
     out: &mut [u8],
-    table: &mut [u16],
+    table: &mut [u8],
 ) -> Length
     ensures { λ r. ⌜ (lengthResult r, now (out .exit), now (table .exit)) ≡ readCall size pages (now (image .entry)) (now (table .entry)) (now (path .entry)) (now (out .entry)) ⌝ }
     ensures { λ r. ⌜ TellsTree size pages (now (image .entry)) (now (table .entry)) (readBytes (now (path .entry)) (now (out .entry)))
@@ -93,8 +94,8 @@ pub fn read(
     match Geometry::new(size, pages, image.len(), table.len()) {
         Shape::Invalid => Length::Refused(1, 0),
         Shape::Fits(g) => {
-            let n = g.pages;
-            match volume::check_table(image, g, &mut table[..n]) {
+            let end = RECORD_BYTES * g.pages;
+            match volume::check_table(image, g, &mut table[..end]) {
                 Checked::Refused(number, page) => Length::Refused(number, page),
                 Checked::Done(_) => read_path(image, g, path, out),
             }

@@ -1,3 +1,4 @@
 pub mod Cases
 pub mod KeptBytes
 pub mod CarefulOrder
+pub mod OwnerRecords

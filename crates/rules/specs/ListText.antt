@@ -94,9 +94,9 @@ abbrev pub dumpRight : List ℕ → Bool
 dumpRight dump =
     leb 8 (length dump) && (leb 8 (dumpOffset dump) && (leb (dumpOffset dump) 32768 && (leb (dumpOffset dump) (length dump) && leb (length dump - dumpOffset dump) 32768)))
 
--- all else is the check's answer; the program lends an owner table of 65,535 numbers
+-- all else is the check's answer; the program lends an owner table of 65,535 records
 unfoldable pub dumpText : List ℕ → List ℕ → Res (List ℕ)
-dumpText dump image = inGeometry (geometryOf (dumpSize dump) (dumpPages dump) (length image) 65535) (err 1 0) (λ g. do
+dumpText dump image = inGeometry (geometryOf (dumpSize dump) (dumpPages dump) (length image) 262140) (err 1 0) (λ g. do
   i ← check g (viewsOf g image)
   ok (totalsText g (totals i) ++ linesText (linesOf 0 (i .tree))))
 

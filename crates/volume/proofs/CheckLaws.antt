@@ -1,7 +1,7 @@
 -- Both halves together: the bitmap compared, the table filled, the call.
 use mathlib.Core.Path.{_≡_, ap, ap₂, sym, _∙_, subst}
 use mathlib.Core.List.{List, _++_}
-use Prim.Native.Nat.{ℕ, _+_, _-_, _≤_, _<_}
+use Prim.Native.Nat.{ℕ, _+_, _-_, _*_, _≤_, _<_}
 use native.Mathlib.Omega.{arith}
 use lib.ListN.{length, getD, take, drop}
 use Rattle.geometry.specs.declared.Geometry.{Geometry}
@@ -17,13 +17,15 @@ use Rattle.rules.specs.Promises.{Accepts}
 use Rattle.rules.specs.ResultLaws.{clash, then-ok, then-err}
 use Rattle.rules.specs.Chain.{Views, viewsOf}
 use Rattle.rules.specs.Tree.{Image, used}
-use Rattle.rules.specs.Owners.{owners, totals, tableAfter}
+use Rattle.rules.specs.Owners.{OwnerRecord, owners, totals, tableWith, tableAfter}
 use Rattle.rules.specs.Check.{Scan, judgeBits, scan, check}
 use Rattle.rules.specs.Calls.{asked, checkCall}
 use Rattle.rules.specs.CallLaws.{asked-fits}
 use Rattle.reading_theorems.specs.CheckCall.{check-accepts}
 use Rattle.directory.specs.declared.control.Root.{Root}
 use Rattle.directory.specs.declared.control.Root.the-variants as root
+use Rattle.owners.specs.Records.{recordsOf}
+use Rattle.owners.specs.RecordLaws.{part-back}
 use Rattle.bitmap.specs.declared.Bits.{Bits}
 use Rattle.bitmap.specs.declared.Bits.the-variants as bits
 use Rattle.bitmap.specs.Bits.{Compares}
@@ -57,21 +59,21 @@ pub remote-known : (g : Geometry) (v : View) (start : ℕ) (s : Scan) → RawFil
 remote-known g v start s k = record { links = k .links; chain = k .chain }
 
 -- ---- the table
-pub record Done (g : Geometry) (vs : Views) (d : Totals) (u : List ℕ) : Type 0 where
+pub record Done (g : Geometry) (vs : Views) (d : Totals) (u : List OwnerRecord) : Type 0 where
   pub scanned : Scan
   pub scan-is : scan g vs ≡ ok scanned
   pub totals-are : d ≡ totals (scanned .image)
   pub table-is : u ≡ owners (g .pages) (scanned .image)
 
-pub scan-done : (g : Geometry) (vs : Views) (r : Checked) (u : List ℕ) (d : Totals) → Scanned g vs r u → r ≡ w.Done d → Done g vs d u
+pub scan-done : (g : Geometry) (vs : Views) (r : Checked) (u : List OwnerRecord) (d : Totals) → Scanned g vs r u → r ≡ w.Done d → Done g vs d u
 scan-done g vs r u d k i =
     let a : Scanned g vs (w.Done d) u = subst (λ (x : Checked). Scanned g vs x u) i k in
     record { scanned = a .0; scan-is = a .1; totals-are = a .2; table-is = a .3 }
 
-pub scan-fault : (g : Geometry) (vs : Views) (r : Checked) (u : List ℕ) (n p : ℕ) → Scanned g vs r u → r ≡ w.Refused n p → check g vs ≡ err n p
+pub scan-fault : (g : Geometry) (vs : Views) (r : Checked) (u : List OwnerRecord) (n p : ℕ) → Scanned g vs r u → r ≡ w.Refused n p → check g vs ≡ err n p
 scan-fault g vs r u n p k i = check-refused g vs n p (subst (λ (x : Checked). Scanned g vs x u) i k)
 
-module _ (g : Geometry) (vs : Views) (d : Totals) (u : List ℕ) (a : Done g vs d u) (r : Bits) (k : BitsCompared g vs u r) where
+module _ (g : Geometry) (vs : Views) (d : Totals) (u : List OwnerRecord) (a : Done g vs d u) (r : Bits) (k : BitsCompared g vs u r) where
   judged : Compares (judgeBits (a .scanned .raw) (used (a .scanned .image))) r
   judged = k (a .scanned) (a .scan-is) (used (a .scanned .image)) (scan-table g vs (a .scanned) (a .scan-is) u (a .table-is))
 
@@ -84,22 +86,24 @@ module _ (g : Geometry) (vs : Views) (d : Totals) (u : List ℕ) (a : Done g vs 
 
 -- ---- the call
 module _ {A : Type 0} (P N : ℕ) (image table : List ℕ) (g : Geometry) (e : geometryOf P N (length image) (length table) ≡ Fits g) (question : Image → Res A) where
-  pub asked-done : (d : Totals) (u : List ℕ) (k : TableChecked g (viewsOf g image) (w.Done d) u) → asked P N image table question ≡ (question (k .0), u ++ drop (g .pages) table)
+  pub asked-done : (d : Totals) (u : List OwnerRecord) (k : TableChecked g (viewsOf g image) (w.Done d) u) → asked P N image table question ≡ (question (k .0), tableWith u table)
   unfolding tableAfter
   asked-done d u k = asked-fits P N image table g e question ∙ ap (λ (x : Res Image). (andThen x question, tableAfter (g .pages) x table)) (k .1)
-      ∙ ap₂ (λ (x : Res A) (y : List ℕ). (x, y ++ drop (g .pages) table)) (then-ok (k .0) question) (sym (k .3))
+      ∙ ap₂ (λ (x : Res A) (y : List OwnerRecord). (x, tableWith y table)) (then-ok (k .0) question) (sym (k .3))
 
-  pub asked-refused : (n p : ℕ) (u : List ℕ) → TableChecked g (viewsOf g image) (w.Refused n p) u → asked P N image table question ≡ (err n p, u ++ drop (g .pages) table)
+  pub asked-refused : (n p : ℕ) (u : List OwnerRecord) → TableChecked g (viewsOf g image) (w.Refused n p) u → asked P N image table question ≡ (err n p, tableWith u table)
   unfolding tableAfter
   asked-refused n p u k = asked-fits P N image table g e question ∙ ap (λ (x : Res Image). (andThen x question, tableAfter (g .pages) x table)) (k .0)
-      ∙ ap₂ (λ (x : Res A) (y : List ℕ). (x, y ++ drop (g .pages) table)) (then-err n p question) (sym (k .1))
+      ∙ ap₂ (λ (x : Res A) (y : List OwnerRecord). (x, tableWith y table)) (then-err n p question) (sym (k .1))
 
-pub checked : (P N : ℕ) (image table : List ℕ) (g : Geometry) → geometryOf P N (length image) (length table) ≡ Fits g → (r : Checked) (u : List ℕ) → TableChecked g (viewsOf g image) r u
-    → (checkResult r, u ++ drop (g .pages) table) ≡ checkCall P N image table
+-- the part of the table that was lent, come back
+pub checked : (P N : ℕ) (image table : List ℕ) (g : Geometry) → geometryOf P N (length image) (length table) ≡ Fits g → (r : Checked) (part : List ℕ) → length part ≡ 4 * g .pages
+    → ((i : ℕ) → getD (part ++ drop (4 * g .pages) table) i 0 < 256) → TableChecked g (viewsOf g image) r (recordsOf part) → (checkResult r, part ++ drop (4 * g .pages) table) ≡ checkCall P N image table
 unfolding checkCall
-checked P N image table g e (w.Done d) u k =
-    ap (λ (x : Totals). (ok x, u ++ drop (g .pages) table)) (k .2) ∙ sym (asked-done P N image table g e (λ i. ok (totals i)) d u k)
-checked P N image table g e (w.Refused n p) u k = sym (asked-refused P N image table g e (λ i. ok (totals i)) n p u k)
+checked P N image table g e (w.Done d) part l h k =
+    ap₂ (λ (x : Totals) (y : List ℕ). (ok x, y)) (k .2) (part-back (g .pages) part table l h) ∙ sym (asked-done P N image table g e (λ i. ok (totals i)) d (recordsOf part) k)
+checked P N image table g e (w.Refused n p) part l h k =
+    ap (λ (y : List ℕ). (err n p, y)) (part-back (g .pages) part table l h) ∙ sym (asked-refused P N image table g e (λ i. ok (totals i)) n p (recordsOf part) k)
 
 -- what a call that answers so accepts
 pub accepts : (P N : ℕ) (image table : List ℕ) → ((i : ℕ) → getD image i 0 < 256) → (r : Checked) (u : List ℕ) → (checkResult r, u) ≡ checkCall P N image table → Accepts P N image table (IsOk (checkResult r))

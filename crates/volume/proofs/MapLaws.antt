@@ -13,7 +13,7 @@ use Rattle.rules.specs.ResultLaws.{then-ok, then-err, refuse-true, refuse-false
 use Rattle.rules.specs.Chain.{Views, Link, pages, content, walk}
 use Rattle.rules.specs.ChainLaws.{length-pages}
 use Rattle.rules.specs.Tree.{inFile}
-use Rattle.rules.specs.Owners.{own}
+use Rattle.rules.specs.Owners.{OwnerRecord, free, own}
 use Rattle.owners.specs.Owned.{Represents}
 use Rattle.owners.specs.OwnerLaws.{represents-none, represents-length, inUse}
 use Rattle.directory.specs.declared.control.Kind.the-variants as kind
@@ -27,10 +27,10 @@ use Rattle.rules.specs.Check.{judgeMapFile}
 use Rattle.volume.specs.Scans.{noEntries, MapClaimed}
 
 -- an empty table
-pub empty-table : (N : ℕ) (t : List ℕ) → t ≡ replicate N 0 → Represents t [] × (length t ≡ N) × (inUse t ≡ 0)
+pub empty-table : (N : ℕ) (t : List OwnerRecord) → t ≡ replicate N free → Represents t [] × (length t ≡ N) × (inUse t ≡ 0)
 empty-table N t z =
-    let r : Represents t [] = subst (λ (x : List ℕ). Represents x []) (sym z) (represents-none N) in
-    (r, ap length z ∙ length-replicate {A = ℕ} N 0, represents-length t [] r)
+    let r : Represents t [] = subst (λ (x : List OwnerRecord). Represents x []) (sym z) (represents-none N) in
+    (r, ap length z ∙ length-replicate {A = OwnerRecord} N free, represents-length t [] r)
 
 module _ (g : Geometry) (vs : Views) (start pages-told : ℕ) where
   pub map-none : start ≡ 0 → judgeMapFile g vs (suc (g .pages)) start pages-told ≡ err 6 0
@@ -46,7 +46,7 @@ module _ (g : Geometry) (vs : Views) (start pages-told : ℕ) where
     unfolding judgeMapFile
     map-step = simp (lt-ltb 0 start (omega arith), refuse-true, then-ok, test-file g)
 
-    module _ (t u : List ℕ) (z : t ≡ replicate (g .pages) 0) (r : Claim) (k : Claims g (vs .pages) (testOf g kind.File) 2 0 start t r u) where
+    module _ (t u : List OwnerRecord) (z : t ≡ replicate (g .pages) free) (r : Claim) (k : Claims g (vs .pages) (testOf g kind.File) 2 0 start t r u) where
       pub map-refused : (n p : ℕ) → r ≡ claim.Refused n p → judgeMapFile g vs (suc (g .pages)) start pages-told ≡ err n p
       map-refused n p i = simp (map-step, claim-refused chainOf 2 n p t u r (k [] (empty-table (g .pages) t z .0)) i, then-err)
 

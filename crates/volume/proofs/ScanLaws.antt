@@ -27,7 +27,7 @@ use Rattle.rules.specs.Chain.{Views, viewsOf, Link, content, packetAt, anyPage}
 use Rattle.rules.specs.ChainLaws.{packet-good, length-pages, walk-sound}
 use Rattle.rules.specs.Tree.{Items, ownPages, innerPages, allPages, Map, inRoot, inFile, mapPages, used}
 use Rattle.rules.specs.Control.{theRoot, Head, headOf, mapStart, mapCount, rootPage, mostLocal, localAllowed, placeZeros, fieldAt}
-use Rattle.rules.specs.Owners.{own, owners}
+use Rattle.rules.specs.Owners.{OwnerRecord, free, own, owners}
 use Rattle.owners.specs.Owned.{ownerAt, nonzero, Represents}
 use Rattle.owners.specs.OwnerLaws.{represents-none, represents-own, represents-length, inUse, length-own, represents-owners}
 use Rattle.rules.specs.Check.{Scan, rawBits, judgeBits, judgeMap, judgeDirectory, judgeSub, scan, check, scanWith, judgeMapFile}
@@ -179,40 +179,40 @@ module _ (g : Geometry) (vs : Views) where
   same-totals : (a b c d e f : ℕ) → a ≡ d → b ≡ e → c ≡ f → _≡_ {A = Totals} (record { used = a; files = b; directories = c }) (record { used = d; files = e; directories = f })
   same-totals a b c d e f p q r = λ i. record { used = p i; files = q i; directories = r i }
 
-  pub scan-from : (h : Head) (m : Map) → scan g vs ≡ rest h m → (n : ℕ) (t : List ℕ) → n ≡ length (mapPages m) → t ≡ own 2 (mapPages m) (replicate (g .pages) 0) → (r : Checked) (u : List ℕ)
+  pub scan-from : (h : Head) (m : Map) → scan g vs ≡ rest h m → (n : ℕ) (t : List OwnerRecord) → n ≡ length (mapPages m) → t ≡ own 2 (mapPages m) (replicate (g .pages) free) → (r : Checked) (u : List OwnerRecord)
       → Answers (plusDirectory (noEntries n)) (ownDirectory 1 0 t) (walked m) r u → Scanned g vs r u
   scan-from h m e n t l z (w.Done d) u (i, a, b, k) = (
     record { image = record { tree = i; map = m }; raw = rawBits h m },
     e ∙ simp (a, then-ok),
     b ∙ same-totals _ _ _ _ _ _ (omega (arith, l, length-append (allPages i) (mapPages m), length-append (ownPages i) (innerPages i))) (omega arith) (omega arith),
-    k ∙ ap (λ (x : List ℕ). ownDirectory 1 0 x i) z,
+    k ∙ ap (λ (x : List OwnerRecord). ownDirectory 1 0 x i) z,
   )
   scan-from h m e n t l z (w.Refused q p) u a = e ∙ simp (a, then-err)
 
 -- ---- a table with the bitmap file
-pub record Mapped (g : Geometry) (m : Map) (n : ℕ) (t : List ℕ) : Type 0 where
+pub record Mapped (g : Geometry) (m : Map) (n : ℕ) (t : List OwnerRecord) : Type 0 where
   pub represents : Represents t (mapPages m)
   pub long : length t ≡ g .pages
   pub used-is : n ≡ inUse t
 
-pub mapped : (g : Geometry) (m : Map) (n : ℕ) (t : List ℕ) → Within (g .pages) (mapPages m) → n ≡ length (mapPages m) → t ≡ own 2 (mapPages m) (replicate (g .pages) 0) → Mapped g m n t
+pub mapped : (g : Geometry) (m : Map) (n : ℕ) (t : List OwnerRecord) → Within (g .pages) (mapPages m) → n ≡ length (mapPages m) → t ≡ own 2 (mapPages m) (replicate (g .pages) free) → Mapped g m n t
 mapped g m n t f l z =
     let N = g .pages in
-    let e = length-replicate {A = ℕ} N 0 in
-    let a = represents-own 2 (mapPages m) (replicate N 0) [] (omega arith) (represents-none N) (λ x. rw e (omega (arith, f x))) in
-    let r : Represents t (mapPages m) = λ x. omega (arith, a x, count-append x (mapPages m) [], ap (λ (y : List ℕ). nonzero (ownerAt y x)) z) in
-    record { represents = r; long = ap length z ∙ length-own 2 (mapPages m) (replicate N 0) ∙ e; used-is = l ∙ sym (represents-length t (mapPages m) r) }
+    let e = length-replicate {A = OwnerRecord} N free in
+    let a = represents-own 2 (mapPages m) (replicate N free) [] (omega arith) (represents-none N) (λ x. rw e (omega (arith, f x))) in
+    let r : Represents t (mapPages m) = λ x. omega (arith, a x, count-append x (mapPages m) [], ap (λ (y : List OwnerRecord). nonzero (ownerAt y x)) z) in
+    record { represents = r; long = ap length z ∙ length-own 2 (mapPages m) (replicate N free) ∙ e; used-is = l ∙ sym (represents-length t (mapPages m) r) }
 
 -- what the bitmap file's claiming gives
-pub record FileMapped (g : Geometry) (vs : Views) (start count n : ℕ) (u : List ℕ) : Type 0 where
+pub record FileMapped (g : Geometry) (vs : Views) (start count n : ℕ) (u : List OwnerRecord) : Type 0 where
   pub map : Map
   pub map-is : judgeMapFile g vs (suc (g .pages)) start count ≡ ok map
   pub pages-are : n ≡ length (mapPages map)
-  pub table-is : u ≡ own 2 (mapPages map) (replicate (g .pages) 0)
+  pub table-is : u ≡ own 2 (mapPages map) (replicate (g .pages) free)
   pub inside : Within (g .pages) (mapPages map)
   pub some : 1 ≤ n
 
-pub file-mapped : (g : Geometry) (vs : Views) (start count : ℕ) (r : Checked) (u : List ℕ) (d : Totals) → MapClaimed g vs start count r u → r ≡ w.Done d → FileMapped g vs start count (d .used) u
+pub file-mapped : (g : Geometry) (vs : Views) (start count : ℕ) (r : Checked) (u : List OwnerRecord) (d : Totals) → MapClaimed g vs start count r u → r ≡ w.Done d → FileMapped g vs start count (d .used) u
 unfolding judgeMapFile MapClaimed
 file-mapped g vs start count r u d k i =
     let a : MapClaimed g vs start count (w.Done d) u = subst (λ (x : Checked). MapClaimed g vs start count x u) i k in
@@ -229,14 +229,14 @@ file-mapped g vs start count r u d k i =
       some = omega (arith, n, ap (λ (x : Map). length (mapPages x)) m, length-pages ls, c .some);
     }
 
-pub map-refused-is : (g : Geometry) (vs : Views) (start count : ℕ) (r : Checked) (u : List ℕ) (n p : ℕ) → MapClaimed g vs start count r u → r ≡ w.Refused n p → judgeMapFile g vs (suc (g .pages)) start count ≡ err n p
+pub map-refused-is : (g : Geometry) (vs : Views) (start count : ℕ) (r : Checked) (u : List OwnerRecord) (n p : ℕ) → MapClaimed g vs start count r u → r ≡ w.Refused n p → judgeMapFile g vs (suc (g .pages)) start count ≡ err n p
 unfolding MapClaimed
 map-refused-is g vs start count r u n p k i = subst (λ (x : Checked). MapClaimed g vs start count x u) i k
 
 pub file-refused : (g : Geometry) (vs : Views) (start count n p : ℕ) → InFile g vs start count → judgeMapFile g vs (suc (g .pages)) start count ≡ err n p → scan g vs ≡ err n p
 file-refused g vs start count n p k e = k .scan-is ∙ ap (λ (x : Res Map). andThen x (rest g vs (k .head))) e ∙ then-err n p (rest g vs (k .head))
 
-pub file-scan : (g : Geometry) (vs : Views) (start count n : ℕ) (u : List ℕ) (k : InFile g vs start count) (m : FileMapped g vs start count n u) → scan g vs ≡ rest g vs (k .head) (m .map)
+pub file-scan : (g : Geometry) (vs : Views) (start count n : ℕ) (u : List OwnerRecord) (k : InFile g vs start count) (m : FileMapped g vs start count n u) → scan g vs ≡ rest g vs (k .head) (m .map)
 file-scan g vs start count n u k m = k .scan-is ∙ ap (λ (x : Res Map). andThen x (rest g vs (k .head))) (m .map-is) ∙ then-ok (m .map) (rest g vs (k .head))
 
 -- ---- page 0 as the code reads it
@@ -325,5 +325,5 @@ module _ (g : Geometry) (vs : Views) where
     unfolding check
     check-same q = simp (e, then-ok, q)
 
-    pub scan-table : (u : List ℕ) → u ≡ owners (g .pages) (s .image) → Represents u (used (s .image))
-    scan-table u q = subst (λ (x : List ℕ). Represents x (used (s .image))) (sym q) (represents-owners (g .pages) (s .image) (scan-sound g vs s e .clear))
+    pub scan-table : (u : List OwnerRecord) → u ≡ owners (g .pages) (s .image) → Represents u (used (s .image))
+    scan-table u q = subst (λ (x : List OwnerRecord). Represents x (used (s .image))) (sym q) (represents-owners (g .pages) (s .image) (scan-sound g vs s e .clear))

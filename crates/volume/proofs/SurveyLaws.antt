@@ -15,6 +15,7 @@ use Rattle.rules.specs.Chain.{Views}
 use Rattle.rules.specs.Tree.{used}
 use Rattle.rules.specs.Check.{Scan, scan}
 use Rattle.rules.specs.Careful.{allMendable}
+use Rattle.rules.specs.Owners.{OwnerRecord}
 use Rattle.bitmap.specs.declared.Survey.{Survey}
 use Rattle.bitmap.specs.declared.Survey.the-variants as survey
 use Rattle.bitmap.specs.Surveys.{SurveyIs}
@@ -28,10 +29,10 @@ pub on-raw : (N : ℕ) (raw bytes used : List ℕ) (r : Survey) → raw ≡ byte
 on-raw N raw bytes used r e k = subst (λ (x : List ℕ). SurveyIs N x used 0 (8 * length x) 0 r) (sym e) k
 
 -- a fault but 13: no scan
-pub no-scan : (g : Geometry) (vs : Views) (r : Checked) (u : List ℕ) (n p : ℕ) → Scanned g vs r u → r ≡ w.Refused n p → TableSurveyed g vs survey.Uncovered u
+pub no-scan : (g : Geometry) (vs : Views) (r : Checked) (u : List OwnerRecord) (n p : ℕ) → Scanned g vs r u → r ≡ w.Refused n p → TableSurveyed g vs survey.Uncovered u
 no-scan g vs r u n p k i s e = clash (sym (subst (λ (x : Checked). Scanned g vs x u) i k) ∙ e)
 
-pub table-surveyed : (g : Geometry) (vs : Views) (d : Totals) (u : List ℕ) → Done g vs d u → length u ≡ g .pages → (r : Survey) → BitsSurveyed g vs u r → TableSurveyed g vs r u
+pub table-surveyed : (g : Geometry) (vs : Views) (d : Totals) (u : List OwnerRecord) → Done g vs d u → length u ≡ g .pages → (r : Survey) → BitsSurveyed g vs u r → TableSurveyed g vs r u
 table-surveyed g vs d u a l r k = go r (subst (λ (n : ℕ). SurveyIs n (a .scanned .raw) (used (a .scanned .image)) 0 (8 * length (a .scanned .raw)) 0 r) l
     (k (a .scanned) (a .scan-is) (used (a .scanned .image)) (scan-table g vs (a .scanned) (a .scan-is) u (a .table-is))))
   where

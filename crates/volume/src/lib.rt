@@ -10,17 +10,18 @@ use geometry::Geometry;
 use geometry::LENGTH_BYTES;
 use geometry::MAP_OWNER;
 use geometry::MOST_LEVELS;
+use geometry::RECORD_BYTES;
 use geometry::ROOT_OWNER;
 use geometry::Shape;
 use packet::Judged;
 use rules::Checked;
 use rules::Totals;
 ghost use mathlib.Core.Path.{_≡_};
-ghost use Prim.Native.Nat.{_+_, _≤_, _<_};
+ghost use Prim.Native.Nat.{_+_, _*_, _≤_, _<_};
 ghost use lib.ListN.{length};
 ghost use Rattle.geometry.specs.Geometry.{Fit};
 ghost use Rattle.packet.specs.Packet.{viewOf};
-ghost use Rattle.owners.specs.Owned.{allFree};
+ghost use Rattle.owners.specs.Records.{recordsOf, Empty};
 ghost use Rattle.owners.specs.OwnerLaws.{inUse};
 ghost use Rattle.rules.specs.Result.{IsOk};
 ghost use Rattle.rules.specs.Chain.{viewsOf};
@@ -51,10 +52,10 @@ fn root_of(image: &[u8], g: Geometry) -> Root
 }
 
 // Claims the bitmap file: its start page (6), its chain, its page count (8), its bytes (8).
-fn claim_map(image: &[u8], g: Geometry, start: usize, count: usize, table: &mut [u16]) -> Checked
+fn claim_map(image: &[u8], g: Geometry, start: usize, count: usize, table: &mut [u8]) -> Checked
     requires { ⌜ Fit g (now image) ⌝ }
-    requires { ⌜ now table ≡ allFree (g .pages) ⌝ }
-    ensures { λ r. ⌜ MapClaimed g (viewsOf g (now (image .entry))) start count r (now (table .exit)) ⌝ }
+    requires { ⌜ Empty (g .pages) (now table) ⌝ }
+    ensures { λ r. ⌜ MapClaimed g (viewsOf g (now (image .entry))) start count r (recordsOf (now (table .exit))) ⌝ }
 {
     if start == 0 {
         return Checked::Refused(6, 0);
@@ -78,10 +79,10 @@ fn claim_map(image: &[u8], g: Geometry, start: usize, count: usize, table: &mut 
 }
 
 // Walks the root and all below it; the bitmap file has so many pages.
-fn walk_root(image: &[u8], g: Geometry, used: usize, table: &mut [u16]) -> Checked
+fn walk_root(image: &[u8], g: Geometry, used: usize, table: &mut [u8]) -> Checked
     requires { ⌜ Fit g (now image) ⌝ }
-    requires { ⌜ (length (now table) ≡ g .pages) × (used ≡ inUse (now table)) × (65532 < g .pages → 1 ≤ used) ⌝ }
-    ensures { λ r. ⌜ RootWalked g (viewsOf g (now (image .entry))) used (now (table .entry)) r (now (table .exit)) ⌝ }
+    requires { ⌜ (length (now table) ≡ 4 * g .pages) × (used ≡ inUse (recordsOf (now table))) × (65532 < g .pages → 1 ≤ used) ⌝ }
+    ensures { λ r. ⌜ RootWalked g (viewsOf g (now (image .entry))) used (recordsOf (now (table .entry))) r (recordsOf (now (table .exit))) ⌝ }
 {
     let totals = Totals {
         used,
@@ -103,10 +104,10 @@ fn walk_root(image: &[u8], g: Geometry, used: usize, table: &mut [u16]) -> Check
 }
 
 // The first half of the check, over an empty table: all but the bits of the bitmap.
-fn scan(image: &[u8], g: Geometry, root: Root, table: &mut [u16]) -> Checked
+fn scan(image: &[u8], g: Geometry, root: Root, table: &mut [u8]) -> Checked
     requires { ⌜ Fit g (now image) ⌝ }
-    requires { ⌜ (now table ≡ allFree (g .pages)) × (root ≡ rootOf g (viewOf g (now image) 0)) ⌝ }
-    ensures { λ r. ⌜ Scanned g (viewsOf g (now (image .entry))) r (now (table .exit)) ⌝ }
+    requires { ⌜ Empty (g .pages) (now table) × (root ≡ rootOf g (viewOf g (now image) 0)) ⌝ }
+    ensures { λ r. ⌜ Scanned g (viewsOf g (now (image .entry))) r (recordsOf (now (table .exit))) ⌝ }
 {
     match root {
         Root::Refused(number) => Checked::Refused(number, 0),
@@ -119,10 +120,10 @@ fn scan(image: &[u8], g: Geometry, root: Root, table: &mut [u16]) -> Checked
 }
 
 // The second half: the bits of the bitmap where the root's control field places it.
-fn compare(image: &[u8], g: Geometry, root: Root, table: &[u16]) -> Bits
+fn compare(image: &[u8], g: Geometry, root: Root, table: &[u8]) -> Bits
     requires { ⌜ Fit g (now image) ⌝ }
     requires { ⌜ (root ≡ rootOf g (viewOf g (now image) 0)) × IsScanned g (viewsOf g (now image)) ⌝ }
-    ensures { λ r. ⌜ BitsCompared g (viewsOf g (now (image .entry))) (now (table .entry)) r ⌝ }
+    ensures { λ r. ⌜ BitsCompared g (viewsOf g (now (image .entry))) (recordsOf (now (table .entry))) r ⌝ }
 {
     match root {
         // a refused root was never scanned
@@ -138,10 +139,10 @@ fn compare(image: &[u8], g: Geometry, root: Root, table: &[u16]) -> Bits
 }
 
 // The marks of the bitmap where the root's control field places it.
-fn survey(image: &[u8], g: Geometry, root: Root, table: &[u16]) -> Survey
+fn survey(image: &[u8], g: Geometry, root: Root, table: &[u8]) -> Survey
     requires { ⌜ Fit g (now image) ⌝ }
     requires { ⌜ (root ≡ rootOf g (viewOf g (now image) 0)) × IsScanned g (viewsOf g (now image)) ⌝ }
-    ensures { λ r. ⌜ BitsSurveyed g (viewsOf g (now (image .entry))) (now (table .entry)) r ⌝ }
+    ensures { λ r. ⌜ BitsSurveyed g (viewsOf g (now (image .entry))) (recordsOf (now (table .entry))) r ⌝ }
 {
     match root {
         // a refused root was never scanned
@@ -157,10 +158,10 @@ fn survey(image: &[u8], g: Geometry, root: Root, table: &[u16]) -> Survey
 }
 
 // Scans an image whose geometry is known, and surveys its marks for a mend. The table has the owners of its pages unless they are uncovered.
-pub fn survey_table(image: &[u8], g: Geometry, table: &mut [u16]) -> Survey
+pub fn survey_table(image: &[u8], g: Geometry, table: &mut [u8]) -> Survey
     requires { ⌜ Fit g (now image) ⌝ }
-    requires { ⌜ length (now table) ≡ g .pages ⌝ }
-    ensures { λ r. ⌜ TableSurveyed g (viewsOf g (now (image .entry))) r (now (table .exit)) ⌝ }
+    requires { ⌜ length (now table) ≡ 4 * g .pages ⌝ }
+    ensures { λ r. ⌜ TableSurveyed g (viewsOf g (now (image .entry))) r (recordsOf (now (table .exit))) ⌝ }
 {
     owners::clear(table);
     let root = root_of(image, g);
@@ -171,10 +172,10 @@ pub fn survey_table(image: &[u8], g: Geometry, table: &mut [u16]) -> Survey
 }
 
 // Checks an image whose geometry is known and fills the table, or leaves it empty.
-pub fn check_table(image: &[u8], g: Geometry, table: &mut [u16]) -> Checked
+pub fn check_table(image: &[u8], g: Geometry, table: &mut [u8]) -> Checked
     requires { ⌜ Fit g (now image) ⌝ }
-    requires { ⌜ length (now table) ≡ g .pages ⌝ }
-    ensures { λ r. ⌜ TableChecked g (viewsOf g (now (image .entry))) r (now (table .exit)) ⌝ }
+    requires { ⌜ length (now table) ≡ 4 * g .pages ⌝ }
+    ensures { λ r. ⌜ TableChecked g (viewsOf g (now (image .entry))) r (recordsOf (now (table .exit))) ⌝ }
 {
     owners::clear(table);
     let root = root_of(image, g);
@@ -194,15 +195,15 @@ pub fn check_table(image: &[u8], g: Geometry, table: &mut [u16]) -> Checked
 }
 
 // Checks an image in its geometry: pages in use, files and directories, or the first fault. Fills the owner table.
-pub fn check(image: &[u8], size: u32, pages: u32, table: &mut [u16]) -> Checked
+pub fn check(image: &[u8], size: u32, pages: u32, table: &mut [u8]) -> Checked
     ensures { λ r. ⌜ (checkResult r, now (table .exit)) ≡ checkCall size pages (now (image .entry)) (now (table .entry)) ⌝ }
     ensures { λ r. ⌜ Accepts size pages (now (image .entry)) (now (table .entry)) (IsOk (checkResult r)) ⌝ }
 {
     match Geometry::new(size, pages, image.len(), table.len()) {
         Shape::Invalid => Checked::Refused(1, 0),
         Shape::Fits(g) => {
-            let n = g.pages;
-            check_table(image, g, &mut table[..n])
+            let end = RECORD_BYTES * g.pages;
+            check_table(image, g, &mut table[..end])
         }
     }
 }

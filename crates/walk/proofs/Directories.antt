@@ -11,7 +11,7 @@ use Rattle.rules.specs.PageSets.{Within}
 use Rattle.rules.specs.PageSetLaws.{count-append}
 use Rattle.rules.specs.Chain.{Views, Link, pages, Test, walk}
 use Rattle.rules.specs.ChainLaws.{IsChain, walk-sound}
-use Rattle.rules.specs.Owners.{own}
+use Rattle.rules.specs.Owners.{OwnerRecord, own}
 use Rattle.owners.specs.Owned.{Represents}
 use Rattle.owners.specs.OwnerLaws.{represents-own, represents-within, inUse, taken, represents-taken}
 use Rattle.rules.specs.Check.{judgeDirectory, judgeSub}
@@ -28,14 +28,14 @@ use Rattle.walk.proofs.Steps.{good-chain, directory-refused, directory-
 use Rattle.walk.proofs.Left.{here, Whole}
 
 -- its chain was refused
-pub refused-directory : (g : Geometry) (vs : Views) (test : Test) (owner from start : ℕ) (t u : List ℕ) (r : Claim) → Claims g (vs .pages) test owner from start t r u
+pub refused-directory : (g : Geometry) (vs : Views) (test : Test) (owner from start : ℕ) (t u : List OwnerRecord) (r : Claim) → Claims g (vs .pages) test owner from start t r u
     → (levels name m p : ℕ) → r ≡ claim.Refused m p → (claimed : List ℕ) → Represents t claimed
     → judgeDirectory g vs (suc (g .pages)) (judgeSub g vs (suc (g .pages)) levels) test (here g vs levels name start) claimed from ≡ err m p
 refused-directory g vs test owner from start t u r k levels name m p i claimed h =
     directory-refused g vs levels test (here g vs levels name start) claimed from m p (claim-refused (walk (g .pages) (vs .pages) test (suc (g .pages)) 0 claimed from start) owner m p t u r (k claimed h) i)
 
 -- its chain of n pages was claimed, with the totals c before, the table t before and u after it
-pub record Claimed (g : Geometry) (v : View) (test : Test) (owner from start n : ℕ) (c : Totals) (t u : List ℕ) : Type 0 where
+pub record Claimed (g : Geometry) (v : View) (test : Test) (owner from start n : ℕ) (c : Totals) (t u : List OwnerRecord) : Type 0 where
   pub bytes : ℕ
   pub answer : Claim
   pub claims : Claims g v test owner from start t answer u
@@ -43,11 +43,11 @@ pub record Claimed (g : Geometry) (v : View) (test : Test) (owner from start n :
   pub long : length t ≡ g .pages
   pub ready : Ready g c owner t
 
-pub is-claimed : {g : Geometry} (v : View) (test : Test) {owner : ℕ} (from start : ℕ) {n b : ℕ} {c : Totals} {t : List ℕ} (u : List ℕ) {r : Claim} → Claims g v test owner from start t r u → r ≡ claim.Chain n b
+pub is-claimed : {g : Geometry} (v : View) (test : Test) {owner : ℕ} (from start : ℕ) {n b : ℕ} {c : Totals} {t : List OwnerRecord} (u : List OwnerRecord) {r : Claim} → Claims g v test owner from start t r u → r ≡ claim.Chain n b
     → length t ≡ g .pages → Ready g c owner t → Claimed g v test owner from start n c t u
 is-claimed v test from start {b = b} u {r} k i l a = record { bytes = b; answer = r; claims = k; is = i; long = l; ready = a }
 
-module _ {g : Geometry} {v : View} {test : Test} {owner from start n : ℕ} {c : Totals} {t u : List ℕ} (C : Claimed g v test owner from start n c t u) where
+module _ {g : Geometry} {v : View} {test : Test} {owner from start n : ℕ} {c : Totals} {t u : List OwnerRecord} (C : Claimed g v test owner from start n c t u) where
   open Claimed C using (bytes, answer, claims, is, long, ready)
 
   pub pages-few : inUse t + n ≤ g .pages
@@ -83,9 +83,9 @@ module _ {g : Geometry} {v : View} {test : Test} {owner from start n : ℕ} {c :
   claimed-known = let h = represents-taken t in (record { links = found (taken t) h .links; chain = stands (taken t) h }, is-good (taken t) h)
 
 -- in any views: its chain is read as a directory's
-module _ {g : Geometry} (vs : Views) {test : Test} {owner from start n : ℕ} {c : Totals} {t u : List ℕ} (C : Claimed g (vs .pages) test owner from start n c t u) where
+module _ {g : Geometry} (vs : Views) {test : Test} {owner from start n : ℕ} {c : Totals} {t u : List OwnerRecord} (C : Claimed g (vs .pages) test owner from start n c t u) where
   -- an answer for the entries of every such chain answers the directory
-  whole-directory : (levels name : ℕ) (x : Checked) (y : List ℕ)
+  whole-directory : (levels name : ℕ) (x : Checked) (y : List OwnerRecord)
       → ((others : List ℕ) (ls : List Link) → Represents u others → ChainAt g (vs .pages) start ls → Whole g vs levels name start (begun C) u others ls x y)
       → DirectoryWalked g vs levels test name start from owner c t x y
   whole-directory levels name x y z claimed h =
@@ -93,10 +93,10 @@ module _ {g : Geometry} (vs : Views) {test : Test} {owner from start n : ℕ} {c
       let ls = f .links in
       let all = pages ls ++ claimed in
       directory-rest g vs levels test (here g vs levels name start) claimed from ls owner n c t (f .chain-is) (f .pages-are) (λ x. simp count-append (is-chain C claimed h .clear x)) x y
-      (subst (λ (q : List ℕ). Whole g vs levels name start (begun C) q all ls x y) (f .table-is)
-      (z all ls (subst (λ (q : List ℕ). Represents q all) (sym (f .table-is)) (owned C claimed h)) (stands C claimed h)))
+      (subst (λ (q : List OwnerRecord). Whole g vs levels name start (begun C) q all ls x y) (f .table-is)
+      (z all ls (subst (λ (q : List OwnerRecord). Represents q all) (sym (f .table-is)) (owned C claimed h)) (stands C claimed h)))
 
-  pub whole-done : (levels name : ℕ) (d : Totals) (y : List ℕ)
+  pub whole-done : (levels name : ℕ) (d : Totals) (y : List OwnerRecord)
       → ((others : List ℕ) (ls : List Link) → Represents u others → ChainAt g (vs .pages) start ls → Whole g vs levels name start (begun C) u others ls (w.Done d) y)
       → DirectoryWalked g vs levels test name start from owner c t (w.Done d) y
   whole-done levels name d y = whole-directory levels name (w.Done d) y

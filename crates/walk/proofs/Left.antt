@@ -30,6 +30,7 @@ use Rattle.entries.proofs.TokenLaws.{tokenKeys, token-keys, keys-pages}
 use Rattle.entries.proofs.Stepping.{ReadAhead, read-ahead}
 use Rattle.rules.specs.declared.Checked.{Checked}
 use Rattle.rules.specs.declared.Checked.the-variants as w
+use Rattle.rules.specs.Owners.{OwnerRecord}
 use Rattle.walk.specs.Walks.{Good, Answers, plusPart, ownPart, Met, EntryWalked}
 use Rattle.walk.proofs.Steps.{represents-part, good-part, Rest, rest-end, rest-page, rest-pages, rest-refused, rest-entry}
 
@@ -38,15 +39,15 @@ module _ (g : Geometry) (vs : Views) (levels name start : ℕ) where
   abbrev pub here : Parent
   here = record { name = name; start = start }
 
-  abbrev pub LeftOver : List ℕ → ℕ → List ℕ → List Token → Totals → List ℕ → Checked → List ℕ → Type 0
+  abbrev pub LeftOver : List ℕ → ℕ → List ℕ → List Token → Totals → List OwnerRecord → Checked → List OwnerRecord → Type 0
   LeftOver = Rest g vs (judgeSub g vs (suc (g .pages)) levels) here
 
   -- all entries of a chain, whose walk begins with these totals, this table and these pages claimed
-  abbrev pub Whole : Totals → List ℕ → List ℕ → List Link → Checked → List ℕ → Type 0
+  abbrev pub Whole : Totals → List OwnerRecord → List ℕ → List Link → Checked → List OwnerRecord → Type 0
   Whole c t claimed ls = LeftOver claimed start [] (linkTokens g (controlSize g) ls) c t
 
   -- after m entries of the chain ls₀
-  pub record Left (c₀ : Totals) (t₀ claimed₀ : List ℕ) (ls₀ : List Link) (t : List ℕ) (c : Totals) (s : Slot) (m : ℕ) : Type 0 where
+  pub record Left (c₀ : Totals) (t₀ : List OwnerRecord) (claimed₀ : List ℕ) (ls₀ : List Link) (t : List OwnerRecord) (c : Totals) (s : Slot) (m : ℕ) : Type 0 where
     pub chain : ChainAt g (vs .pages) start ls₀
     pub claimed : List ℕ
     pub seen : List ℕ
@@ -58,14 +59,15 @@ module _ (g : Geometry) (vs : Views) (levels name start : ℕ) where
     pub keys-are : chainKeys g (controlSize g) ls₀ ≡ before ++ tokenKeys ts
     pub met : length before ≡ m
     pub same : (k : ℕ) → count k seen ≡ count k before
-    pub finish : (r : Checked) (u : List ℕ) → LeftOver claimed (s .page) seen ts c t r u → Whole c₀ t₀ claimed₀ ls₀ r u
+    pub finish : (r : Checked) (u : List OwnerRecord) → LeftOver claimed (s .page) seen ts c t r u → Whole c₀ t₀ claimed₀ ls₀ r u
 
-same-left : {g : Geometry} {vs : Views} {levels name start : ℕ} {c₀ : Totals} {t₀ claimed₀ : List ℕ} {ls₀ : List Link} {t t′ : List ℕ} {c c′ : Totals} {s s′ : Slot} {m m′ : ℕ} → t ≡ t′ → c ≡ c′ → s ≡ s′ → m ≡ m′
+same-left : {g : Geometry} {vs : Views} {levels name start : ℕ} {c₀ : Totals} {t₀ : List OwnerRecord} {claimed₀ : List ℕ} {ls₀ : List Link} {t t′ : List OwnerRecord} {c c′ : Totals} {s s′ : Slot} {m m′ : ℕ}
+    → t ≡ t′ → c ≡ c′ → s ≡ s′ → m ≡ m′
     → Left g vs levels name start c₀ t₀ claimed₀ ls₀ t′ c′ s′ m′ → Left g vs levels name start c₀ t₀ claimed₀ ls₀ t c s m
 same-left p q r h L = rw (p, q, r, h) L
 
 -- the first page
-pub left-first : {g : Geometry} {vs : Views} (levels name start : ℕ) {c : Totals} {t claimed : List ℕ} {ls : List Link} {s : Slot} (n : ℕ)
+pub left-first : {g : Geometry} {vs : Views} (levels name start : ℕ) {c : Totals} {t : List OwnerRecord} {claimed : List ℕ} {ls : List Link} {s : Slot} (n : ℕ)
     → Begins g (vs .pages) start s → ChainAt g (vs .pages) start ls → 0 ≡ n → Represents t claimed → Good g c t → Left g vs levels name start c t claimed ls t c s n
 left-first {g} {vs} levels name start {c} {t} {claimed} {ls} {s} n b d z r h =
     let p = b ls d in
@@ -85,7 +87,7 @@ left-first {g} {vs} levels name start {c} {t} {claimed} {ls} {s} n b d z r h =
           (rest-page g vs (judgeSub g vs (suc (g .pages)) levels) (here g vs levels name start) claimed start [] (s .page) (p .later) c t x u a);
     }
 
-module _ {g : Geometry} {vs : Views} {levels name start : ℕ} {c₀ : Totals} {t₀ claimed₀ : List ℕ} {ls₀ : List Link} {t : List ℕ} {c : Totals} {s : Slot} {m : ℕ}
+module _ {g : Geometry} {vs : Views} {levels name start : ℕ} {c₀ : Totals} {t₀ : List OwnerRecord} {claimed₀ : List ℕ} {ls₀ : List Link} {t : List OwnerRecord} {c : Totals} {s : Slot} {m : ℕ}
     (L : Left g vs levels name start c₀ t₀ claimed₀ ls₀ t c s m) where
   open Left L using (chain, claimed, seen, before, ts, represents, good-totals, ahead, keys-are, met, same, finish)
 
@@ -130,14 +132,14 @@ module _ {g : Geometry} {vs : Views} {levels name start : ℕ} {c₀ : Totals} {
     pub one-left : m < length (chainKeys g (controlSize g) ls₀)
     one-left = omega (arith, all-keys, ap length keys-read)
 
-    on-tokens : (r : Checked) (u : List ℕ) → LeftOver g vs levels name start claimed (at .page) seen (entry e ∷ read .later) c t r u → Whole g vs levels name start c₀ t₀ claimed₀ ls₀ r u
+    on-tokens : (r : Checked) (u : List OwnerRecord) → LeftOver g vs levels name start claimed (at .page) seen (entry e ∷ read .later) c t r u → Whole g vs levels name start c₀ t₀ claimed₀ ls₀ r u
     on-tokens r u z =
         let later = entry e ∷ read .later in
         finish r u (subst (λ (x : List Token). LeftOver g vs levels name start claimed (s .page) seen x c t r u) (sym (read .split))
         (rest-pages g vs sub dir claimed (s .page) seen (read .pages) later c t r u
         (subst (λ (p : ℕ). LeftOver g vs levels name start claimed p seen later c t r u) (read .page-is) z)))
 
-    module _ (r : Checked) (u : List ℕ) (z : EntryWalked g vs levels name start (at .page) m e c t r u) where
+    module _ (r : Checked) (u : List OwnerRecord) (z : EntryWalked g vs levels name start (at .page) m e c t r u) where
       abbrev rule : Res Part
       rule = judgeEntry g vs (suc (g .pages)) sub dir claimed (at .page) seen e
 
@@ -174,13 +176,13 @@ module _ {g : Geometry} {vs : Views} {levels name start : ℕ} {c₀ : Totals} {
         left-entry d o s′ n y h = let a = answered (w.Done d) o in same-left (a .3) (a .2) y (sym h) (entered (a .0) (a .1))
 
 -- for the code's own needs: one list of claimed pages and one chain
-pub witness : {g : Geometry} {vs : Views} {levels name start : ℕ} {c₀ : Totals} {t₀ t : List ℕ} {c : Totals} {s : Slot} {m : ℕ} (k : KnownChain g (vs .pages) start)
+pub witness : {g : Geometry} {vs : Views} {levels name start : ℕ} {c₀ : Totals} {t₀ t : List OwnerRecord} {c : Totals} {s : Slot} {m : ℕ} (k : KnownChain g (vs .pages) start)
     → ((claimed : List ℕ) (ls : List Link) → Represents t₀ claimed → ChainAt g (vs .pages) start ls → Left g vs levels name start c₀ t₀ claimed ls t c s m)
     → Left g vs levels name start c₀ t₀ (taken t₀) (k .links) t c s m
 witness {t₀ = t₀} k f = f (taken t₀) (k .links) (represents-taken t₀) (k .chain)
 
 -- where there is a next entry, one of those to be counted is to go
-pub some-to-go : {g : Geometry} {vs : Views} {levels name start : ℕ} {c₀ : Totals} {t₀ t : List ℕ} {c : Totals} {s : Slot} (count left : ℕ) → CountsEntries g (vs .pages) start count → (k : KnownChain g (vs .pages) start)
+pub some-to-go : {g : Geometry} {vs : Views} {levels name start : ℕ} {c₀ : Totals} {t₀ t : List OwnerRecord} {c : Totals} {s : Slot} (count left : ℕ) → CountsEntries g (vs .pages) start count → (k : KnownChain g (vs .pages) start)
     → ((claimed : List ℕ) (ls : List Link) → Represents t₀ claimed → ChainAt g (vs .pages) start ls → Left g vs levels name start c₀ t₀ claimed ls t c s (count - left))
     → {at : Slot} {e : Entry} → NextEntry g (vs .pages) s at → IsEntry g (vs .pages) at e → left ≤ count → 0 < left
 some-to-go count left n k f a i h = omega (arith, one-left (witness k f) a i, n (k .links) (k .chain))

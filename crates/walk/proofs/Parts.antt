@@ -22,7 +22,7 @@ use Rattle.rules.specs.PageSetLaws.{count-append, within-length}
 use Rattle.rules.specs.Chain.{Views, Link, pages, content, Test, anyPage, walk}
 use Rattle.rules.specs.ChainLaws.{length-pages, walk-sound}
 use Rattle.rules.specs.Names.{key, directoryNumber}
-use Rattle.rules.specs.Owners.{own}
+use Rattle.rules.specs.Owners.{OwnerRecord, own}
 use Rattle.owners.specs.OwnerLaws.{inUse, inUse-le, taken, represents-taken, represents-within}
 use Rattle.rules.specs.Check.{Part, chain, directory, judgeLabel, judgeFile, judgeEntry, judgeDirectory, judgeSub}
 use Rattle.rules.specs.Control.{Parent, subPage}
@@ -99,7 +99,7 @@ unfolding testOf
 test-file g = refl
 
 -- totals and owners' numbers fit
-module _ (g : Geometry) (c : Totals) (t : List ℕ) (h : Good g c t) (l : length t ≡ g .pages) (f : g .pages ≤ 65535) where
+module _ (g : Geometry) (c : Totals) (t : List OwnerRecord) (h : Good g c t) (l : length t ≡ g .pages) (f : g .pages ≤ 65535) where
   pub totals-fit : (c .files + c .directories < c .used) × (c .used ≤ 65535)
   totals-fit = (h .below, omega (arith, h .used-is, inUse-le t))
 
@@ -114,23 +114,23 @@ module _ (g : Geometry) (c : Totals) (t : List ℕ) (h : Good g c t) (l : length
   below-ready = record { used-is = h .used-is; below = omega (arith, h .below); spare = λ i. omega (arith, h .spare i); some = omega arith; few = owner-fits }
 
 -- a chain that was claimed
-pub record IsClaimed (walked : Res (List Link)) (owner n b : ℕ) (t u : List ℕ) : Type 0 where
+pub record IsClaimed (walked : Res (List Link)) (owner n b : ℕ) (t u : List OwnerRecord) : Type 0 where
   pub links : List Link
   pub chain-is : walked ≡ ok links
   pub pages-are : n ≡ length links
   pub bytes-are : b ≡ length (content links)
   pub table-is : u ≡ own owner (pages links) t
 
-pub claimed-chain : (walked : Res (List Link)) (owner n b : ℕ) (t u : List ℕ) (r : Claim) → Agrees 0 0 owner t walked r u → r ≡ claim.Chain n b → IsClaimed walked owner n b t u
+pub claimed-chain : (walked : Res (List Link)) (owner n b : ℕ) (t u : List OwnerRecord) (r : Claim) → Agrees 0 0 owner t walked r u → r ≡ claim.Chain n b → IsClaimed walked owner n b t u
 claimed-chain walked owner n b t u r k i =
     let a : Agrees 0 0 owner t walked (claim.Chain n b) u = subst (λ (x : Claim). Agrees 0 0 owner t walked x u) i k in
     record { links = a .0; chain-is = a .1; pages-are = omega (arith, a .2); bytes-are = omega (arith, a .3); table-is = a .4 }
 
-pub claim-refused : (walked : Res (List Link)) (owner n p : ℕ) (t u : List ℕ) (r : Claim) → Agrees 0 0 owner t walked r u → r ≡ claim.Refused n p → walked ≡ err n p
+pub claim-refused : (walked : Res (List Link)) (owner n p : ℕ) (t u : List OwnerRecord) (r : Claim) → Agrees 0 0 owner t walked r u → r ≡ claim.Refused n p → walked ≡ err n p
 claim-refused walked owner n p t u r k i = subst (λ (x : Claim). Agrees 0 0 owner t walked x u) i k
 
 -- its pages are no more than there are
-pub claim-few : (g : Geometry) (v : View) (test : Test) (owner from start n b : ℕ) (t u : List ℕ) (r : Claim) → Claims g v test owner from start t r u → r ≡ claim.Chain n b → length t ≡ g .pages
+pub claim-few : (g : Geometry) (v : View) (test : Test) (owner from start n b : ℕ) (t u : List OwnerRecord) (r : Claim) → Claims g v test owner from start t r u → r ≡ claim.Chain n b → length t ≡ g .pages
     → (1 ≤ n) × (inUse t + n ≤ g .pages)
 claim-few g v test owner from start n b t u r k i l =
     let cl = taken t in
@@ -153,7 +153,7 @@ module _ (g : Geometry) (vs : Views) (claimed : List ℕ) (p : ℕ) (e : Entry) 
     unfolding judgeFile
     file-step = simp (lt-ltb 0 (e .start) (omega arith), refuse-true, then-ok, test-file g)
 
-    module _ (owner : ℕ) (t u : List ℕ) (r : Claim) (k : Agrees 0 0 owner t walked r u) where
+    module _ (owner : ℕ) (t u : List OwnerRecord) (r : Claim) (k : Agrees 0 0 owner t walked r u) where
       pub file-refused : (n q : ℕ) → r ≡ claim.Refused n q → judgeFile g vs (suc (g .pages)) claimed p e ≡ err n q
       file-refused n q i = simp (file-step, claim-refused walked owner n q t u r k i, then-err)
 
@@ -211,7 +211,8 @@ module _ (g : Geometry) (vs : Views) (levels name start : ℕ) (claimed : List �
       entry-file : directoryNumber (e .extension) ≡ false → entryOf ≡ judgeFile g vs (suc (g .pages)) claimed p e
       entry-file n = entry-kind ∙ ap (λ (b : Bool). choose b (andThen (judgeSub g vs (suc (g .pages)) levels here claimed p e) (λ d. ok (directory d))) (judgeFile g vs (suc (g .pages)) claimed p e)) n ∙ choose-false _ _
 
-      pub file-entry : directoryNumber (e .extension) ≡ false → (c : Totals) (t : List ℕ) (r : Checked) (u : List ℕ) → Answers (plusPart c) (ownPart (c .files + c .directories) t) (judgeFile g vs (suc (g .pages)) claimed p e) r u
+      pub file-entry : directoryNumber (e .extension) ≡ false → (c : Totals) (t : List OwnerRecord) (r : Checked) (u : List OwnerRecord)
+          → Answers (plusPart c) (ownPart (c .files + c .directories) t) (judgeFile g vs (suc (g .pages)) claimed p e) r u
           → Answers (plusPart c) (ownPart (c .files + c .directories) t) entryOf r u
       file-entry n c t r u a = subst (λ (x : Res Part). Answers (plusPart c) (ownPart (c .files + c .directories) t) x r u) (sym (entry-file n)) a
 
@@ -223,7 +224,7 @@ module _ (g : Geometry) (vs : Views) (levels name start : ℕ) (claimed : List �
         entry-below n = simp (entry-sub, sub-step g vs here claimed p e levels, b, fault-err k p n, then-err)
 
         -- a subdirectory, with its entry counted
-        pub entry-directory : k ≡ 0 → (c : Totals) (owner : ℕ) (t : List ℕ) → owner ≡ 3 + (c .files + c .directories) → (r : Checked) (u : List ℕ)
+        pub entry-directory : k ≡ 0 → (c : Totals) (owner : ℕ) (t : List OwnerRecord) → owner ≡ 3 + (c .files + c .directories) → (r : Checked) (u : List OwnerRecord)
             → Answers (plusDirectory (record { used = c .used; files = c .files; directories = c .directories + 1 })) (ownDirectory owner (c .files + (c .directories + 1)) t)
             (judgeDirectory g vs (suc (g .pages)) (judgeSub g vs (suc (g .pages)) (levels - 1)) (testOf g (kind.Sub name start)) (record { name = e .name; start = e .start }) claimed p) r u
             → Answers (plusPart c) (ownPart (c .files + c .directories) t) entryOf r u

@@ -18,7 +18,7 @@ use Rattle.rules.specs.Names.{key}
 use Rattle.rules.specs.Tree.{Items, end, page, Token, newPage, entry, linkTokens, ownPages, innerPages, allPages}
 use Rattle.rules.specs.TreeLaws.{pageTokens, lastPage}
 use Rattle.rules.specs.Control.{Parent}
-use Rattle.rules.specs.Owners.{fileCount, directoryCount, own, ownEntries}
+use Rattle.rules.specs.Owners.{OwnerRecord, fileCount, directoryCount, own, ownEntries}
 use Rattle.owners.specs.Owned.{Represents}
 use Rattle.owners.specs.OwnerLaws.{represents-own, represents-entries, represents-length, length-own}
 use Rattle.rules.specs.Check.{Part, chain, directory, partPages, add, Judge, judgeEntry, judgeEntries, judgeDirectory, judgeSub}
@@ -28,7 +28,7 @@ use Rattle.rules.specs.declared.Checked.the-variants as w
 use Rattle.walk.specs.Walks.{Good, Ready, Answers, plusEntries, plusDirectory, plusPart, ownDirectory, ownPart}
 
 -- ---- the table and the totals after one entry
-pub represents-directory : (owner k : ℕ) (d : Items) (t claimed : List ℕ) → 0 < owner → Represents t claimed
+pub represents-directory : (owner k : ℕ) (d : Items) (t : List OwnerRecord) (claimed : List ℕ) → 0 < owner → Represents t claimed
     → ((z : ℕ) → count z (allPages d) + count z claimed ≤ count z (range (length t))) → Represents (ownDirectory owner k t d) (allPages d ++ claimed)
 represents-directory owner k d t claimed p h c =
     let c′ : (z : ℕ) → count z (ownPages d) + count z (innerPages d) + count z claimed ≤ count z (range (length t)) = λ z. simp count-append at (c z) in
@@ -37,7 +37,7 @@ represents-directory owner k d t claimed p h c =
     let r = represents-entries k d (own owner (ownPages d) t) (ownPages d ++ claimed) a (λ z. rw n (simp count-append (omega (arith, c′ z)))) in
     λ z. simp count-append (omega (arith, simp count-append at (r z)))
 
-pub represents-part : (k : ℕ) (x : Part) (t claimed : List ℕ) → Represents t claimed → ((z : ℕ) → count z (partPages x) + count z claimed ≤ count z (range (length t)))
+pub represents-part : (k : ℕ) (x : Part) (t : List OwnerRecord) (claimed : List ℕ) → Represents t claimed → ((z : ℕ) → count z (partPages x) + count z claimed ≤ count z (range (length t)))
     → Represents (ownPart k t x) (partPages x ++ claimed)
 represents-part k (chain ls) t claimed h c = represents-own (3 + k) (pages ls) t claimed (omega arith) h c
 represents-part k (directory d) t claimed h c = represents-directory (3 + k) (suc k) d t claimed (omega arith) h c
@@ -50,7 +50,7 @@ count-part : (c : Totals) (x : Part) → plusPart c x .files + plusPart c x .dir
 count-part c (chain ls) = omega arith
 count-part c (directory d) = omega arith
 
-pub good-part : (g : Geometry) (c : Totals) (x : Part) (t claimed : List ℕ) → Good g c t → Represents t claimed → length t ≡ g .pages → PartClear g claimed x
+pub good-part : (g : Geometry) (c : Totals) (x : Part) (t : List OwnerRecord) (claimed : List ℕ) → Good g c t → Represents t claimed → length t ≡ g .pages → PartClear g claimed x
     → Good g (plusPart c x) (ownPart (c .files + c .directories) t x)
 good-part g c x t claimed h r l k =
     let p = represents-part (c .files + c .directories) x t claimed r (λ z. rw l (k .clear z)) in
@@ -65,7 +65,7 @@ good-part g c x t claimed h r l k =
     }
 
 -- and after a directory's chain
-pub good-chain : (g : Geometry) (c : Totals) (owner n : ℕ) (t claimed : List ℕ) (ls : List Link) → Ready g c owner t → Represents t claimed → 0 < length ls → n ≡ length ls
+pub good-chain : (g : Geometry) (c : Totals) (owner n : ℕ) (t : List OwnerRecord) (claimed : List ℕ) (ls : List Link) → Ready g c owner t → Represents t claimed → 0 < length ls → n ≡ length ls
     → Represents (own owner (pages ls) t) (pages ls ++ claimed) → Good g (record { used = c .used + n; files = c .files; directories = c .directories }) (own owner (pages ls) t)
 good-chain g c owner n t claimed ls h r s e p =
     let i = represents-length (own owner (pages ls) t) (pages ls ++ claimed) p in
@@ -84,7 +84,7 @@ totals-add : (c : Totals) (e : Entry) (x : Part) (t : Items) → plusEntries (pl
 totals-add c e (chain ls) t = same-totals _ _ _ _ _ _ (omega (arith, length-append (pages ls) (innerPages t), length-pages ls)) (omega arith) (omega arith)
 totals-add c e (directory d) t = same-totals _ _ _ _ _ _ (omega (arith, length-append (ownPages d) (innerPages d ++ innerPages t), length-append (innerPages d) (innerPages t))) (omega arith) (omega arith)
 
-table-add : (c : Totals) (e : Entry) (x : Part) (t : Items) (table : List ℕ)
+table-add : (c : Totals) (e : Entry) (x : Part) (t : Items) (table : List OwnerRecord)
     → ownEntries (plusPart c x .files + plusPart c x .directories) t (ownPart (c .files + c .directories) table x) ≡ ownEntries (c .files + c .directories) (add e x t) table
 table-add c e (chain ls) t table = let q : c .files + 1 + c .directories ≡ suc (c .files + c .directories) = omega arith in rw q refl
 table-add c e (directory d) t table =
@@ -93,35 +93,35 @@ table-add c e (directory d) t table =
 
 module _ (g : Geometry) (vs : Views) (sub : Judge) (here : Parent) where
   -- the answer for the entries from here on, with the totals and the table so far
-  abbrev pub Rest : List ℕ → ℕ → List ℕ → List Token → Totals → List ℕ → Checked → List ℕ → Type 0
+  abbrev pub Rest : List ℕ → ℕ → List ℕ → List Token → Totals → List OwnerRecord → Checked → List OwnerRecord → Type 0
   Rest claimed p seen ts c t r u = Answers (plusEntries c) (λ i. ownEntries (c .files + c .directories) i t) (judgeEntries g vs (suc (g .pages)) sub here claimed p seen ts) r u
 
   module _ (claimed : List ℕ) (p : ℕ) (seen : List ℕ) where
     -- no entry is left
-    pub rest-end : (c : Totals) (t : List ℕ) → Rest claimed p seen [] c t (w.Done c) t
+    pub rest-end : (c : Totals) (t : List OwnerRecord) → Rest claimed p seen [] c t (w.Done c) t
     unfolding judgeEntries
     rest-end c t = (end, refl, same-totals _ _ _ _ _ _ (omega arith) (omega arith) (omega arith), refl)
 
     -- a page begins
-    pub rest-page : (q : ℕ) (ts : List Token) (c : Totals) (t : List ℕ) (r : Checked) (u : List ℕ) → Rest claimed q seen ts c t r u → Rest claimed p seen (newPage q ∷ ts) c t r u
+    pub rest-page : (q : ℕ) (ts : List Token) (c : Totals) (t : List OwnerRecord) (r : Checked) (u : List OwnerRecord) → Rest claimed q seen ts c t r u → Rest claimed p seen (newPage q ∷ ts) c t r u
     unfolding judgeEntries
     rest-page q ts c t (w.Done d) u (i, a, b, k) = (page q i, simp (a, then-ok), b, k)
     rest-page q ts c t (w.Refused n f) u a = simp (a, then-err)
 
-    module _ (e : Entry) (ts : List Token) (c : Totals) (t : List ℕ) where
-      pub rest-refused : (n f : ℕ) (u : List ℕ) → judgeEntry g vs (suc (g .pages)) sub here claimed p seen e ≡ err n f → Rest claimed p seen (entry e ∷ ts) c t (w.Refused n f) u
+    module _ (e : Entry) (ts : List Token) (c : Totals) (t : List OwnerRecord) where
+      pub rest-refused : (n f : ℕ) (u : List OwnerRecord) → judgeEntry g vs (suc (g .pages)) sub here claimed p seen e ≡ err n f → Rest claimed p seen (entry e ∷ ts) c t (w.Refused n f) u
       unfolding judgeEntries
       rest-refused n f u a = simp (a, then-err)
 
       -- an entry done
-      pub rest-entry : (x : Part) → judgeEntry g vs (suc (g .pages)) sub here claimed p seen e ≡ ok x → (r : Checked) (u : List ℕ)
+      pub rest-entry : (x : Part) → judgeEntry g vs (suc (g .pages)) sub here claimed p seen e ≡ ok x → (r : Checked) (u : List OwnerRecord)
           → Rest (partPages x ++ claimed) p (key (e .name) (e .extension) ∷ seen) ts (plusPart c x) (ownPart (c .files + c .directories) t x) r u → Rest claimed p seen (entry e ∷ ts) c t r u
       unfolding judgeEntries
       rest-entry x q (w.Done d) u (i, a, b, k) = (add e x i, simp (q, then-ok, a), b ∙ totals-add c e x i, k ∙ table-add c e x i t)
       rest-entry x q (w.Refused n f) u a = simp (q, then-ok, a, then-err)
 
   -- pages without entries
-  pub rest-pages : (claimed : List ℕ) (p : ℕ) (seen ps : List ℕ) (ts : List Token) (c : Totals) (t : List ℕ) (r : Checked) (u : List ℕ) → Rest claimed (lastPage p ps) seen ts c t r u
+  pub rest-pages : (claimed : List ℕ) (p : ℕ) (seen ps : List ℕ) (ts : List Token) (c : Totals) (t : List OwnerRecord) (r : Checked) (u : List OwnerRecord) → Rest claimed (lastPage p ps) seen ts c t r u
       → Rest claimed p seen (pageTokens ps ++ ts) c t r u
   rest-pages claimed p seen [] ts c t r u a = a
   rest-pages claimed p seen (q ∷ ps) ts c t r u a = rest-page claimed p seen q (pageTokens ps ++ ts) c t r u (rest-pages claimed q seen ps ts c t r u a)
@@ -132,8 +132,8 @@ module _ (g : Geometry) (vs : Views) (levels : ℕ) (test : Test) (here : Parent
   unfolding judgeDirectory
   directory-refused n p e = simp (e, then-err)
 
-  pub directory-rest : (ls : List Link) (owner n : ℕ) (c : Totals) (t : List ℕ) → walk (g .pages) (vs .pages) test (suc (g .pages)) 0 claimed from (here .start) ≡ ok ls → n ≡ length ls → Within (g .pages) (pages ls ++ claimed)
-      → (r : Checked) (u : List ℕ)
+  pub directory-rest : (ls : List Link) (owner n : ℕ) (c : Totals) (t : List OwnerRecord) → walk (g .pages) (vs .pages) test (suc (g .pages)) 0 claimed from (here .start) ≡ ok ls → n ≡ length ls → Within (g .pages) (pages ls ++ claimed)
+      → (r : Checked) (u : List OwnerRecord)
       → Rest g vs (judgeSub g vs (suc (g .pages)) levels) here (pages ls ++ claimed) (here .start) [] (linkTokens g (controlSize g) ls)
       (record { used = c .used + n; files = c .files; directories = c .directories }) (own owner (pages ls) t) r u
       → Answers (plusDirectory c) (ownDirectory owner (c .files + c .directories) t) (judgeDirectory g vs (suc (g .pages)) (judgeSub g vs (suc (g .pages)) levels) test here claimed from) r u

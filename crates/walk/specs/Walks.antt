@@ -15,7 +15,7 @@ use Rattle.rules.specs.PageSets.{mem}
 use Rattle.rules.specs.Chain.{Views, Link, pages, Test}
 use Rattle.rules.specs.Names.{key}
 use Rattle.rules.specs.Tree.{Items, ownPages, innerPages}
-use Rattle.rules.specs.Owners.{fileCount, directoryCount, own, ownEntries}
+use Rattle.rules.specs.Owners.{OwnerRecord, fileCount, directoryCount, own, ownEntries}
 use Rattle.owners.specs.Owned.{Represents}
 use Rattle.owners.specs.OwnerLaws.{inUse}
 use Rattle.rules.specs.Check.{Part, chain, directory, judgeLabel, judgeFile, judgeEntry, judgeDirectory, judgeSub}
@@ -27,13 +27,13 @@ use Rattle.rules.specs.declared.Checked.the-variants as w
 use Rattle.chain.specs.KnownChain.{ChainAt}
 
 -- the totals inside a directory whose chain is claimed: each entry and the directory itself have a page, and so has a bitmap file, which many pages need
-pub record Good (g : Geometry) (c : Totals) (table : List ℕ) : Type 0 where
+pub record Good (g : Geometry) (c : Totals) (table : List OwnerRecord) : Type 0 where
   pub used-is : c .used ≡ inUse table
   pub below : c .files + c .directories < c .used
   pub spare : 65532 < g .pages → c .files + c .directories + 1 < c .used
 
 -- and before its chain is claimed, for an owner's number that fits
-pub record Ready (g : Geometry) (c : Totals) (owner : ℕ) (table : List ℕ) : Type 0 where
+pub record Ready (g : Geometry) (c : Totals) (owner : ℕ) (table : List OwnerRecord) : Type 0 where
   pub used-is : c .used ≡ inUse table
   pub below : c .files + c .directories ≤ c .used
   pub spare : 65532 < g .pages → c .files + c .directories + 1 ≤ c .used
@@ -47,7 +47,7 @@ pub record Remaining (parent : Directory) (left : ℕ) : Type 0 where
   pub few : parent .count < 16777216
 
 -- the answer r with the table u is the rule's answer, with the totals and the table that follow from what the rule gives
-abbrev pub Answers : {A : Type 0} → (A → Totals) → (A → List ℕ) → Res A → Checked → List ℕ → Type 0
+abbrev pub Answers : {A : Type 0} → (A → Totals) → (A → List OwnerRecord) → Res A → Checked → List OwnerRecord → Type 0
 Answers {A = A} f h rule (w.Done d) u = (a : A) × (rule ≡ ok a) × (d ≡ f a) × (u ≡ h a)
 Answers f h rule (w.Refused n p) u = rule ≡ err n p
 
@@ -63,10 +63,10 @@ plusPart c (chain ls) = record { used = c .used + length ls; files = c .files + 
 plusPart c (directory d) = plusDirectory (record { used = c .used; files = c .files; directories = c .directories + 1 }) d
 
 -- the table after them; k entries come before
-abbrev pub ownDirectory : ℕ → ℕ → List ℕ → Items → List ℕ
+abbrev pub ownDirectory : ℕ → ℕ → List OwnerRecord → Items → List OwnerRecord
 ownDirectory owner k table t = ownEntries k t (own owner (ownPages t) table)
 
-abbrev pub ownPart : ℕ → List ℕ → Part → List ℕ
+abbrev pub ownPart : ℕ → List OwnerRecord → Part → List OwnerRecord
 ownPart k table (chain ls) = own (3 + k) (pages ls) table
 ownPart k table (directory d) = ownDirectory (3 + k) (suc k) table d
 
@@ -94,13 +94,13 @@ EntryFault g v start m e r = (seen : List ℕ) → Met g v start m (key (e .name
 abbrev pub BelowFault : ℕ → Entry → ℕ → Type 0
 BelowFault levels e r = (p : ℕ) → judgeBelow levels p e ≡ faultAt r p
 
-abbrev pub FileWalked : Geometry → Views → ℕ → Entry → Totals → List ℕ → Checked → List ℕ → Type 0
+abbrev pub FileWalked : Geometry → Views → ℕ → Entry → Totals → List OwnerRecord → Checked → List OwnerRecord → Type 0
 FileWalked g vs page e c t r u = (claimed : List ℕ) → Represents t claimed → Answers (plusPart c) (ownPart (c .files + c .directories) t) (judgeFile g vs (suc (g .pages)) claimed page e) r u
 
-abbrev pub EntryWalked : Geometry → Views → ℕ → ℕ → ℕ → ℕ → ℕ → Entry → Totals → List ℕ → Checked → List ℕ → Type 0
+abbrev pub EntryWalked : Geometry → Views → ℕ → ℕ → ℕ → ℕ → ℕ → Entry → Totals → List OwnerRecord → Checked → List OwnerRecord → Type 0
 EntryWalked g vs levels name start page m e c t r u = (claimed seen : List ℕ) → Represents t claimed → Met g (vs .pages) start m (key (e .name) (e .extension)) seen
     → Answers (plusPart c) (ownPart (c .files + c .directories) t) (judgeEntry g vs (suc (g .pages)) (judgeSub g vs (suc (g .pages)) levels) (record { name = name; start = start }) claimed page seen e) r u
 
-abbrev pub DirectoryWalked : Geometry → Views → ℕ → Test → ℕ → ℕ → ℕ → ℕ → Totals → List ℕ → Checked → List ℕ → Type 0
+abbrev pub DirectoryWalked : Geometry → Views → ℕ → Test → ℕ → ℕ → ℕ → ℕ → Totals → List OwnerRecord → Checked → List OwnerRecord → Type 0
 DirectoryWalked g vs levels test name start from owner c t r u = (claimed : List ℕ) → Represents t claimed
     → Answers (plusDirectory c) (ownDirectory owner (c .files + c .directories) t) (judgeDirectory g vs (suc (g .pages)) (judgeSub g vs (suc (g .pages)) levels) test (record { name = name; start = start }) claimed from) r u

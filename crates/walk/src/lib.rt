@@ -10,8 +10,9 @@ use rules::Checked;
 use rules::Entry;
 use rules::Totals;
 ghost use mathlib.Core.Path.{_≡_};
-ghost use Prim.Native.Nat.{_+_, _-_, _<_};
+ghost use Prim.Native.Nat.{_+_, _-_, _*_, _<_};
 ghost use lib.ListN.{length};
+ghost use Rattle.owners.specs.Records.{recordsOf};
 ghost use Rattle.geometry.specs.Geometry.{Fit};
 ghost use Rattle.packet.specs.Packet.{viewOf};
 ghost use Rattle.rules.specs.Chain.{viewsOf};
@@ -65,11 +66,11 @@ fn walk_file(
     page: usize,
     e: Entry,
     totals: Totals,
-    table: &mut [u16],
+    table: &mut [u8],
 ) -> Checked
     requires { ⌜ Fit g (now image) ⌝ }
-    requires { ⌜ (length (now table) ≡ g .pages) × Good g totals (now table) ⌝ }
-    ensures { λ r. ⌜ FileWalked g (viewsOf g (now (image .entry))) page e totals (now (table .entry)) r (now (table .exit)) ⌝ }
+    requires { ⌜ (length (now table) ≡ 4 * g .pages) × Good g totals (recordsOf (now table)) ⌝ }
+    ensures { λ r. ⌜ FileWalked g (viewsOf g (now (image .entry))) page e totals (recordsOf (now (table .entry))) r (recordsOf (now (table .exit))) ⌝ }
 {
     if e.start == 0 {
         return Checked::Refused(6, page);
@@ -100,11 +101,11 @@ fn walk_entry(
     left: usize,
     e: Entry,
     totals: Totals,
-    table: &mut [u16],
+    table: &mut [u8],
 ) -> Checked
     requires { ⌜ Fit g (now image) ⌝ }
-    requires { ⌜ (length (now table) ≡ g .pages) × HasEntries g (viewOf g (now image)) (parent .start) (parent .count - left) × Good g totals (now table) × Remaining parent left ⌝ }
-    ensures { λ r. ⌜ EntryWalked g (viewsOf g (now (image .entry))) levels (parent .name) (parent .start) page (parent .count - left) e totals (now (table .entry)) r (now (table .exit)) ⌝ }
+    requires { ⌜ (length (now table) ≡ 4 * g .pages) × HasEntries g (viewOf g (now image)) (parent .start) (parent .count - left) × Good g totals (recordsOf (now table)) × Remaining parent left ⌝ }
+    ensures { λ r. ⌜ EntryWalked g (viewsOf g (now (image .entry))) levels (parent .name) (parent .start) page (parent .count - left) e totals (recordsOf (now (table .entry))) r (recordsOf (now (table .exit))) ⌝ }
 {
     let fault = entry_fault(image, g, parent.start, parent.count - left, e);
     if fault != 0 {
@@ -149,11 +150,11 @@ pub fn walk_directory(
     start: usize,
     owner: usize,
     totals: Totals,
-    table: &mut [u16],
+    table: &mut [u8],
 ) -> Checked
     requires { ⌜ Fit g (now image) ⌝ }
-    requires { ⌜ (length (now table) ≡ g .pages) × Ready g totals owner (now table) ⌝ }
-    ensures { λ r. ⌜ DirectoryWalked g (viewsOf g (now (image .entry))) levels (testOf g kind) name start from owner totals (now (table .entry)) r (now (table .exit)) ⌝ }
+    requires { ⌜ (length (now table) ≡ 4 * g .pages) × Ready g totals owner (recordsOf (now table)) ⌝ }
+    ensures { λ r. ⌜ DirectoryWalked g (viewsOf g (now (image .entry))) levels (testOf g kind) name start from owner totals (recordsOf (now (table .entry))) r (recordsOf (now (table .exit))) ⌝ }
 {
     match chain::claim_chain(image, g, kind, owner, from, start, table) {
         Claim::Refused(number, at) => Checked::Refused(number, at),

@@ -15,6 +15,7 @@ use Rattle.packet.specs.declared.Budget.{Budget}
 use Rattle.packet.specs.Budgets.{Progress, Open, Stopped, writeOne, writeAll}
 use Rattle.packet.specs.BudgetLaws.{one-stopped, stopped-all}
 use Rattle.rules.specs.Chain.{linked, chainOf, pagesFor}
+use Rattle.rules.specs.Owners.{OwnerRecord}
 use Rattle.owners.specs.Owned.{Represents}
 use Rattle.owners.specs.Free.{freeFrom, Next, found, none, NextFree}
 use Rattle.owners.specs.FreeLaws.{from-represents}
@@ -35,7 +36,7 @@ abbrev pub later : Geometry → List ℕ → ℕ → List ℕ → List ℕ
 later g used page rest = take ((length rest - 1) / dataCapacity g) (freeFrom used (page + 1) (g .pages))
 
 -- before a page is written: what is left of the bytes, from this page on, gives the whole
-pub record Storing (g : Geometry) (target : Progress) (table rest image : List ℕ) (budget : Budget) (page : ℕ) : Type 0 where
+pub record Storing (g : Geometry) (target : Progress) (table : List OwnerRecord) (rest image : List ℕ) (budget : Budget) (page : ℕ) : Type 0 where
   pub used : List ℕ
   pub represents : Represents table used
   pub below : page < g .pages
@@ -48,7 +49,7 @@ abbrev pub stored : Geometry → List ℕ → ℕ → List ℕ → List ℕ → 
 stored g used from bytes image budget = writeAll g (storeWrites g used from bytes) (record { image = image; budget = budget })
 
 -- ---- the first page
-pub store-first : (g : Geometry) (image table bytes : List ℕ) (budget : Budget) (from page : ℕ) → length table ≡ g .pages → HasRoom g table from (length bytes) → Open budget → NextFree table from page
+pub store-first : (g : Geometry) (image : List ℕ) (table : List OwnerRecord) (bytes : List ℕ) (budget : Budget) (from page : ℕ) → length table ≡ g .pages → HasRoom g table from (length bytes) → Open budget → NextFree table from page
     → (used : List ℕ) → Represents table used → Storing g (stored g used from bytes image budget) table bytes image budget page
 unfolding NextFree
 store-first g image table bytes budget from page sized room o next used r = go (subst (λ (N : ℕ). Next used from N page) sized (next used r))
@@ -71,7 +72,7 @@ store-first g image table bytes budget from page sized room o next used r = go (
     }
 
 -- ---- one page
-module _ {g : Geometry} {target : Progress} {table : List ℕ} (bytes : List ℕ) {image : List ℕ} {budget : Budget} {page : ℕ} (done : ℕ) {C : ℕ} (c : C ≡ dataCapacity g) (v : Valid g) (sized : length table ≡ g .pages)
+module _ {g : Geometry} {target : Progress} {table : List OwnerRecord} (bytes : List ℕ) {image : List ℕ} {budget : Budget} {page : ℕ} (done : ℕ) {C : ℕ} (c : C ≡ dataCapacity g) (v : Valid g) (sized : length table ≡ g .pages)
     (S : Storing g target table (drop done bytes) image budget page) where
   abbrev rest : List ℕ
   rest = drop done bytes

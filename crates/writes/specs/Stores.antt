@@ -9,11 +9,12 @@ use Rattle.packet.specs.Packet.{Write}
 use Rattle.packet.specs.declared.Budget.{Budget}
 use Rattle.packet.specs.Budgets.{Progress, writeAll}
 use Rattle.rules.specs.Chain.{linked, chainOf, pagesFor}
+use Rattle.rules.specs.Owners.{OwnerRecord}
 use Rattle.owners.specs.Owned.{Represents}
 use Rattle.owners.specs.Free.{freeFrom}
 
 -- the table has enough free pages from a page on for so many bytes
-pub record HasRoom (g : Geometry) (table : List ℕ) (from size : ℕ) : Type 0 where
+pub record HasRoom (g : Geometry) (table : List OwnerRecord) (from size : ℕ) : Type 0 where
   pub used : List ℕ
   pub represents : Represents table used
   pub enough : pagesFor (dataCapacity g) size ≤ length (freeFrom used from (g .pages))
@@ -25,6 +26,6 @@ chosen g used from bytes = take (pagesFor (dataCapacity g) (length bytes)) (free
 abbrev pub storeWrites : Geometry → List ℕ → ℕ → List ℕ → List Write
 storeWrites g used from bytes = linked (chainOf (dataCapacity g) (chosen g used from bytes) bytes)
 
-unfoldable pub Stores : Geometry → List ℕ → ℕ → List ℕ → List ℕ → Budget → List ℕ → Budget → Type 0
+unfoldable pub Stores : Geometry → List OwnerRecord → ℕ → List ℕ → List ℕ → Budget → List ℕ → Budget → Type 0
 Stores g table from bytes image budget after left =
     (used : List ℕ) → Represents table used → _≡_ {A = Progress} (record { image = after; budget = left }) (writeAll g (storeWrites g used from bytes) (record { image = image; budget = budget }))

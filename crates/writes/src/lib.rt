@@ -6,8 +6,9 @@ use geometry::Geometry;
 use geometry::MOST_PAGE_BYTES;
 use packet::Budget;
 ghost use mathlib.Core.Path.{_≡_};
-ghost use Prim.Native.Nat.{_+_, _-_, _≤_, _<_};
+ghost use Prim.Native.Nat.{_+_, _-_, _≤_, _<_, _*_};
 ghost use lib.ListN.{length};
+ghost use Rattle.owners.specs.Records.{recordsOf};
 ghost use Rattle.geometry.specs.Geometry.{Fit};
 ghost use Rattle.packet.specs.Packet.{viewOf};
 ghost use Rattle.packet.specs.Budgets.{Open};
@@ -30,14 +31,14 @@ pub fn pages_for(bytes: usize, capacity: usize) -> usize
 pub fn store_chain(
     image: &mut [u8],
     g: Geometry,
-    table: &[u16],
+    table: &[u8],
     from: usize,
     bytes: &[u8],
     budget: Budget,
 ) -> Budget
     requires { ⌜ Fit g (now image) ⌝ }
-    requires { ⌜ (length (now table) ≡ g .pages) × HasRoom g (now table) from (length (now bytes)) × Open budget ⌝ }
-    ensures { λ r. ⌜ Stores g (now (table .entry)) from (now (bytes .entry)) (now (image .entry)) budget (now (image .exit)) r ⌝ }
+    requires { ⌜ (length (now table) ≡ 4 * g .pages) × HasRoom g (recordsOf (now table)) from (length (now bytes)) × Open budget ⌝ }
+    ensures { λ r. ⌜ Stores g (recordsOf (now (table .entry))) from (now (bytes .entry)) (now (image .entry)) budget (now (image .exit)) r ⌝ }
 {
     let capacity = g.data_capacity();
     let mut left = budget;

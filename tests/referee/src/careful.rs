@@ -60,7 +60,7 @@ pub(crate) fn delete<'a>(
     let mut list = WriteList::new(geometry, image, tree);
     let visible = edit::without_entry(geometry, &list.image, entry)?;
     list.add(visible);
-    let mut used = tree.used_pages();
+    let mut used = tree.used.clone();
     edit::free_chain(&mut used, entry);
     list.add_bitmap(&used)?;
     Ok(list)
@@ -73,7 +73,7 @@ fn replace<'a>(
     entry: &Entry,
     bytes: &[u8],
 ) -> Result<WriteList<'a>, Answer> {
-    let mut used = tree.used_pages();
+    let mut used = tree.used.clone();
     let pages = edit::take_lowest(&mut used, edit::pages_needed(list.geometry, bytes))?;
     list.add_bitmap(&used)?;
     list.add_file(&pages, bytes);
@@ -92,7 +92,7 @@ fn add<'a>(
     path: &Path,
     bytes: &[u8],
 ) -> Result<WriteList<'a>, Answer> {
-    let mut used = tree.used_pages();
+    let mut used = tree.used.clone();
     let place = match edit::page_with_space(list.geometry, &list.image, directory)? {
         Some(page) => EntryPlace::Space(page),
         None => EntryPlace::NewPage(edit::take_lowest(&mut used, 1)?[0]),

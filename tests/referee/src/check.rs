@@ -8,9 +8,7 @@ use crate::entry::{Fields, LAST_FILE_EXTENSION};
 use crate::geometry::Geometry;
 use crate::names::{is_name, Name, ROOT};
 use crate::packet::{self, Packet};
-use crate::tree::{
-    Bitmap, Content, Directory, Entry, Tree, BITMAP_OWNER, FIRST_ENTRY_OWNER, ROOT_OWNER,
-};
+use crate::tree::{Bitmap, Content, Directory, Entry, Tree};
 
 /// Nesting goes eight levels below the root; a subdirectory whose entry is in the root is at level one.
 const DEEPEST_LEVEL: u32 = 8;
@@ -33,12 +31,11 @@ struct EntryPage<'a> {
 /// The pages of a chain with the body of each packet.
 type Chain<'a> = Vec<(usize, &'a [u8])>;
 
-/// The state of a check: the owner of each page met so far, and the number of entries met so far.
+/// The state of a check: for each page whether a chain met so far has it.
 struct Walk<'a> {
     geometry: &'a Geometry,
     image: &'a [u8],
-    owners: Vec<u32>,
-    entries: u32,
+    used: Vec<bool>,
 }
 
 /// A bit of the bitmap that is not as the pages in use demand.
@@ -51,7 +48,7 @@ pub(crate) struct DifferingBit {
 /// Judges an image of right length: its tree, or the first fault in the order of the check.
 pub(crate) fn check_image(geometry: &Geometry, image: &[u8]) -> Result<Tree, Answer> {
     let (tree, bits) = walk_image(geometry, image)?;
-    match differing_bits(&bits, &tree.owners).first() {
+    match differing_bits(&bits, &tree.used).first() {
         Some(lowest) => Err(Fault::Bitmap.at(lowest.place)),
         None => Ok(tree),
     }
@@ -62,11 +59,10 @@ pub(crate) fn walk_image(geometry: &Geometry, image: &[u8]) -> Result<(Tree, Vec
     let mut walk = Walk {
         geometry,
         image,
-        owners: vec![0; geometry.page_count()],
-        entries: 0,
+        used: vec![false; geometry.page_count()],
     };
     let first = packet::read(geometry, image, 0)?;
-    walk.owners[0] = ROOT_OWNER;
+    walk.used[0] = true;
     let bitmap_place = control::read_root(geometry, first.body)?;
     let (bitmap, bits) = walk.bitmap(bitmap_place)?;
     let place = Place {
@@ -74,23 +70,22 @@ pub(crate) fn walk_image(geometry: &Geometry, image: &[u8]) -> Result<(Tree, Vec
         start: 0,
         level: 0,
     };
-    let root = walk.directory(place, first, ROOT_OWNER)?;
+    let root = walk.directory(place, first)?;
     let tree = Tree {
         bitmap,
         root,
-        owners: walk.owners,
+        used: walk.used,
     };
     Ok((tree, bits))
 }
 
 /// The bits that differ, lowest first: bit k is 1 exactly when page k is in use, bits from N up are 0 (13).
-pub(crate) fn differing_bits(bits: &[u8], owners: &[u32]) -> Vec<DifferingBit> {
+pub(crate) fn differing_bits(bits: &[u8], used: &[bool]) -> Vec<DifferingBit> {
     let mut differing = Vec::new();
     for place in 0..bits.len() * 8 {
         let marked = bits[place / 8] >> (place % 8) & 1 == 1;
-        let used = owners.get(place).is_some_and(|&owner| owner != 0);
-        if marked != used {
-            let of_page = place < owners.len();
+        if marked != used.get(place).copied().unwrap_or(false) {
+            let of_page = place < used.len();
             differing.push(DifferingBit {
                 place,
                 is_mark_without_owner: marked && of_page,
@@ -102,26 +97,26 @@ pub(crate) fn differing_bits(bits: &[u8], owners: &[u32]) -> Vec<DifferingBit> {
 
 impl<'a> Walk<'a> {
     /// Steps to a page of a chain: number (6, told at its holder), crossed (7), packet (2).
-    fn step(&mut self, number: usize, holder: usize, owner: u32) -> Result<Packet<'a>, Answer> {
+    fn step(&mut self, number: usize, holder: usize) -> Result<Packet<'a>, Answer> {
         if number == 0 || number >= self.geometry.page_count() {
             return Err(Fault::PageNumber.at(holder));
         }
-        if self.owners[number] != 0 {
+        if self.used[number] {
             return Err(Fault::Crossed.at(number));
         }
         let packet = packet::read(self.geometry, self.image, number)?;
-        self.owners[number] = owner;
+        self.used[number] = true;
         Ok(packet)
     }
 
     /// Walks the chain of a file or of the bitmap file to its end.
-    fn chain(&mut self, start: usize, holder: usize, owner: u32) -> Result<Chain<'a>, Answer> {
-        let mut packet = self.step(start, holder, owner)?;
+    fn chain(&mut self, start: usize, holder: usize) -> Result<Chain<'a>, Answer> {
+        let mut packet = self.step(start, holder)?;
         let mut page = start;
         let mut chain = vec![(page, packet.body)];
         while packet.pointer != 0 {
             let next = packet.pointer;
-            packet = self.step(next, page, owner)?;
+            packet = self.step(next, page)?;
             page = next;
             chain.push((page, packet.body));
         }
@@ -134,7 +129,7 @@ impl<'a> Walk<'a> {
             BitmapPlace::Local(bits) => return Ok((Bitmap::Local, bits.to_vec())),
             BitmapPlace::File { start, pages } => (start, pages),
         };
-        let chain = self.chain(start, 0, BITMAP_OWNER)?;
+        let chain = self.chain(start, 0)?;
         if chain.len() != pages {
             return Err(Fault::Count.at(0));
         }
@@ -150,13 +145,8 @@ impl<'a> Walk<'a> {
     }
 
     /// A directory is judged by its whole chain first, then by its entries in chain order.
-    fn directory(
-        &mut self,
-        place: Place,
-        first: Packet<'a>,
-        owner: u32,
-    ) -> Result<Directory, Answer> {
-        let chain = self.directory_chain(place.start, first, owner)?;
+    fn directory(&mut self, place: Place, first: Packet<'a>) -> Result<Directory, Answer> {
+        let chain = self.directory_chain(place.start, first)?;
         let mut seen = HashSet::new();
         let mut entries = Vec::new();
         for entry_page in &chain {
@@ -181,14 +171,13 @@ impl<'a> Walk<'a> {
         &mut self,
         start: usize,
         first: Packet<'a>,
-        owner: u32,
     ) -> Result<Vec<EntryPage<'a>>, Answer> {
         let mut page = start;
         let mut packet = first;
         let mut chain = vec![self.entry_page(page, packet, self.geometry.control_length())?];
         while packet.pointer != 0 {
             let next = packet.pointer;
-            packet = self.step(next, page, owner)?;
+            packet = self.step(next, page)?;
             page = next;
             chain.push(self.entry_page(page, packet, 0)?);
         }
@@ -233,18 +222,16 @@ impl<'a> Walk<'a> {
                 return Err(Fault::Count.at(page));
             }
         }
-        let owner = FIRST_ENTRY_OWNER + self.entries;
-        self.entries += 1;
         if fields.is_subdirectory() {
-            self.subdirectory(fields, page, parent, owner)
+            self.subdirectory(fields, page, parent)
         } else {
-            self.file(fields, page, owner)
+            self.file(fields, page)
         }
     }
 
     /// A file: its start page and chain, then its page count, which equals the chain (8 at the entry's page).
-    fn file(&mut self, fields: &Fields, page: usize, owner: u32) -> Result<Content, Answer> {
-        let chain = self.chain(fields.start, page, owner)?;
+    fn file(&mut self, fields: &Fields, page: usize) -> Result<Content, Answer> {
+        let chain = self.chain(fields.start, page)?;
         if chain.len() != fields.pages {
             return Err(Fault::Count.at(page));
         }
@@ -260,9 +247,8 @@ impl<'a> Walk<'a> {
         fields: &Fields,
         page: usize,
         parent: Place,
-        owner: u32,
     ) -> Result<Content, Answer> {
-        let first = self.step(fields.start, page, owner)?;
+        let first = self.step(fields.start, page)?;
         control::judge_subdirectory(
             self.geometry,
             first.body,
@@ -275,7 +261,7 @@ impl<'a> Walk<'a> {
             start: fields.start,
             level: parent.level + 1,
         };
-        Ok(Content::Directory(self.directory(place, first, owner)?))
+        Ok(Content::Directory(self.directory(place, first)?))
     }
 }
 

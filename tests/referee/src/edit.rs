@@ -87,7 +87,7 @@ pub(crate) fn delete(
     if entry.fields.attribute() {
         return Err(Fault::ReadOnly.at(0));
     }
-    let mut used = tree.used_pages();
+    let mut used = tree.used.clone();
     free_chain(&mut used, entry);
     without_entry(geometry, image, entry)?.write(geometry, image);
     bitmap::write(geometry, image, &tree.bitmap, &used)
@@ -123,7 +123,7 @@ fn replace(
     entry: &Entry,
     bytes: &[u8],
 ) -> Result<(), Answer> {
-    let mut used = tree.used_pages();
+    let mut used = tree.used.clone();
     free_chain(&mut used, entry);
     let pages = take_lowest(&mut used, pages_needed(geometry, bytes))?;
     write_chain(geometry, image, &pages, bytes);
@@ -141,7 +141,7 @@ fn add(
     path: &Path,
     bytes: &[u8],
 ) -> Result<(), Answer> {
-    let mut used = tree.used_pages();
+    let mut used = tree.used.clone();
     let with_space = page_with_space(geometry, image, directory)?;
     let entry_page = match with_space {
         Some(page) => page,

@@ -1,8 +1,8 @@
 //! A second implementation of the file structure of document 01: check, list, read, format, put, delete; and of document 02's careful put, careful
-//! delete and mend (A4).
+//! delete and mend (A4) and owner records (A8).
 //!
 //! It is written from the specification alone and serves as a referee for another implementation.
-//! Numbers are `u32` as a C caller gives them; the owner table is bytes, low byte first.
+//! Numbers are `u32` as a C caller gives them; the owner table is bytes, four for each page.
 
 mod answer;
 mod bitmap;
@@ -16,6 +16,7 @@ pub mod geometry;
 mod list_text;
 mod mend;
 mod names;
+pub mod owners;
 mod packet;
 mod path;
 mod tree;
@@ -210,7 +211,7 @@ pub fn list_text(dump: &[u8]) -> Vec<u8> {
     list_text::list_text(dump)
 }
 
-/// Refusal 1: P, N, the image's length, or an owner table of less than N numbers of 16 bits.
+/// Refusal 1: P, N, the image's length, or an owner table of less than N records.
 fn judge_arguments(
     page_length: u32,
     page_count: u32,
@@ -219,27 +220,24 @@ fn judge_arguments(
 ) -> Result<Geometry, Answer> {
     let wrong = Fault::Arguments.at(0);
     let geometry = Geometry::new(page_length, page_count).ok_or(wrong)?;
-    if image.len() != geometry.image_length() || owners.len() < 2 * geometry.page_count() {
+    let needed = owners::table_length(geometry.page_count());
+    if image.len() != geometry.image_length() || owners.len() < needed {
         return Err(wrong);
     }
     Ok(geometry)
 }
 
-/// Checks the image and writes its owners to the table; all 0 if it is not accepted.
+/// Checks the image and writes its owner records to the table; all 0 if it is not accepted.
 fn judge_image(geometry: &Geometry, image: &[u8], owners: &mut [u8]) -> Result<Tree, Answer> {
     let judged = check::check_image(geometry, image);
-    let none = vec![0; geometry.page_count()];
-    let numbers = match &judged {
-        Ok(tree) => &tree.owners,
-        Err(_) => &none,
-    };
-    for (bytes, &owner) in owners.chunks_exact_mut(2).zip(numbers) {
-        bytes.copy_from_slice(&(owner as u16).to_le_bytes());
+    match &judged {
+        Ok(tree) => owners::write(tree, owners),
+        Err(_) => owners::clear(geometry.page_count(), owners),
     }
     judged
 }
 
-/// Writes the owners of the image as it now stands.
+/// Writes the owner records of the image as it now stands.
 fn tell_owners(geometry: &Geometry, image: &[u8], owners: &mut [u8]) {
     // The table is all that is wanted here; the call's answer is made already.
     let _ = judge_image(geometry, image, owners);

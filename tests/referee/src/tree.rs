@@ -4,15 +4,6 @@ use crate::answer::Totals;
 use crate::entry::{Fields, SUBDIRECTORY};
 use crate::names::Name;
 
-/// The owner of the root's pages in the owner table.
-pub(crate) const ROOT_OWNER: u32 = 1;
-
-/// The owner of the bitmap file's pages in the owner table.
-pub(crate) const BITMAP_OWNER: u32 = 2;
-
-/// The owner of the pages of the entry at walk position 0.
-pub(crate) const FIRST_ENTRY_OWNER: u32 = 3;
-
 /// Where the bitmap stands: in the root's control field, or in a file with the pages of its chain.
 #[derive(Debug)]
 pub(crate) enum Bitmap {
@@ -43,12 +34,12 @@ pub(crate) struct Entry {
     pub(crate) content: Content,
 }
 
-/// An accepted image: bitmap, root, and the owner of each page.
+/// An accepted image: bitmap, root, and for each page whether it is in use, that is in any chain.
 #[derive(Debug)]
 pub(crate) struct Tree {
     pub(crate) bitmap: Bitmap,
     pub(crate) root: Directory,
-    pub(crate) owners: Vec<u32>,
+    pub(crate) used: Vec<bool>,
 }
 
 impl Entry {
@@ -57,6 +48,14 @@ impl Entry {
         match &self.content {
             Content::File { length, .. } => *length,
             Content::Directory(_) => 0,
+        }
+    }
+
+    /// The pages of the chain that the entry leads to.
+    pub(crate) fn pages(&self) -> &[usize] {
+        match &self.content {
+            Content::File { pages, .. } => pages,
+            Content::Directory(directory) => &directory.pages,
         }
     }
 
@@ -104,16 +103,12 @@ impl Tree {
         walk
     }
 
-    /// For each page whether it is in use, that is in any chain.
-    pub(crate) fn used_pages(&self) -> Vec<bool> {
-        self.owners.iter().map(|&owner| owner != 0).collect()
-    }
     /// Pages in use, files and directories; root and bitmap file are not counted as directory or file.
     pub(crate) fn totals(&self) -> Totals {
         let walk = self.walk();
         let subdirectories = walk.iter().filter(|(_, entry)| entry.is_directory());
         let directories = subdirectories.count();
-        let used = self.owners.iter().filter(|&&owner| owner != 0).count();
+        let used = self.used.iter().filter(|&&used| used).count();
         Totals {
             number: 0,
             page: 0,

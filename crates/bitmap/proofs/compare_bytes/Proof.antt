@@ -3,13 +3,14 @@ use mathlib.Core.Path.{sym, _∙_}
 use Prim.Native.Nat.{ℕ, _-_, _*_, _≤_, _<_}
 use native.Mathlib.Omega.{arith}
 use lib.ListN.{length}
+use Rattle.owners.specs.Records.{recordsOf}
 use Rattle.bitmap.proofs.BitLaws.{Right, right-on, part-same, part-differ}
 use borrow.Author.Needs.{needs}
 use Rattle.bitmap.proofs.compare_bytes.Statement.{statement}
 use Rattle.bitmap.proofs.compare_bytes.Tie as tie
 
 abbrev Inv-loop : tie.InvT-loop
-Inv-loop bytes at table end k₀ k = (k ≤ 8 * length bytes) × ((j : ℕ) → j < k → Right bytes at table j)
+Inv-loop bytes at table end k₀ k = (k ≤ 8 * length bytes) × ((j : ℕ) → j < k → Right bytes at (recordsOf table) j)
 
 abbrev μ-loop : tie.MeasureT-loop
 μ-loop bytes at table end k₀ k = end - k
@@ -26,7 +27,7 @@ returns c =
     let start = at-loop .before .before .before in
     let a = start .args in
     let l = at-loop .loop in
-    part-differ (a .bytes .now) _ (a .table .now) (l .k) (at-loop-test .loop-test .taken) (l .inv .1) (λ e. c .if1 .taken (at-bit-of .bit-of .ensures ∙ e ∙ sym (at-bit .bit .ensures .0)))
+    part-differ (a .bytes .now) _ (recordsOf (a .table .now)) (l .k) (at-loop-test .loop-test .taken) (l .inv .1) (λ e. c .if1 .taken (at-bit-of .bit-of .ensures ∙ e ∙ sym (at-bit .bit .ensures .0)))
 
 loop-again : tie.Need-loop-again Inv-loop μ-loop
 loop-again c =
@@ -37,7 +38,7 @@ loop-again c =
     let start = at-loop .before .before .before in
     let a = start .args in
     let l = at-loop .loop in
-    (omega (arith, at-loop-test .loop-test .taken), right-on (a .bytes .now) _ (a .table .now) (l .k) (l .inv .1) (sym (at-bit-of .bit-of .ensures) ∙ c .if1 .left ∙ at-bit .bit .ensures .0))
+    (omega (arith, at-loop-test .loop-test .taken), right-on (a .bytes .now) _ (recordsOf (a .table .now)) (l .k) (l .inv .1) (sym (at-bit-of .bit-of .ensures) ∙ c .if1 .left ∙ at-bit .bit .ensures .0))
 
 returns-2 : tie.Need-returns-2 Inv-loop μ-loop
 returns-2 c =
@@ -45,7 +46,7 @@ returns-2 c =
     let start = at-loop .before .before .before in
     let a = start .args in
     let l = at-loop .loop in
-    part-same (a .bytes .now) _ (a .table .now) (l .k) (l .inv .0) (omega (arith, c .loop-test .left)) (l .inv .1)
+    part-same (a .bytes .now) _ (recordsOf (a .table .now)) (l .k) (l .inv .0) (omega (arith, c .loop-test .left)) (l .inv .1)
 
 pub compare-bytes-spec : {M : Type 1} → statement M
 compare-bytes-spec =

@@ -5,6 +5,7 @@ use mathlib.Core.List.{List}
 use Prim.Native.Nat.{ℕ, _-_}
 use native.Mathlib.Omega.{arith}
 use lib.ListN.{length}
+use Rattle.owners.specs.Records.{recordsOf}
 use Rattle.packet.specs.Packet.{viewOf}
 use Rattle.rules.specs.Chain.{Link, content}
 use Rattle.owners.specs.Owned.{Represents}
@@ -18,7 +19,7 @@ use Rattle.chain.specs.KnownChain.{ChainAt}
 use Rattle.chain.proofs.Following.{never-refused, page-known, counts-up, data-inside}
 
 abbrev Inv-loop : tie.InvT-loop
-Inv-loop image g start table c₀ c = (ls : List Link) → ChainAt g (viewOf g image) start ls → (used : List ℕ) → Represents table used
+Inv-loop image g start table c₀ c = (ls : List Link) → ChainAt g (viewOf g image) start ls → (used : List ℕ) → Represents (recordsOf table) used
     → Comparing g (viewOf g image) (content ls) used (length ls) c
 
 abbrev μ-loop : tie.MeasureT-loop
@@ -33,7 +34,7 @@ step-requires : tie.Need-step-requires Inv-loop μ-loop
 step-requires c κs =
     let start = c .before .before .before .before in
     let s = start .pre in
-    let t = start .args .table .now in
+    let t = recordsOf (start .args .table .now) in
     let l = c .loop .inv (s .1 .links) (s .1 .chain) (taken t) (represents-taken t) in
     (s .0, (l .read .following .counted, λ z. page-known _ _ (s .0) _ _ _ (l .read .following) .1))
 
@@ -43,7 +44,7 @@ returns c =
     let at-loop = at-step .before in
     let start = at-loop .before .before .before .before in
     let s = start .pre in
-    let t = start .args .table .now in
+    let t = recordsOf (start .args .table .now) in
     let l = at-loop .loop .inv (s .1 .links) (s .1 .chain) (taken t) (represents-taken t) in
     let k = page-known _ _ (s .0) _ _ _ (l .read .following) in
     absurd (never-refused _ _ _ (k .0) (k .1) _ _ (sym (c .enum-told .given .1) ∙ at-step .step .ensures))
@@ -53,7 +54,7 @@ page-of-requires c κs =
     let at-loop = c .before .before .before .before in
     let start = at-loop .before .before .before .before in
     let s = start .pre in
-    let t = start .args .table .now in
+    let t = recordsOf (start .args .table .now) in
     let l = at-loop .loop .inv (s .1 .links) (s .1 .chain) (taken t) (represents-taken t) in
     (s .0, page-known _ _ (s .0) _ _ _ (l .read .following) .0)
 
@@ -64,7 +65,7 @@ data-of-requires c κs =
     let at-loop = at-step .before in
     let start = at-loop .before .before .before .before in
     let s = start .pre in
-    let t = start .args .table .now in
+    let t = recordsOf (start .args .table .now) in
     let l = at-loop .loop .inv (s .1 .links) (s .1 .chain) (taken t) (represents-taken t) in
     data-inside _ _ (s .0) _ _ _ (l .read .following) _ _ _ (at-size .size .given .1) (at-step .step .ensures) _ (c .page-of .ensures)
 
@@ -76,7 +77,7 @@ compare-bytes-requires c κs =
     let at-loop = at-step .before in
     let start = at-loop .before .before .before .before in
     let s = start .pre in
-    let t = start .args .table .now in
+    let t = recordsOf (start .args .table .now) in
     let l = at-loop .loop .inv (s .1 .links) (s .1 .chain) (taken t) (represents-taken t) in
     in-bounds _ _ (s .0) (l .read) (at-size .size .given .1) (at-step .step .ensures) (at-page-of .page-of .ensures) (c .data-of .ensures)
 
@@ -93,7 +94,7 @@ returns-2 c =
     λ ls d used r.
     let s = start .pre in
     answer-differ _ _ (s .0) (at-loop .loop .inv ls d used r) (at-size .size .given .1) (at-step .step .ensures) (at-page-of .page-of .ensures)
-    (at-data-of .data-of .ensures) (start .args .table .now) r (at-compare-bytes .compare-bytes .result) (at-compare-bytes .compare-bytes .ensures) _ (at-bit .bit .given .1)
+    (at-data-of .data-of .ensures) (recordsOf (start .args .table .now)) r (at-compare-bytes .compare-bytes .result) (at-compare-bytes .compare-bytes .ensures) _ (at-bit .bit .given .1)
 
 returns-3 : tie.Need-returns-3 Inv-loop μ-loop
 returns-3 c =
@@ -108,7 +109,7 @@ returns-3 c =
     λ ls d used r.
     let s = start .pre in
     answer-same _ _ (s .0) (at-loop .loop .inv ls d used r) (at-size .size .given .1) (at-step .step .ensures) (at-page-of .page-of .ensures)
-    (at-data-of .data-of .ensures) (start .args .table .now) r (at-compare-bytes .compare-bytes .result) (at-compare-bytes .compare-bytes .ensures)
+    (at-data-of .data-of .ensures) (recordsOf (start .args .table .now)) r (at-compare-bytes .compare-bytes .result) (at-compare-bytes .compare-bytes .ensures)
     (at-enum-told2 .enum-told2 .given .1) (c .if1 .taken)
 
 loop-less : tie.Need-loop-less Inv-loop μ-loop
@@ -119,7 +120,7 @@ loop-less c =
     let at-loop = at-step .before in
     let start = at-loop .before .before .before .before in
     let s = start .pre in
-    let t = start .args .table .now in
+    let t = recordsOf (start .args .table .now) in
     let l = at-loop .loop .inv (s .1 .links) (s .1 .chain) (taken t) (represents-taken t) in
     let k = counts-up _ _ (s .0) _ _ _ (l .read .following) _ _ _ (at-size .size .given .1) (at-step .step .ensures) in
     omega (arith, l .read .following .steps, l .read .following .chain .some, s .1 .chain .few)
@@ -137,7 +138,7 @@ loop-again c =
     λ ls d used r.
     let s = start .pre in
     compare-on _ _ (s .0) (at-loop .loop .inv ls d used r) (at-size .size .given .1) (at-step .step .ensures) (at-page-of .page-of .ensures)
-    (at-data-of .data-of .ensures) (start .args .table .now) r (at-compare-bytes .compare-bytes .result) (at-compare-bytes .compare-bytes .ensures)
+    (at-data-of .data-of .ensures) (recordsOf (start .args .table .now)) r (at-compare-bytes .compare-bytes .result) (at-compare-bytes .compare-bytes .ensures)
     (at-enum-told2 .enum-told2 .given .1) (c .if1 .left) (d .few)
 
 pub compare-chain-spec : {M : Type 1} → statement M

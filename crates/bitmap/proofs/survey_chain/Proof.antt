@@ -5,6 +5,7 @@ use mathlib.Core.List.{List}
 use Prim.Native.Nat.{ℕ, _-_, _*_}
 use native.Mathlib.Omega.{arith}
 use lib.ListN.{length}
+use Rattle.owners.specs.Records.{recordsOf}
 use Rattle.packet.specs.Packet.{viewOf}
 use Rattle.rules.specs.Chain.{Link, content}
 use Rattle.rules.specs.CarefulLaws.{unowned-most}
@@ -19,8 +20,8 @@ use Rattle.bitmap.proofs.survey_chain.Statement.{statement}
 use Rattle.bitmap.proofs.survey_chain.Tie as tie
 
 abbrev Inv-loop : tie.InvT-loop
-Inv-loop image g start table c₀ unowned₀ c unowned = (ls : List Link) → ChainAt g (viewOf g image) start ls → (used : List ℕ) → Represents table used
-    → Surveying g (viewOf g image) (length table) (content ls) used (length ls) c unowned
+Inv-loop image g start table c₀ unowned₀ c unowned = (ls : List Link) → ChainAt g (viewOf g image) start ls → (used : List ℕ) → Represents (recordsOf table) used
+    → Surveying g (viewOf g image) (length (recordsOf table)) (content ls) used (length ls) c unowned
 
 abbrev μ-loop : tie.MeasureT-loop
 μ-loop image g start table c₀ unowned₀ c unowned = g .pages - c .count
@@ -34,7 +35,7 @@ step-requires : tie.Need-step-requires Inv-loop μ-loop
 step-requires c κs =
     let start = c .before .before .before .before in
     let s = start .pre in
-    let t = start .args .table .now in
+    let t = recordsOf (start .args .table .now) in
     let l = c .loop .inv (s .1 .links) (s .1 .chain) (taken t) (represents-taken t) in
     (s .0, (l .read .following .counted, λ z. page-known _ _ (s .0) _ _ _ (l .read .following) .1))
 
@@ -44,7 +45,7 @@ returns c =
     let at-loop = at-step .before in
     let start = at-loop .before .before .before .before in
     let s = start .pre in
-    let t = start .args .table .now in
+    let t = recordsOf (start .args .table .now) in
     let l = at-loop .loop .inv (s .1 .links) (s .1 .chain) (taken t) (represents-taken t) in
     let k = page-known _ _ (s .0) _ _ _ (l .read .following) in
     absurd (never-refused _ _ _ (k .0) (k .1) _ _ (sym (c .enum-told .given .1) ∙ at-step .step .ensures))
@@ -54,7 +55,7 @@ page-of-requires c κs =
     let at-loop = c .before .before .before .before in
     let start = at-loop .before .before .before .before in
     let s = start .pre in
-    let t = start .args .table .now in
+    let t = recordsOf (start .args .table .now) in
     let l = at-loop .loop .inv (s .1 .links) (s .1 .chain) (taken t) (represents-taken t) in
     (s .0, page-known _ _ (s .0) _ _ _ (l .read .following) .0)
 
@@ -65,7 +66,7 @@ data-of-requires c κs =
     let at-loop = at-step .before in
     let start = at-loop .before .before .before .before in
     let s = start .pre in
-    let t = start .args .table .now in
+    let t = recordsOf (start .args .table .now) in
     let l = at-loop .loop .inv (s .1 .links) (s .1 .chain) (taken t) (represents-taken t) in
     data-inside _ _ (s .0) _ _ _ (l .read .following) _ _ _ (at-size .size .given .1) (at-step .step .ensures) _ (c .page-of .ensures)
 
@@ -77,7 +78,7 @@ survey-bytes-requires c κs =
     let at-loop = at-step .before in
     let start = at-loop .before .before .before .before in
     let s = start .pre in
-    let t = start .args .table .now in
+    let t = recordsOf (start .args .table .now) in
     let l = at-loop .loop .inv (s .1 .links) (s .1 .chain) (taken t) (represents-taken t) in
     let b = in-bounds _ _ (s .0) (l .read) (at-size .size .given .1) (at-step .step .ensures) (at-page-of .page-of .ensures) (c .data-of .ensures) in
     (b .0, b .1, omega (arith, l .counted, unowned-most (content (s .1 .links)) (taken t) 0 (8 * at-loop .loop .c .bytes)))
@@ -92,7 +93,7 @@ returns-2 c =
     let at-loop = at-step .before in
     let start = at-loop .before .before .before .before in
     λ ls d used r. answer-uncovered _ _ (start .pre .0) (at-loop .loop .inv ls d used r) (at-size .size .given .1) (at-step .step .ensures) (at-page-of .page-of .ensures)
-    (at-data-of .data-of .ensures) (start .args .table .now) refl r (at-survey .survey-bytes .result) (at-survey .survey-bytes .ensures) (c .enum-told2 .given .1)
+    (at-data-of .data-of .ensures) (recordsOf (start .args .table .now)) refl r (at-survey .survey-bytes .result) (at-survey .survey-bytes .ensures) (c .enum-told2 .given .1)
 
 returns-3 : tie.Need-returns-3 Inv-loop μ-loop
 returns-3 c =
@@ -105,7 +106,7 @@ returns-3 c =
     let at-loop = at-step .before in
     let start = at-loop .before .before .before .before in
     λ ls d used r. answer-end _ _ (start .pre .0) (at-loop .loop .inv ls d used r) (at-size .size .given .1) (at-step .step .ensures) (at-page-of .page-of .ensures)
-    (at-data-of .data-of .ensures) (start .args .table .now) refl r (at-survey .survey-bytes .result) (at-survey .survey-bytes .ensures) _ (at-more .more .given .1) (c .if1 .taken)
+    (at-data-of .data-of .ensures) (recordsOf (start .args .table .now)) refl r (at-survey .survey-bytes .result) (at-survey .survey-bytes .ensures) _ (at-more .more .given .1) (c .if1 .taken)
 
 loop-less : tie.Need-loop-less Inv-loop μ-loop
 loop-less c =
@@ -116,7 +117,7 @@ loop-less c =
     let at-loop = at-step .before in
     let start = at-loop .before .before .before .before in
     let s = start .pre in
-    let t = start .args .table .now in
+    let t = recordsOf (start .args .table .now) in
     let l = at-loop .loop .inv (s .1 .links) (s .1 .chain) (taken t) (represents-taken t) in
     let k = counts-up _ _ (s .0) _ _ _ (l .read .following) _ _ _ (at-size .size .given .1) (at-step .step .ensures) in
     omega (arith, l .read .following .steps, l .read .following .chain .some, s .1 .chain .few)
@@ -132,7 +133,7 @@ loop-again c =
     let at-loop = at-step .before in
     let start = at-loop .before .before .before .before in
     λ ls d used r. survey-on _ _ (start .pre .0) (at-loop .loop .inv ls d used r) (at-size .size .given .1) (at-step .step .ensures) (at-page-of .page-of .ensures)
-    (at-data-of .data-of .ensures) (start .args .table .now) refl r (at-survey .survey-bytes .result) (at-survey .survey-bytes .ensures) _ (at-more .more .given .1) (c .if1 .left) (d .few)
+    (at-data-of .data-of .ensures) (recordsOf (start .args .table .now)) refl r (at-survey .survey-bytes .result) (at-survey .survey-bytes .ensures) _ (at-more .more .given .1) (c .if1 .left) (d .few)
 
 pub survey-chain-spec : {M : Type 1} → statement M
 survey-chain-spec =

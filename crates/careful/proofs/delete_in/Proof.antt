@@ -1,5 +1,6 @@
 -- The check's fault first; else the delete within the limit, and then the table of the image as it stands.
 use mathlib.Core.Path.{ap, sym, _∙_}
+use Rattle.owners.specs.Records.{recordsOf}
 use Rattle.packet.specs.declared.Budget.{Budget}
 use Rattle.volume.proofs.EditLaws.{fit-same, fault-effect, table-of}
 use Rattle.careful.proofs.Deleting.{delete-fault, delete-spent, delete-answers}
@@ -14,7 +15,7 @@ delete-path-requires c κs =
     let at-image = at-check .before .before .before .before .before in
     let start = at-image .before in
     let a = start .args in
-    let T = table-of (a .g) (a .image .now) (at-check .check-table .result) (at-check .check-table .last .1 .1 .0) (at-check .check-table .ensures) (λ i. at-image .slice-known .given i .fits) _
+    let T = table-of (a .g) (a .image .now) (at-check .check-table .result) (recordsOf (at-check .check-table .last .1 .1 .0)) (at-check .check-table .ensures) (λ i. at-image .slice-known .given i .fits) _
     (at-told .enum-told .given .1) in
     (start .pre .0, (at-check .check-table .kept .1 .1 .0 ∙ start .pre .1, T, ap (λ (x : Budget). x .stopped) (c .limited .ensures)))
 
@@ -38,7 +39,7 @@ halted-requires c κs =
     let at-image = at-check .before .before .before .before .before in
     let start = at-image .before in
     let a = start .args in
-    let T = table-of (a .g) (a .image .now) (at-check .check-table .result) (at-check .check-table .last .1 .1 .0) (at-check .check-table .ensures) (λ i. at-image .slice-known .given i .fits) _
+    let T = table-of (a .g) (a .image .now) (at-check .check-table .result) (recordsOf (at-check .check-table .last .1 .1 .0)) (at-check .check-table .ensures) (λ i. at-image .slice-known .given i .fits) _
     (at-told .enum-told .given .1) in
     delete-spent (a .g) (a .image .now) _ (a .path .now) (start .pre .0) T (a .allowed) _ (at-limited .limited .ensures) _ (at-delete-path .delete-path .result) (at-delete-path .delete-path .ensures)
 
@@ -49,7 +50,7 @@ returns c =
     let at-image = at-check .before .before .before .before .before in
     let start = at-image .before in
     let a = start .args in
-    fault-effect (a .g) (a .image .now) (at-check .check-table .result) (at-check .check-table .last .1 .1 .0) (at-check .check-table .ensures) _
+    fault-effect (a .g) (a .image .now) (at-check .check-table .result) (recordsOf (at-check .check-table .last .1 .1 .0)) (at-check .check-table .ensures) _
     (delete-fault (a .g) (a .allowed) (a .path .now) (a .image .now)) _ _ (at-number .number .given .1)
 
 returns-2 : tie.Need-returns-2
@@ -63,7 +64,7 @@ returns-2 c =
     let at-image = at-check .before .before .before .before .before in
     let start = at-image .before in
     let a = start .args in
-    let T = table-of (a .g) (a .image .now) (at-check .check-table .result) (at-check .check-table .last .1 .1 .0) (at-check .check-table .ensures) (λ i. at-image .slice-known .given i .fits) _
+    let T = table-of (a .g) (a .image .now) (at-check .check-table .result) (recordsOf (at-check .check-table .last .1 .1 .0)) (at-check .check-table .ensures) (λ i. at-image .slice-known .given i .fits) _
     (at-told .enum-told .given .1) in
     record {
       answers = delete-answers (a .g) (a .image .now) _ (a .path .now) (start .pre .0) T (a .allowed) _ (at-limited .limited .ensures) _ (at-delete-path .delete-path .result) (at-delete-path .delete-path .ensures) _ (c .halted .ensures);

@@ -3,6 +3,7 @@ use mathlib.Core.Path.{ap, _∙_}
 use Prim.Native.Nat.{ℕ}
 use native.Mathlib.Omega.{arith}
 use lib.ListN.{length}
+use Rattle.owners.specs.RecordLaws.{length-exact}
 use Rattle.rules.specs.Chain.{pagesFor}
 use Rattle.editing_theorems.specs.Capacity.{capacity-least}
 use Rattle.edit.specs.FilePlans.{pages-fit, one-extra}
@@ -24,7 +25,7 @@ find-pages-requires c κs =
     let a = start .args in
     let p = start .pre in
     let n = at-pages-for .pages-for .ensures ∙ ap (λ (x : ℕ). pagesFor x (length (a .bytes .now))) (at-data-capacity .data-capacity .ensures) in
-    let x = one-extra (p .1 .0) (p .1 .1 .putting) in
+    let x = one-extra (length-exact _ _ (p .1 .0)) (p .1 .1 .putting) in
     (omega (arith, x), omega (arith, n), omega (arith, n, x, pages-fit (a .g) (p .0 .valid) (length (a .bytes .now)) 1 (omega arith) (omega arith)))
 
 write-map-requires : tie.Need-write-map-requires
@@ -32,7 +33,7 @@ write-map-requires c κs =
     let at-find-pages = c .before .before .before .before .before in
     let at-data-capacity = at-find-pages .before .before .before in
     let start = at-data-capacity .before .before .before .before in
-    (start .pre .0, (root-there (start .pre .1 .0) (start .pre .1 .1), start .pre .1 .2))
+    (start .pre .0, (root-there (length-exact _ _ (start .pre .1 .0)) (start .pre .1 .1), start .pre .1 .2))
 
 returns : tie.Need-returns
 returns c =
@@ -45,7 +46,7 @@ returns c =
     let a = start .args in
     let p = start .pre .1 in
     let n = at-pages-for .pages-for .ensures ∙ ap (λ (x : ℕ). pagesFor x (length (a .bytes .now))) (at-data-capacity .data-capacity .ensures) in
-    λ Q. marking-stop (p .0) Q n (at-find-pages .find-pages .ensures) (at-taken .taken .given .1) (a .budget) (p .2) _ _ (at-write-map .write-map .ensures) (c .if1 .taken)
+    λ Q. marking-stop (length-exact _ _ (p .0)) Q n (at-find-pages .find-pages .ensures) (at-taken .taken .given .1) (a .budget) (p .2) _ _ (at-write-map .write-map .ensures) (c .if1 .taken)
 
 put-marked-requires : tie.Need-put-marked-requires
 put-marked-requires c κs =
@@ -59,8 +60,8 @@ put-marked-requires c κs =
     let a = start .args in
     let p = start .pre .1 in
     let n = at-pages-for .pages-for .ensures ∙ ap (λ (x : ℕ). pagesFor x (length (a .bytes .now))) (at-data-capacity .data-capacity .ensures) in
-    let fit = mid-fit (p .0) (p .1) n (at-find-pages .find-pages .ensures) (at-taken .taken .given .1) (a .budget) (p .2) _ _ (at-write-map .write-map .ensures) (at-if1 .if1 .left) in
-    let put = to-put (p .0) (p .1) n (at-find-pages .find-pages .ensures) (at-taken .taken .given .1) (a .budget) (p .2) _ _ (at-write-map .write-map .ensures) (at-if1 .if1 .left) in
+    let fit = mid-fit (length-exact _ _ (p .0)) (p .1) n (at-find-pages .find-pages .ensures) (at-taken .taken .given .1) (a .budget) (p .2) _ _ (at-write-map .write-map .ensures) (at-if1 .if1 .left) in
+    let put = to-put (length-exact _ _ (p .0)) (p .1) n (at-find-pages .find-pages .ensures) (at-taken .taken .given .1) (a .budget) (p .2) _ _ (at-write-map .write-map .ensures) (at-if1 .if1 .left) in
     (fit, (p .0, put, at-if1 .if1 .left))
 
 returns-2 : tie.Need-returns-2
@@ -71,7 +72,7 @@ returns-2 c =
     let start = at-data-capacity .before .before .before .before in
     let a = start .args in
     let n = at-pages-for .pages-for .ensures ∙ ap (λ (x : ℕ). pagesFor x (length (a .bytes .now))) (at-data-capacity .data-capacity .ensures) in
-    λ Q. careful-full (start .pre .1 .0) Q _ n _ (at-find-pages .find-pages .ensures) (c .enum-told .given .1) (a .budget)
+    λ Q. careful-full (length-exact _ _ (start .pre .1 .0)) Q _ n _ (at-find-pages .find-pages .ensures) (c .enum-told .given .1) (a .budget)
 
 returns-3 : tie.Need-returns-3
 returns-3 c =
@@ -86,7 +87,7 @@ returns-3 c =
     let a = start .args in
     let p = start .pre .1 in
     let n = at-pages-for .pages-for .ensures ∙ ap (λ (x : ℕ). pagesFor x (length (a .bytes .now))) (at-data-capacity .data-capacity .ensures) in
-    λ Q. careful-done (p .0) Q n (at-find-pages .find-pages .ensures) (at-taken .taken .given .1) (a .budget) (p .2) _ _ (at-write-map .write-map .ensures) (at-if1 .if1 .left)
+    λ Q. careful-done (length-exact _ _ (p .0)) Q n (at-find-pages .find-pages .ensures) (at-taken .taken .given .1) (a .budget) (p .2) _ _ (at-write-map .write-map .ensures) (at-if1 .if1 .left)
     _ _ (at-put-marked .put-marked .ensures)
 
 pub put-file-spec : {M : Type 1} → statement M

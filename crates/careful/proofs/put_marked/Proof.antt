@@ -1,5 +1,7 @@
 -- The chain and its entry; unless a write was held back, the table gets owners for the pages marked and loses those of the replaced chain, and the bitmap is written from it.
 use mathlib.Core.Path.{_∙_}
+use native.Mathlib.Omega.{arith}
+use Rattle.owners.specs.RecordLaws.{length-exact}
 use Rattle.careful.proofs.Releasing.{marked-stop, marked-old, marked-fit, marked-done}
 use borrow.Author.Needs.{needs}
 use Rattle.careful.proofs.put_marked.Statement.{statement}
@@ -15,7 +17,8 @@ claim-below-requires : tie.Need-claim-below-requires
 claim-below-requires c κs =
     let at-put-entry = c .before .before .before .before in
     let start = at-put-entry .before .before .before .before .before .before in
-    start .pre .1 .1 .inside
+    let M = start .pre .1 .1 in
+    omega (arith, M .inside, length-exact (start .args .g .pages) (start .args .table .now) (start .pre .1 .0), start .pre .1 .0)
 
 release-old-requires : tie.Need-release-old-requires
 release-old-requires c κs =
@@ -26,7 +29,7 @@ release-old-requires c κs =
     let M = start .pre .1 .1 in
     let h = at-put-entry .put-entry .ensures (M .plan) in
     let fit = marked-fit (start .args .budget) (start .pre .1 .2) M h (at-if1 .if1 .left) in
-    (fit .0, (marked-old (start .args .budget) (start .pre .1 .2) M h (at-if1 .if1 .left), at-claim .claim-below .ensures .sized ∙ start .pre .1 .0))
+    (fit .0, (marked-old (start .args .budget) (start .pre .1 .2) M h (at-if1 .if1 .left), at-claim .claim-below .kept .0 ∙ start .pre .1 .0))
 
 write-map-requires : tie.Need-write-map-requires
 write-map-requires c κs =

@@ -1,5 +1,6 @@
 -- The file is put where it goes, over the table of all pages in use.
 use mathlib.Core.Path.{_∙_}
+use Rattle.owners.specs.Records.{recordsOf}
 use Rattle.careful.proofs.PathPuts.{refused, to-put, put-at}
 use borrow.Author.Needs.{needs}
 use Rattle.careful.proofs.put_path.Statement.{statement}
@@ -20,7 +21,7 @@ put-file-requires c κs =
     let start = at-path .before .before in
     let a = start .args in
     let p = start .pre in
-    let put = to-put (a .g) (a .image .now) (a .table .now) (a .path .now) (a .bytes .now) (p .0) (p .1 .1)
+    let put = to-put (a .g) (a .image .now) (recordsOf (a .table .now)) (a .path .now) (a .bytes .now) (p .0) (p .1 .1)
     (λ i. at-path .shared-slice-known .given i .fits) (λ i. at-bytes .shared-slice-known2 .given i .fits) _ (at-place-file .place-file .ensures) (a .budget) _ (at-file .file .given .1) in
     (p .0, (p .1 .0, put, p .1 .2))
 
@@ -33,7 +34,7 @@ returns c =
     let start = at-path .before .before in
     let a = start .args in
     let p = start .pre in
-    refused (a .g) (a .image .now) (a .table .now) (a .path .now) (a .bytes .now) (p .0) (p .1 .1)
+    refused (a .g) (a .image .now) (recordsOf (a .table .now)) (a .path .now) (a .bytes .now) (p .0) (p .1 .1)
     (λ i. at-path .shared-slice-known .given i .fits) (λ i. at-bytes .shared-slice-known2 .given i .fits)
     _ (at-place-file .place-file .ensures) (a .budget) _ _ (at-number .number .given .1)
 
@@ -47,7 +48,7 @@ returns-2 c =
     let start = at-path .before .before in
     let a = start .args in
     let p = start .pre in
-    put-at (a .g) (a .image .now) (a .table .now) (a .path .now) (a .bytes .now) (p .0) (p .1 .1)
+    put-at (a .g) (a .image .now) (recordsOf (a .table .now)) (a .path .now) (a .bytes .now) (p .0) (p .1 .1)
     (λ i. at-path .shared-slice-known .given i .fits) (λ i. at-bytes .shared-slice-known2 .given i .fits)
     _ (at-place-file .place-file .ensures) (a .budget) _ (at-file .file .given .1) _ (at-put-file .put-file .result) (at-put-file .put-file .ensures)
 

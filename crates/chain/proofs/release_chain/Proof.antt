@@ -6,6 +6,7 @@ use native.Mathlib.Omega.{arith}
 use lib.ListN.{length}
 use Rattle.packet.specs.Packet.{viewOf}
 use Rattle.rules.specs.Chain.{Link, pages}
+use Rattle.owners.specs.Records.{recordsOf}
 use Rattle.owners.specs.Owned.{freed}
 use Rattle.chain.specs.KnownChain.{ChainAt}
 use Rattle.chain.specs.Claims.{Releases}
@@ -16,7 +17,7 @@ use Rattle.chain.proofs.release_chain.Statement.{statement}
 use Rattle.chain.proofs.release_chain.Tie as tie
 
 abbrev Inv-loop : tie.InvT-loop
-Inv-loop image g start table₀ c₀ table c = (length table ≡ length table₀) × ((ls : List Link) → ChainAt g (viewOf g image) start ls → Releasing g (viewOf g image) (length ls) (freed (pages ls) table₀) table c)
+Inv-loop image g start table₀ c₀ table c = (length table ≡ length table₀) × ((ls : List Link) → ChainAt g (viewOf g image) start ls → Releasing g (viewOf g image) (length ls) (freed (pages ls) (recordsOf table₀)) (recordsOf table) c)
 
 abbrev μ-loop : tie.MeasureT-loop
 μ-loop image g start table₀ c₀ table c = g .pages - c .count

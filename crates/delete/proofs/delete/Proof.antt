@@ -1,6 +1,7 @@
--- Refusal 1 leaves image and table as they are. Else `delete_in` works on the first N numbers of the table, and what is behind them stays: that is `deleteCall`.
+-- Refusal 1 leaves image and table as they are. Else `delete_in` works on the first N records of the table, and what is behind them stays: that is `deleteCall`.
 -- `Deletes`, what the call promises of its image, holds of every answer of `deleteCall`.
 use mathlib.Core.Path.{sym, _∙_}
+use native.Mathlib.Omega.{arith}
 use lib.Seq.{length-take-le}
 use Rattle.geometry.specs.ShapeLaws.{sized-of, fit-of}
 use Rattle.rules.specs.CallLaws.{delete-invalid}
@@ -10,9 +11,17 @@ use borrow.Author.Needs.{needs}
 use Rattle.delete.proofs.delete.Statement.{statement}
 use Rattle.delete.proofs.delete.Tie as tie
 
+mul-end : tie.Need-mul-end
+mul-end c =
+    let at-g = c .before .before in
+    let at-new = at-g .before .before in
+    let start = at-new .before .before .before .before in
+    let a = start .args in
+    omega (arith, sized-of (a .size) (a .pages) _ _ _ (sym (at-new .new .ensures) ∙ at-g .g .given .1) .valid .few)
+
 slice-relend-prefix-delete-in : tie.Need-slice-relend-prefix-delete-in
 slice-relend-prefix-delete-in c =
-    let at-g = c .before .before in
+    let at-g = c .before .before .before in
     let at-new = at-g .before .before in
     let start = at-new .before .before .before .before in
     let a = start .args in
@@ -20,7 +29,7 @@ slice-relend-prefix-delete-in c =
 
 slice-aggregate-delete-in : tie.Need-slice-aggregate-delete-in
 slice-aggregate-delete-in c =
-    let at-g = c .before .before .before in
+    let at-g = c .before .before .before .before in
     let at-new = at-g .before .before in
     let start = at-new .before .before .before .before in
     let a = start .args in
@@ -28,7 +37,7 @@ slice-aggregate-delete-in c =
 
 delete-in-requires : tie.Need-delete-in-requires
 delete-in-requires c κs =
-    let at-g = c .before .before .before in
+    let at-g = c .before .before .before .before in
     let at-new = at-g .before .before in
     let start = at-new .before .before .before .before in
     let a = start .args in
@@ -47,17 +56,19 @@ returns c =
 returns-2 : tie.Need-returns-2
 returns-2 c =
     let at-delete-in = c .before .before .before .before in
-    let at-g = at-delete-in .before .before .before .before in
+    let at-g = at-delete-in .before .before .before .before .before in
     let at-new = at-g .before .before in
     let at-slice-known = at-new .before .before .before in
     let start = at-slice-known .before in
     let a = start .args in
-    let e = deleted (a .size) (a .pages) (a .image .now) (a .table .now) (a .path .now) _ (sym (at-new .new .ensures) ∙ at-g .g .given .1) (at-delete-in .delete-in .result) _ _
-    (at-delete-in .delete-in .ensures) in
+    let f = sym (at-new .new .ensures) ∙ at-g .g .given .1 in
+    let part = at-delete-in .delete-in .last .1 .1 .1 .0 in
+    let l = at-delete-in .delete-in .kept .1 .1 .1 .0 ∙ length-take-le _ (a .table .now) (sized-of (a .size) (a .pages) _ _ _ f .room) in
+    let e = deleted (a .size) (a .pages) (a .image .now) (a .table .now) (a .path .now) _ f part l (λ i. c .slice-known4 .given i .fits) (at-delete-in .delete-in .result) _ (at-delete-in .delete-in .ensures) in
     (e, delete-is (a .size) (a .pages) (a .image .now) (a .table .now) (a .path .now) (λ i. at-slice-known .slice-known .given i .fits) (at-delete-in .delete-in .result) _ _ e)
 
 pub delete-spec : {M : Type 1} → statement M
 delete-spec =
     tie.close
-    (tie.spec (λ c κs. search needs) (λ c. search needs) (λ c. search needs) slice-relend-prefix-delete-in slice-aggregate-delete-in delete-in-requires returns (λ c. search needs)
+    (tie.spec (λ c κs. search needs) (λ c. search needs) (λ c. search needs) mul-end slice-relend-prefix-delete-in slice-aggregate-delete-in delete-in-requires returns (λ c. search needs)
     (λ c. search needs) returns-2)

@@ -1,4 +1,5 @@
 -- Each refusal in its place; the file that is found is unlinked.
+use Rattle.owners.specs.Records.{recordsOf}
 use Rattle.directory.proofs.ExtensionLaws.{top-set, top-clear}
 use Rattle.delete.proofs.PathDelete.{malformed, nowhere, absent, read-only, can-delete, done}
 use borrow.Author.Needs.{needs}
@@ -19,7 +20,7 @@ returns c =
     let start = at-find-file .before .before .before .before .before in
     let a = start .args in
     let x = top-set _ _ (at-extension-of .extension-of .ensures) (c .if1 .taken) in
-    read-only (a .g) (a .image .now) (a .table .now) (a .path .now) (start .pre .1 .1) _ (at-find-file .find-file .ensures) (a .budget) _ _ (at-slot .slot .given .1) x
+    read-only (a .g) (a .image .now) (recordsOf (a .table .now)) (a .path .now) (start .pre .1 .1) _ (at-find-file .find-file .ensures) (a .budget) _ _ (at-slot .slot .given .1) x
 
 unlink-requires : tie.Need-unlink-requires
 unlink-requires c κs =
@@ -28,28 +29,28 @@ unlink-requires c κs =
     let start = at-find-file .before .before .before .before .before in
     let a = start .args in
     let p = start .pre in
-    (p .0, (p .1 .0, can-delete (a .g) (a .image .now) (a .table .now) (a .path .now) (p .1 .1) _ (at-find-file .find-file .ensures) (a .budget) _ _ (at-slot .slot .given .1), p .1 .2))
+    (p .0, (p .1 .0, can-delete (a .g) (a .image .now) (recordsOf (a .table .now)) (a .path .now) (p .1 .1) _ (at-find-file .find-file .ensures) (a .budget) _ _ (at-slot .slot .given .1), p .1 .2))
 
 returns-2 : tie.Need-returns-2
 returns-2 c =
     let at-find-file = c .before .before in
     let start = at-find-file .before .before .before .before .before in
     let a = start .args in
-    malformed (a .g) (a .image .now) (a .table .now) (a .path .now) (start .pre .1 .1) _ (at-find-file .find-file .ensures) (a .budget) (c .enum-told .given .1)
+    malformed (a .g) (a .image .now) (recordsOf (a .table .now)) (a .path .now) (start .pre .1 .1) _ (at-find-file .find-file .ensures) (a .budget) (c .enum-told .given .1)
 
 returns-3 : tie.Need-returns-3
 returns-3 c =
     let at-find-file = c .before .before in
     let start = at-find-file .before .before .before .before .before in
     let a = start .args in
-    nowhere (a .g) (a .image .now) (a .table .now) (a .path .now) (start .pre .1 .1) _ (at-find-file .find-file .ensures) (a .budget) (c .enum-told2 .given .1)
+    nowhere (a .g) (a .image .now) (recordsOf (a .table .now)) (a .path .now) (start .pre .1 .1) _ (at-find-file .find-file .ensures) (a .budget) (c .enum-told2 .given .1)
 
 returns-4 : tie.Need-returns-4
 returns-4 c =
     let at-find-file = c .before .before in
     let start = at-find-file .before .before .before .before .before in
     let a = start .args in
-    absent (a .g) (a .image .now) (a .table .now) (a .path .now) (start .pre .1 .1) _ (at-find-file .find-file .ensures) (a .budget) _ _ _ (c .enum-told3 .given .1)
+    absent (a .g) (a .image .now) (recordsOf (a .table .now)) (a .path .now) (start .pre .1 .1) _ (at-find-file .find-file .ensures) (a .budget) _ _ _ (c .enum-told3 .given .1)
 
 returns-5 : tie.Need-returns-5
 returns-5 c =
@@ -61,7 +62,7 @@ returns-5 c =
     let start = at-find-file .before .before .before .before .before in
     let a = start .args in
     let x = top-clear _ _ (at-extension-of .extension-of .ensures) (at-if1 .if1 .left) in
-    done (a .g) (a .image .now) (a .table .now) (a .path .now) (start .pre .1 .1) _ (at-find-file .find-file .ensures) (a .budget) _ _ (at-slot .slot .given .1) x _ _ (at-unlink .unlink .ensures)
+    done (a .g) (a .image .now) (recordsOf (a .table .now)) (a .path .now) (start .pre .1 .1) _ (at-find-file .find-file .ensures) (a .budget) _ _ (at-slot .slot .given .1) x _ _ (at-unlink .unlink .ensures)
 
 pub delete-path-spec : {M : Type 1} → statement M
 delete-path-spec =

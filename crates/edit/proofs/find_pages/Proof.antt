@@ -1,5 +1,6 @@
 -- Room for all pages; then the first free page, and, if one joins, the next.
 use native.Mathlib.Omega.{arith}
+use Rattle.owners.specs.RecordLaws.{length-records}
 use Rattle.edit.proofs.Taking.{too-few, first-inside, none-joins, one-joins}
 use borrow.Author.Needs.{needs}
 use Rattle.edit.proofs.find_pages.Statement.{statement}
@@ -19,7 +20,7 @@ add-next-free c =
     let at-below = at-next-free .before .before in
     let at-find-room = at-below .before .before in
     let start = at-find-room .before .before in
-    omega (arith, first-inside _ (start .args .extra) (start .args .pages) (start .pre .1) _ (at-find-room .find-room .ensures) _ (at-below .below .given .1) _ (at-next-free .next-free .ensures))
+    omega (arith, length-records (start .args .table .now), first-inside _ (start .args .extra) (start .args .pages) (start .pre .1) _ (at-find-room .find-room .ensures) _ (at-below .below .given .1) _ (at-next-free .next-free .ensures))
 
 returns-2 : tie.Need-returns-2
 returns-2 c =

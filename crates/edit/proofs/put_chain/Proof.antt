@@ -1,6 +1,7 @@
 -- The chain is stored; unless a write was held back, the entry is put together in an array and entered.
 use mathlib.Core.Path.{sym, _∙_}
 use native.Mathlib.Omega.{arith}
+use Rattle.owners.specs.Records.{recordsOf}
 use Rattle.packet.proofs.Fronts.{zeros-front, front-room, front-size, front-read}
 use Rattle.edit.proofs.Entries.{entry-length, size-is}
 use Rattle.edit.proofs.Carrying.{has-room, carry-stop, carry-fit, carry-can, carry-done}
@@ -13,14 +14,14 @@ store-chain-requires c κs =
     let start = c .before .before .before .before in
     let a = start .args in
     let p = start .pre in
-    (p .0, (p .1 .0, has-room (a .g) (a .image .now) (a .table .now) (a .bytes .now) (a .change) (a .e) (a .budget) (p .1 .2) (p .1 .1), p .1 .2))
+    (p .0, (p .1 .0, has-room (a .g) (a .image .now) (recordsOf (a .table .now)) (a .bytes .now) (a .change) (a .e) (a .budget) (p .1 .2) (p .1 .1), p .1 .2))
 
 returns : tie.Need-returns
 returns c =
     let at-store = c .before .before .before in
     let start = at-store .before .before .before .before .before in
     let a = start .args in
-    λ P. carry-stop (a .g) (a .image .now) (a .table .now) (a .bytes .now) (a .change) (a .e) (a .budget) (start .pre .1 .2) P _ _ (at-store .store-chain .ensures) (c .if1 .taken)
+    λ P. carry-stop (a .g) (a .image .now) (recordsOf (a .table .now)) (a .bytes .now) (a .change) (a .e) (a .budget) (start .pre .1 .2) P _ _ (at-store .store-chain .ensures) (c .if1 .taken)
 
 slice-aggregate-put-entry : tie.Need-slice-aggregate-put-entry
 slice-aggregate-put-entry c =
@@ -62,9 +63,9 @@ change-pages-requires c κs =
     let a = start .args in
     let p = start .pre .1 in
     let n = front-read _ _ _ _ (at-put-entry .put-entry .ensures) (entry-length (a .g) (a .e) _ (at-entry-size .entry-size .ensures .0)) in (
-      carry-fit (a .g) (a .image .now) (a .table .now) (a .bytes .now) (a .change) (a .e) (a .budget) (p .2) (p .1) _ _ (at-store .store-chain .ensures) (at-if1 .if1 .left),
+      carry-fit (a .g) (a .image .now) (recordsOf (a .table .now)) (a .bytes .now) (a .change) (a .e) (a .budget) (p .2) (p .1) _ _ (at-store .store-chain .ensures) (at-if1 .if1 .left),
       (
-        carry-can (a .g) (a .image .now) (a .table .now) (a .bytes .now) (a .change) (a .e) (a .budget) (p .2) (p .1) _ _ (at-store .store-chain .ensures) (at-if1 .if1 .left) _ n,
+        carry-can (a .g) (a .image .now) (recordsOf (a .table .now)) (a .bytes .now) (a .change) (a .e) (a .budget) (p .2) (p .1) _ _ (at-store .store-chain .ensures) (at-if1 .if1 .left) _ n,
         at-if1 .if1 .left,
       ),
     )
@@ -79,7 +80,7 @@ returns-2 c =
     let start = at-store .before .before .before .before .before in
     let a = start .args in
     let n = front-read _ _ _ _ (at-put-entry .put-entry .ensures) (entry-length (a .g) (a .e) _ (at-entry-size .entry-size .ensures .0)) in
-    λ P. carry-done (a .g) (a .image .now) (a .table .now) (a .bytes .now) (a .change) (a .e) (a .budget) (start .pre .1 .2) P _ _ (at-store .store-chain .ensures) (at-if1 .if1 .left) _ n _ _
+    λ P. carry-done (a .g) (a .image .now) (recordsOf (a .table .now)) (a .bytes .now) (a .change) (a .e) (a .budget) (start .pre .1 .2) P _ _ (at-store .store-chain .ensures) (at-if1 .if1 .left) _ n _ _
     (at-change-pages .change-pages .ensures)
 
 pub put-chain-spec : {M : Type 1} → statement M

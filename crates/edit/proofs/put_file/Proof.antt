@@ -3,6 +3,8 @@ use mathlib.Core.Path.{ap, _∙_}
 use Prim.Native.Nat.{ℕ}
 use native.Mathlib.Omega.{arith}
 use lib.ListN.{length}
+use Rattle.owners.specs.RecordLaws.{length-exact}
+use Rattle.owners.specs.Records.{recordsOf}
 use Rattle.rules.specs.Chain.{pagesFor}
 use Rattle.editing_theorems.specs.Capacity.{capacity-least}
 use Rattle.edit.specs.FilePlans.{pages-fit, one-extra}
@@ -28,7 +30,7 @@ find-pages-requires c κs =
     let a = start .args in
     let p = start .pre in
     let n = c .pages-for .ensures ∙ ap (λ (x : ℕ). pagesFor x (length (a .bytes .now))) (at-data-capacity .data-capacity .ensures) in
-    let x = one-extra (p .1 .0) (p .1 .1) in
+    let x = one-extra (length-exact _ _ (p .1 .0)) (p .1 .1) in
     (omega (arith, x), omega (arith, n), omega (arith, n, x, pages-fit (a .g) (p .0 .valid) (length (a .bytes .now)) 1 (omega arith) (omega arith)))
 
 put-entry-requires : tie.Need-put-entry-requires
@@ -41,7 +43,7 @@ put-entry-requires c κs =
     let a = start .args in
     let p = start .pre in
     let n = at-pages-for .pages-for .ensures ∙ ap (λ (x : ℕ). pagesFor x (length (a .bytes .now))) (at-data-capacity .data-capacity .ensures) in
-    (p .0, (p .1 .0, plan-is (a .g) (a .image .now) (a .table .now) (a .bytes .now) (p .1 .0) (a .file) (p .1 .1) n (at-find-pages .find-pages .ensures) (at-taken .taken .given .1), p .1 .2))
+    (p .0, (p .1 .0, plan-is (a .g) (a .image .now) (recordsOf (a .table .now)) (a .bytes .now) (length-exact _ _ (p .1 .0)) (a .file) (p .1 .1) n (at-find-pages .find-pages .ensures) (at-taken .taken .given .1), p .1 .2))
 
 returns : tie.Need-returns
 returns c =
@@ -55,8 +57,8 @@ returns c =
     let p = start .pre .1 in
     let n = at-pages-for .pages-for .ensures ∙ ap (λ (x : ℕ). pagesFor x (length (a .bytes .now))) (at-data-capacity .data-capacity .ensures) in
     λ P.
-    let h = at-put-entry .put-entry .ensures (plan-is (a .g) (a .image .now) (a .table .now) (a .bytes .now) (p .0) (a .file) P n (at-find-pages .find-pages .ensures) (at-taken .taken .given .1)) in
-    put-stop (a .g) (a .image .now) (a .table .now) (a .bytes .now) (p .0) (a .file) P n (at-find-pages .find-pages .ensures) (at-taken .taken .given .1) (a .budget) (p .2) _ _ h (c .if1 .taken)
+    let h = at-put-entry .put-entry .ensures (plan-is (a .g) (a .image .now) (recordsOf (a .table .now)) (a .bytes .now) (length-exact _ _ (p .0)) (a .file) P n (at-find-pages .find-pages .ensures) (at-taken .taken .given .1)) in
+    put-stop (a .g) (a .image .now) (recordsOf (a .table .now)) (a .bytes .now) (length-exact _ _ (p .0)) (a .file) P n (at-find-pages .find-pages .ensures) (at-taken .taken .given .1) (a .budget) (p .2) _ _ h (c .if1 .taken)
 
 write-map-requires : tie.Need-write-map-requires
 write-map-requires c κs =
@@ -70,8 +72,9 @@ write-map-requires c κs =
     let a = start .args in
     let p = start .pre .1 in
     let n = at-pages-for .pages-for .ensures ∙ ap (λ (x : ℕ). pagesFor x (length (a .bytes .now))) (at-data-capacity .data-capacity .ensures) in
-    let h = at-put-entry .put-entry .ensures (plan-is (a .g) (a .image .now) (a .table .now) (a .bytes .now) (p .0) (a .file) (p .1) n (at-find-pages .find-pages .ensures) (at-taken .taken .given .1)) in
-    let k = put-fit (a .g) (a .image .now) (a .table .now) (a .bytes .now) (p .0) (a .file) (p .1) n (at-find-pages .find-pages .ensures) (at-taken .taken .given .1) (a .budget) (p .2) _ _ h (at-if1 .if1 .left) in
+    let h = at-put-entry .put-entry .ensures (plan-is (a .g) (a .image .now) (recordsOf (a .table .now)) (a .bytes .now) (length-exact _ _ (p .0)) (a .file) (p .1) n (at-find-pages .find-pages .ensures) (at-taken .taken .given .1)) in
+    let k = put-fit (a .g) (a .image .now) (recordsOf (a .table .now)) (a .bytes .now) (length-exact _ _ (p .0)) (a .file) (p .1) n (at-find-pages .find-pages .ensures) (at-taken .taken .given .1)
+    (a .budget) (p .2) _ _ h (at-if1 .if1 .left) in
     (k .0, (k .1, at-if1 .if1 .left))
 
 returns-2 : tie.Need-returns-2
@@ -82,7 +85,7 @@ returns-2 c =
     let start = at-data-capacity .before .before .before .before in
     let a = start .args in
     let n = at-pages-for .pages-for .ensures ∙ ap (λ (x : ℕ). pagesFor x (length (a .bytes .now))) (at-data-capacity .data-capacity .ensures) in
-    λ P. put-full (a .g) (a .image .now) (a .table .now) (a .bytes .now) (start .pre .1 .0) (a .file) P _ n _ (at-find-pages .find-pages .ensures) (c .enum-told .given .1) (a .budget)
+    λ P. put-full (a .g) (a .image .now) (recordsOf (a .table .now)) (a .bytes .now) (length-exact _ _ (start .pre .1 .0)) (a .file) P _ n _ (at-find-pages .find-pages .ensures) (c .enum-told .given .1) (a .budget)
 
 returns-3 : tie.Need-returns-3
 returns-3 c =
@@ -98,8 +101,8 @@ returns-3 c =
     let p = start .pre .1 in
     let n = at-pages-for .pages-for .ensures ∙ ap (λ (x : ℕ). pagesFor x (length (a .bytes .now))) (at-data-capacity .data-capacity .ensures) in
     λ P.
-    let h = at-put-entry .put-entry .ensures (plan-is (a .g) (a .image .now) (a .table .now) (a .bytes .now) (p .0) (a .file) P n (at-find-pages .find-pages .ensures) (at-taken .taken .given .1)) in
-    put-done (a .g) (a .image .now) (a .table .now) (a .bytes .now) (p .0) (a .file) P n (at-find-pages .find-pages .ensures) (at-taken .taken .given .1)
+    let h = at-put-entry .put-entry .ensures (plan-is (a .g) (a .image .now) (recordsOf (a .table .now)) (a .bytes .now) (length-exact _ _ (p .0)) (a .file) P n (at-find-pages .find-pages .ensures) (at-taken .taken .given .1)) in
+    put-done (a .g) (a .image .now) (recordsOf (a .table .now)) (a .bytes .now) (length-exact _ _ (p .0)) (a .file) P n (at-find-pages .find-pages .ensures) (at-taken .taken .given .1)
     (a .budget) (p .2) _ _ h (at-if1 .if1 .left) _ _ (at-write-map .write-map .ensures)
 
 pub put-file-spec : {M : Type 1} → statement M

@@ -3,6 +3,8 @@ use mathlib.Core.Path.{_≡_, refl, ap, sym, _∙_}
 use mathlib.Core.List.{List}
 use native.Mathlib.Omega.{arith}
 use Prim.Native.Nat.{ℕ}
+use Rattle.rules.specs.Owners.{OwnerRecord}
+use Rattle.owners.specs.Records.{recordsOf}
 use Rattle.geometry.specs.declared.Geometry.{Geometry}
 use Rattle.packet.specs.Packet.{View}
 use Rattle.rules.specs.Chain.{Link, pages}
@@ -13,7 +15,7 @@ use borrow.Author.Needs.{needs}
 use Rattle.edit.proofs.release_old.Statement.{statement}
 use Rattle.edit.proofs.release_old.Tie as tie
 
-released : (g : Geometry) (v : View) (start : ℕ) (before after : List ℕ) → Releases g v start before after → (ls : List Link) → ChainAt g v start ls → after ≡ freed (pages ls) before
+released : (g : Geometry) (v : View) (start : ℕ) (before after : List OwnerRecord) → Releases g v start before after → (ls : List Link) → ChainAt g v start ls → after ≡ freed (pages ls) before
 unfolding Releases
 released g v start before after h = h
 
@@ -30,7 +32,7 @@ returns c =
     λ ls o. released _ _ _ _ _ (at-release .release-chain .ensures) ls (o .chain (at-if1 .if1 .taken))
 
 returns-2 : tie.Need-returns-2
-returns-2 c = λ ls o. sym (ap (λ (l : List Link). freed (pages l) (c .before .before .before .before .args .table .now)) (o .none (omega (arith, c .if1 .left))))
+returns-2 c = λ ls o. sym (ap (λ (l : List Link). freed (pages l) (recordsOf (c .before .before .before .before .args .table .now))) (o .none (omega (arith, c .if1 .left))))
 
 pub release-old-spec : {M : Type 1} → statement M
 release-old-spec =

@@ -1,5 +1,6 @@
 -- The entry's page is written without it; unless a write was held back, the bitmap follows.
 use native.Mathlib.Omega.{arith}
+use Rattle.owners.specs.Records.{recordsOf}
 use Rattle.edit.proofs.Removing.{remove-can, remove-stop, remove-fit, remove-done}
 use borrow.Author.Needs.{needs}
 use Rattle.edit.proofs.remove_entry.Statement.{statement}
@@ -10,14 +11,14 @@ change-pages-requires c κs =
     let start = c .before .before .before .before .before in
     let a = start .args in
     let p = start .pre in
-    (p .0, (remove-can (a .g) (a .image .now) (a .table .now) (a .slot) (a .budget) (p .1 .2) (p .1 .0), p .1 .2))
+    (p .0, (remove-can (a .g) (a .image .now) (recordsOf (a .table .now)) (a .slot) (a .budget) (p .1 .2) (p .1 .0), p .1 .2))
 
 returns : tie.Need-returns
 returns c =
     let at-change-pages = c .before .before .before in
     let start = at-change-pages .before .before .before .before .before .before in
     let a = start .args in
-    λ R. remove-stop (a .g) (a .image .now) (a .table .now) (a .slot) (a .budget) (start .pre .1 .2) R _ _ (at-change-pages .change-pages .ensures) (c .if1 .taken)
+    λ R. remove-stop (a .g) (a .image .now) (recordsOf (a .table .now)) (a .slot) (a .budget) (start .pre .1 .2) R _ _ (at-change-pages .change-pages .ensures) (c .if1 .taken)
 
 write-map-requires : tie.Need-write-map-requires
 write-map-requires c κs =
@@ -26,7 +27,7 @@ write-map-requires c κs =
     let start = at-change-pages .before .before .before .before .before .before in
     let a = start .args in
     let p = start .pre .1 in
-    let k = remove-fit (a .g) (a .image .now) (a .table .now) (a .slot) (a .budget) (p .2) (p .0) _ _ (at-change-pages .change-pages .ensures) (at-if1 .if1 .left) in
+    let k = remove-fit (a .g) (a .image .now) (recordsOf (a .table .now)) (a .slot) (a .budget) (p .2) (p .0) _ _ (at-change-pages .change-pages .ensures) (at-if1 .if1 .left) in
     (k .0, (k .1, at-if1 .if1 .left))
 
 returns-2 : tie.Need-returns-2
@@ -36,7 +37,7 @@ returns-2 c =
     let at-change-pages = at-if1 .before .before .before in
     let start = at-change-pages .before .before .before .before .before .before in
     let a = start .args in
-    λ R. remove-done (a .g) (a .image .now) (a .table .now) (a .slot) (a .budget) (start .pre .1 .2) R _ _ (at-change-pages .change-pages .ensures) (at-if1 .if1 .left) _ _
+    λ R. remove-done (a .g) (a .image .now) (recordsOf (a .table .now)) (a .slot) (a .budget) (start .pre .1 .2) R _ _ (at-change-pages .change-pages .ensures) (at-if1 .if1 .left) _ _
     (at-write-map .write-map .ensures)
 
 pub remove-entry-spec : {M : Type 1} → statement M

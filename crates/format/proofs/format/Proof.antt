@@ -1,6 +1,7 @@
--- Refusal 1 changes nothing. Else the image and the first N numbers of the table are left by `format_in`, the numbers behind them stay: that is `formatCall`.
+-- Refusal 1 changes nothing. Else the image and the first N records of the table are left by `format_in`, the bytes behind them stay: that is `formatCall`.
 -- `Formats` holds of whatever `formatCall` answers, as the image has bytes only.
 use mathlib.Core.Path.{sym, _∙_}
+use native.Mathlib.Omega.{arith}
 use lib.Seq.{length-take-le}
 use Rattle.geometry.specs.ShapeLaws.{sized-of, fit-of}
 use Rattle.rules.specs.CallLaws.{format-invalid}
@@ -10,9 +11,17 @@ use borrow.Author.Needs.{needs}
 use Rattle.format.proofs.format.Statement.{statement}
 use Rattle.format.proofs.format.Tie as tie
 
+mul-end : tie.Need-mul-end
+mul-end c =
+    let at-g = c .before .before in
+    let at-new = at-g .before .before in
+    let start = at-new .before .before .before in
+    let a = start .args in
+    omega (arith, sized-of (a .size) (a .pages) _ _ _ (sym (at-new .new .ensures) ∙ at-g .g .given .1) .valid .few)
+
 slice-relend-prefix-format-in : tie.Need-slice-relend-prefix-format-in
 slice-relend-prefix-format-in c =
-    let at-g = c .before .before in
+    let at-g = c .before .before .before in
     let at-new = at-g .before .before in
     let start = at-new .before .before .before in
     let a = start .args in
@@ -20,7 +29,7 @@ slice-relend-prefix-format-in c =
 
 slice-aggregate-format-in : tie.Need-slice-aggregate-format-in
 slice-aggregate-format-in c =
-    let at-g = c .before .before .before in
+    let at-g = c .before .before .before .before in
     let at-new = at-g .before .before in
     let start = at-new .before .before .before in
     let a = start .args in
@@ -28,7 +37,7 @@ slice-aggregate-format-in c =
 
 format-in-requires : tie.Need-format-in-requires
 format-in-requires c κs =
-    let at-g = c .before .before .before in
+    let at-g = c .before .before .before .before in
     let at-new = at-g .before .before in
     let start = at-new .before .before .before in
     let a = start .args in
@@ -47,13 +56,16 @@ returns c =
 returns-2 : tie.Need-returns-2
 returns-2 c =
     let at-format-in = c .before .before .before .before in
-    let at-g = at-format-in .before .before .before .before in
+    let at-g = at-format-in .before .before .before .before .before in
     let at-new = at-g .before .before in
     let at-slice-known = at-new .before .before in
     let start = at-slice-known .before in
     let a = start .args in
-    let e = format-leaves (a .size) (a .pages) (a .image .now) (a .table .now) _ (sym (at-new .new .ensures) ∙ at-g .g .given .1) (a .local) (at-format-in .format-in .result)
-    (at-format-in .format-in .last .0) (at-format-in .format-in .last .1 .1 .0) (at-format-in .format-in .ensures) in (
+    let f = sym (at-new .new .ensures) ∙ at-g .g .given .1 in
+    let part = at-format-in .format-in .last .1 .1 .0 in
+    let l = at-format-in .format-in .kept .1 .1 .0 ∙ length-take-le _ (a .table .now) (sized-of (a .size) (a .pages) _ _ _ f .room) in
+    let e = format-leaves (a .size) (a .pages) (a .image .now) (a .table .now) _ f part l (λ i. c .slice-known4 .given i .fits) (a .local)
+    (at-format-in .format-in .result) (at-format-in .format-in .last .0) (at-format-in .format-in .ensures) in (
       e,
       format-is (a .size) (a .pages) (a .image .now) (a .table .now) (λ i. at-slice-known .slice-known .given i .fits) (a .local) (at-format-in .format-in .result)
           (at-format-in .format-in .last .0) _ e,
@@ -62,5 +74,5 @@ returns-2 c =
 pub format-spec : {M : Type 1} → statement M
 format-spec =
     tie.close
-    (tie.spec (λ c κs. search needs) (λ c. search needs) (λ c. search needs) slice-relend-prefix-format-in slice-aggregate-format-in format-in-requires returns (λ c. search needs)
+    (tie.spec (λ c κs. search needs) (λ c. search needs) (λ c. search needs) mul-end slice-relend-prefix-format-in slice-aggregate-format-in format-in-requires returns (λ c. search needs)
     (λ c. search needs) returns-2)

@@ -2,13 +2,14 @@
 use mathlib.Core.Path.{_≡_, refl, _∙_}
 use native.Mathlib.Omega.{arith}
 use lib.ListN.{length}
+use Rattle.owners.specs.Records.{recordsOf}
 use Rattle.format.proofs.Bits.{Held, held-first, some-capacity, held-asks, held-on, held-last}
 use borrow.Author.Needs.{needs}
 use Rattle.format.proofs.write_bits.Statement.{statement}
 use Rattle.format.proofs.write_bits.Tie as tie
 
 abbrev Inv-loop : tie.InvT-loop
-Inv-loop image₀ g table below capacity left₀ page₀ done₀ image left page done = (length image ≡ length image₀) × Held g table below image₀ image capacity page done left
+Inv-loop image₀ g table below capacity left₀ page₀ done₀ image left page done = (length image ≡ length image₀) × Held g (recordsOf table) below image₀ image capacity page done left
 
 abbrev μ-loop : tie.MeasureT-loop
 μ-loop image₀ g table below capacity left₀ page₀ done₀ image left page done = left
@@ -26,7 +27,7 @@ loop-holds c =
     let at-data-capacity = c .before in
     let start = at-data-capacity .before .before .before in (
       refl,
-      held-first (start .args .g) (start .args .table .now) (start .args .below) (start .args .image .now) (at-data-capacity .data-capacity .result) (c .bitmap-size .result) (start .pre)
+      held-first (start .args .g) (recordsOf (start .args .table .now)) (start .args .below) (start .args .image .now) (at-data-capacity .data-capacity .result) (c .bitmap-size .result) (start .pre)
           (at-data-capacity .data-capacity .ensures) (c .bitmap-size .ensures),
     )
 

@@ -1,6 +1,7 @@
 -- A page of the bitmap file has at most the data capacity of bytes, no more than the array's 252; the marks fill the array's front, and that front is what the page gets.
 use mathlib.Core.Path.{sym}
 use native.Mathlib.Omega.{arith}
+use Rattle.owners.specs.Records.{recordsOf}
 use Rattle.marks.specs.MarkLaws.{length-marks}
 use Rattle.packet.proofs.Fronts.{zeros-front, front-room, front-size, front-written}
 use Rattle.format.proofs.Fields.{front-fits, capacity-most, marks-front}
@@ -27,14 +28,14 @@ array-share-prefix-bytes c =
     let at-fill = c .before .before in
     let start = at-fill .before .before .before .before in
     let h = capacity-most (start .args .g) (start .pre .0 .valid) _ (start .pre .1 .1) in
-    front-room _ _ _ _ (marks-front (start .args .table .now) _ _ _ (start .args .size) 252 h (at-fill .fill .ensures)) (length-marks (start .args .table .now) _ _ _)
+    front-room _ _ _ _ (marks-front (recordsOf (start .args .table .now)) _ _ _ (start .args .size) 252 h (at-fill .fill .ensures)) (length-marks (recordsOf (start .args .table .now)) _ _ _)
 
 slice-aggregate-write-page : tie.Need-slice-aggregate-write-page
 slice-aggregate-write-page c =
     let at-fill = c .before .before .before in
     let start = at-fill .before .before .before .before in
     let h = capacity-most (start .args .g) (start .pre .0 .valid) _ (start .pre .1 .1) in
-    front-size _ _ _ _ (marks-front (start .args .table .now) _ _ _ (start .args .size) 252 h (at-fill .fill .ensures)) (length-marks (start .args .table .now) _ _ _)
+    front-size _ _ _ _ (marks-front (recordsOf (start .args .table .now)) _ _ _ (start .args .size) 252 h (at-fill .fill .ensures)) (length-marks (recordsOf (start .args .table .now)) _ _ _)
 
 write-page-requires : tie.Need-write-page-requires
 write-page-requires c κs =
@@ -44,7 +45,7 @@ write-page-requires c κs =
       start .pre .0,
       (
         start .pre .1 .0,
-        front-fits _ _ _ _ (marks-front (start .args .table .now) _ _ _ (start .args .size) 252 h (at-fill .fill .ensures)) (length-marks (start .args .table .now) _ _ _)
+        front-fits _ _ _ _ (marks-front (recordsOf (start .args .table .now)) _ _ _ (start .args .size) 252 h (at-fill .fill .ensures)) (length-marks (recordsOf (start .args .table .now)) _ _ _)
             (start .args .g) (start .pre .0 .valid) (start .pre .1 .1),
       ),
     )
@@ -55,7 +56,7 @@ returns c =
     let at-fill = at-write-page .before .before .before .before in
     let start = at-fill .before .before .before .before in
     let h = capacity-most (start .args .g) (start .pre .0 .valid) _ (start .pre .1 .1) in
-    front-written _ _ _ _ (marks-front (start .args .table .now) _ _ _ (start .args .size) 252 h (at-fill .fill .ensures)) (length-marks (start .args .table .now) _ _ _) (start .args .g) _ _ _ _
+    front-written _ _ _ _ (marks-front (recordsOf (start .args .table .now)) _ _ _ (start .args .size) 252 h (at-fill .fill .ensures)) (length-marks (recordsOf (start .args .table .now)) _ _ _) (start .args .g) _ _ _ _
     (at-write-page .write-page .ensures)
 
 pub write-bytes-spec : {M : Type 1} → statement M

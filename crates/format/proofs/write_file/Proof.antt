@@ -1,6 +1,7 @@
 -- The root's page, then the bitmap file's pages; the table has no owner, so the pages below the bound alone are marked.
 use native.Mathlib.Omega.{arith}
 use lib.ListN.{length}
+use Rattle.owners.specs.RecordLaws.{empty-zero}
 use Rattle.editing_theorems.specs.Capacity.{capacity-least}
 use Rattle.format.proofs.Bits.{count-is, count-below}
 use Rattle.format.proofs.Emptying.{file-emptied}
@@ -24,7 +25,7 @@ add-write-bits c =
     let start = at-bitmap-size .before .before .before in
     let a = start .args in
     let p = start .pre in
-    omega (arith, count-below (a .g) (p .0 .valid) _ _ (at-bitmap-size .bitmap-size .ensures) (at-data-capacity .data-capacity .ensures) _ (a .table .now) (at-pages-for .pages-for .ensures) (p .1), p .1, p .0 .valid .few)
+    omega (arith, count-below (a .g) (p .0 .valid) _ _ (at-bitmap-size .bitmap-size .ensures) (at-data-capacity .data-capacity .ensures) _ (at-pages-for .pages-for .ensures), p .0 .valid .few)
 
 returns : tie.Need-returns
 returns c =
@@ -40,7 +41,7 @@ returns c =
     let p = start .pre in
     file-emptied (a .g) (p .0 .valid) (a .image .now) (at-write-root .write-root .last .0) _ _ _ _ _
     (count-is (a .g) (p .0 .valid) _ _ (at-bitmap-size .bitmap-size .ensures) (at-data-capacity .data-capacity .ensures) _ (at-pages-for .pages-for .ensures))
-    (new-marks _ (length (a .table .now)) _ (at-clear .clear .ensures)) (at-fill-place .fill-place .ensures) (at-write-root .write-root .ensures) (at-write-bits .write-bits .ensures)
+    (new-marks _ (a .g .pages) _ (empty-zero (a .g .pages) (a .table .now) _ (p .1) (at-clear .clear .ensures) .free)) (at-fill-place .fill-place .ensures) (at-write-root .write-root .ensures) (at-write-bits .write-bits .ensures)
 
 pub write-file-spec : {M : Type 1} → statement M
 write-file-spec =

@@ -1,4 +1,5 @@
 -- The lower four bits, and sixteen times the upper four: together the rule's byte, below 256.
+use Rattle.owners.specs.Records.{recordsOf}
 use Rattle.marks.proofs.Filling.{eight}
 use borrow.Author.Needs.{needs}
 use Rattle.marks.proofs.byte_of.Statement.{statement}
@@ -9,7 +10,7 @@ returns c =
     let at-four-bits = c .before in
     let start = at-four-bits .before .before in
     let a = start .args in
-    eight (a .table .now) (a .below) (a .k) _ _ (at-four-bits .four-bits .ensures .0) (c .four-bits2 .ensures .0)
+    eight (recordsOf (a .table .now)) (a .below) (a .k) _ _ (at-four-bits .four-bits .ensures .0) (c .four-bits2 .ensures .0)
 
 pub byte-of-spec : {M : Type 1} → statement M
 byte-of-spec =

@@ -4,6 +4,7 @@ use mathlib.Core.List.{List}
 use Prim.Native.Nat.{_-_}
 use native.Mathlib.Omega.{arith}
 use lib.ListN.{length}
+use Rattle.owners.specs.Records.{recordsOf}
 use Rattle.packet.specs.Packet.{viewOf}
 use Rattle.rules.specs.Chain.{Link}
 use Rattle.chain.proofs.Following.{never-refused, page-known, counts-up}
@@ -15,7 +16,7 @@ use Rattle.marks.proofs.write_pages.Tie as tie
 
 abbrev Inv-loop : tie.InvT-loop
 Inv-loop image₀ g start table below buffer₀ left₀ c₀ image buffer left c = (length image ≡ length image₀) × (length buffer ≡ length buffer₀)
-    × ((ls : List Link) → MapFileAt g (viewOf g image₀) start ls → Writing g table below (length ls) (fileWritten g table below ls image₀ left₀) image left c)
+    × ((ls : List Link) → MapFileAt g (viewOf g image₀) start ls → Writing g (recordsOf table) below (length ls) (fileWritten g (recordsOf table) below ls image₀ left₀) image left c)
 
 abbrev μ-loop : tie.MeasureT-loop
 μ-loop image₀ g start table below buffer₀ left₀ c₀ image buffer left c = g .pages - c .count

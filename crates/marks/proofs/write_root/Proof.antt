@@ -1,6 +1,7 @@
 -- Page 0's bytes in the buffer, the bitmap's four bytes put among them, then the page's write.
 use mathlib.Core.Path.{sym}
 use native.Mathlib.Omega.{arith}
+use Rattle.owners.specs.Records.{recordsOf}
 use Rattle.marks.specs.MapPages.{WritesLocal}
 use Rattle.marks.proofs.RootPage.{root-never, root-there, root-size, root-fits, root-written}
 use borrow.Author.Needs.{needs}
@@ -48,7 +49,7 @@ returns c =
     let at-slice-known = at-copy-root .before .before .before .before .before .before in
     let start = at-slice-known .before in
     let s = start .pre in
-    absurd (root-never _ _ (s .0) (start .args .table .now) 0 _ _ _ (at-copy-root .copy-root .ensures) _ _ _ (s .1 .1 .stands) (c .enum-told .given .1))
+    absurd (root-never _ _ (s .0) (recordsOf (start .args .table .now)) 0 _ _ _ (at-copy-root .copy-root .ensures) _ _ _ (s .1 .1 .stands) (c .enum-told .given .1))
 
 returns-2 : tie.Need-returns-2
 unfolding WritesLocal

@@ -1,36 +1,33 @@
--- As many numbers of the array are lent as the owner bytes have; `delete_over` gives `deleteAnswer`.
--- `Deletes` holds of the call over an image of bytes, and the answer's number is 0 exactly when the call is done.
+-- The library's delete, its answer told as numbers.
 use Rattle.geometry.specs.NumberLaws.{bytes-from}
-use mathlib.Core.Path.{sym, _∙_}
-use native.Mathlib.Omega.{arith}
-use Rattle.packet.proofs.Fronts.{zeros-front}
+use Rattle.rules.specs.Answers.{editResult}
+use Rattle.rules.specs.Calls.{deleteCall}
+use Rattle.answers.specs.ExportedAnswers.{answerFor, deleteAnswer}
+use Rattle.answers.proofs.CallLaws.{told-both}
+use Rattle.answers.proofs.SmallLaws.{delete-small}
 use Rattle.answers.proofs.TreeLaws.{deletes}
 use borrow.Author.Needs.{needs}
 use Rattle.owfs.proofs.owfs_delete.Statement.{statement}
 use Rattle.owfs.proofs.owfs_delete.Tie as tie
 
-slice-aggregate-delete-over : tie.Need-slice-aggregate-delete-over
-slice-aggregate-delete-over c = sym (zeros-front (c .before .before .count .result) 65535 (omega (arith, c .before .before .count .ensures)))
-
-delete-over-requires : tie.Need-delete-over-requires
-delete-over-requires c κs =
-    let at-count = c .before .before .before in
-    zeros-front (at-count .count .result) 65535 (omega (arith, at-count .count .ensures)) ∙ at-count .count .ensures
+tell-answer-requires : tie.Need-tell-answer-requires
+tell-answer-requires c κs =
+    let at-delete = c .before .before .before .before in
+    delete-small _ _ _ _ _ _ _ _ (at-delete .delete .ensures .0)
 
 returns : tie.Need-returns
+unfolding deleteAnswer
 returns c =
-    let at-delete-over = c .before .before .before .before .before in
-    let at-count = at-delete-over .before .before .before .before in
-    let at-slice-known = at-count .before .before .before in
-    let start = at-slice-known .before in
-    let a = start .args in (
-      at-delete-over .delete-over .ensures,
-      deletes (a .size) (a .pages) (a .image .now) (a .owners .now)
-          (bytes-from (a .image .now) (λ i. at-slice-known .slice-known .given i .fits)) (a .path .now) (at-delete-over .delete-over .result)
-          (at-delete-over .delete-over .last .1 .1 .0) _ (at-delete-over .delete-over .ensures),
-    )
+    let at-delete = c .before .before .before .before .before in
+    let at-image = at-delete .before .before .before .before .before in
+    let start = at-image .before in
+    let a = start .args in
+    let image-bytes = bytes-from (a .image .now) (λ i. at-image .slice-known .given i .fits) in
+    let call = deleteCall (a .size) (a .pages) (a .image .now) (a .owners .now) (a .path .now) in
+    let e = told-both answerFor (editResult (at-delete .delete .result)) (c .tell-answer .result) _ _ call (at-delete .delete .ensures .0) (c .tell-answer .ensures) in
+    (e, deletes (a .size) (a .pages) (a .image .now) (a .owners .now) image-bytes (a .path .now) (c .tell-answer .result) _ _ e)
 
 pub owfs-delete-spec : {M : Type 1} → statement M
 owfs-delete-spec =
     tie.close
-    (tie.spec (λ c κs. search needs) (λ c. search needs) slice-aggregate-delete-over delete-over-requires (λ c. search needs) (λ c. search needs) returns)
+    (tie.spec (λ c κs. search needs) tell-answer-requires (λ c. search needs) (λ c. search needs) returns)

@@ -1,36 +1,32 @@
--- As many numbers of the array are lent as the owner bytes have; `mend_over` gives `mendAnswer`.
--- `Mends` holds of the call over an image of bytes, and the answer's number is 0 exactly when the call is done.
+-- The library's mend: no more marks are cleared than a bitmap has, so their number fits 32 bits.
 use Rattle.geometry.specs.NumberLaws.{bytes-from}
-use mathlib.Core.Path.{sym, _∙_}
-use native.Mathlib.Omega.{arith}
-use Rattle.packet.proofs.Fronts.{zeros-front}
-use Rattle.answers.proofs.CarefulAnswers.{mends}
+use Rattle.rules.specs.Answers.{mendResult}
+use Rattle.rules.specs.Careful.{mendCall}
+use Rattle.answers.specs.ExportedAnswers.{mendedFor, mendAnswer}
+use Rattle.answers.proofs.CallLaws.{told-both}
+use Rattle.answers.proofs.CarefulAnswers.{mend-small, mends}
 use borrow.Author.Needs.{needs}
 use Rattle.owfs.proofs.owfs_mend.Statement.{statement}
 use Rattle.owfs.proofs.owfs_mend.Tie as tie
 
-slice-aggregate-mend-over : tie.Need-slice-aggregate-mend-over
-slice-aggregate-mend-over c = sym (zeros-front (c .before .before .count .result) 65535 (omega (arith, c .before .before .count .ensures)))
-
-mend-over-requires : tie.Need-mend-over-requires
-mend-over-requires c κs =
-    let at-count = c .before .before .before in
-    zeros-front (at-count .count .result) 65535 (omega (arith, at-count .count .ensures)) ∙ at-count .count .ensures
+tell-mended-requires : tie.Need-tell-mended-requires
+tell-mended-requires c κs =
+    let at-mend = c .before .before .before .before in
+    mend-small _ _ _ _ _ _ _ (at-mend .mend .ensures .0)
 
 returns : tie.Need-returns
+unfolding mendAnswer
 returns c =
-    let at-mend-over = c .before .before .before .before .before in
-    let at-count = at-mend-over .before .before .before .before in
-    let at-slice-known = at-count .before .before in
-    let start = at-slice-known .before in
-    let a = start .args in (
-      at-mend-over .mend-over .ensures,
-      mends (a .size) (a .pages) (a .image .now) (a .owners .now)
-          (bytes-from (a .image .now) (λ i. at-slice-known .slice-known .given i .fits)) (at-mend-over .mend-over .result)
-          (at-mend-over .mend-over .last .1 .1 .0) _ (at-mend-over .mend-over .ensures),
-    )
+    let at-mend = c .before .before .before .before .before in
+    let at-image = at-mend .before .before .before .before in
+    let start = at-image .before in
+    let a = start .args in
+    let image-bytes = bytes-from (a .image .now) (λ i. at-image .slice-known .given i .fits) in
+    let call = mendCall (a .size) (a .pages) (a .image .now) (a .owners .now) in
+    let e = told-both mendedFor (mendResult (at-mend .mend .result)) (c .tell-mended .result) _ _ call (at-mend .mend .ensures .0) (c .tell-mended .ensures) in
+    (e, mends (a .size) (a .pages) (a .image .now) (a .owners .now) image-bytes (c .tell-mended .result) _ _ e)
 
 pub owfs-mend-spec : {M : Type 1} → statement M
 owfs-mend-spec =
     tie.close
-    (tie.spec (λ c κs. search needs) (λ c. search needs) slice-aggregate-mend-over mend-over-requires (λ c. search needs) (λ c. search needs) returns)
+    (tie.spec (λ c κs. search needs) tell-mended-requires (λ c. search needs) (λ c. search needs) returns)

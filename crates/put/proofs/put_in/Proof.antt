@@ -1,5 +1,6 @@
 -- The check's fault first; else the put, and then the table of the image as it stands.
 use mathlib.Core.Path.{ap, _∙_}
+use Rattle.owners.specs.Records.{recordsOf}
 use Rattle.packet.specs.declared.Budget.{Budget}
 use Rattle.volume.proofs.EditLaws.{fit-same, fault-leaves, table-of}
 use Rattle.put.proofs.Calling.{put-fault}
@@ -15,7 +16,7 @@ put-path-requires c κs =
     let at-slice-known = at-check-table .before .before .before .before .before .before in
     let start = at-slice-known .before in
     let a = start .args in
-    let T = table-of (a .g) (a .image .now) (at-check-table .check-table .result) (at-check-table .check-table .last .1 .1 .0) (at-check-table .check-table .ensures)
+    let T = table-of (a .g) (a .image .now) (at-check-table .check-table .result) (recordsOf (at-check-table .check-table .last .1 .1 .0)) (at-check-table .check-table .ensures)
     (λ i. at-slice-known .slice-known .given i .fits) _ (at-enum-told .enum-told .given .1) in
     (start .pre .0, (at-check-table .check-table .kept .1 .1 .0 ∙ start .pre .1, T, ap (λ (x : Budget). x .stopped) (c .unlimited .ensures)))
 
@@ -36,7 +37,7 @@ returns c =
     let at-slice-known = at-check-table .before .before .before .before .before .before in
     let start = at-slice-known .before in
     let a = start .args in
-    fault-leaves (a .g) (a .image .now) (at-check-table .check-table .result) (at-check-table .check-table .last .1 .1 .0) (at-check-table .check-table .ensures) _
+    fault-leaves (a .g) (a .image .now) (at-check-table .check-table .result) (recordsOf (at-check-table .check-table .last .1 .1 .0)) (at-check-table .check-table .ensures) _
     (put-fault (a .g) (a .path .now) (a .bytes .now) (a .image .now)) _ _ (at-number .number .given .1)
 
 returns-2 : tie.Need-returns-2
@@ -52,7 +53,7 @@ returns-2 c =
     let at-slice-known = at-shared-slice-known .before in
     let start = at-slice-known .before in
     let a = start .args in
-    let T = table-of (a .g) (a .image .now) (at-check-table .check-table .result) (at-check-table .check-table .last .1 .1 .0) (at-check-table .check-table .ensures)
+    let T = table-of (a .g) (a .image .now) (at-check-table .check-table .result) (recordsOf (at-check-table .check-table .last .1 .1 .0)) (at-check-table .check-table .ensures)
     (λ i. at-slice-known .slice-known .given i .fits) _ (at-enum-told .enum-told .given .1) in
     record {
       answers = answer-done (a .g) (a .image .now) _ (a .path .now) (a .bytes .now) (start .pre .0) T
@@ -76,7 +77,7 @@ returns-3 c =
     let at-slice-known = at-shared-slice-known .before in
     let start = at-slice-known .before in
     let a = start .args in
-    let T = table-of (a .g) (a .image .now) (at-check-table .check-table .result) (at-check-table .check-table .last .1 .1 .0) (at-check-table .check-table .ensures)
+    let T = table-of (a .g) (a .image .now) (at-check-table .check-table .result) (recordsOf (at-check-table .check-table .last .1 .1 .0)) (at-check-table .check-table .ensures)
     (λ i. at-slice-known .slice-known .given i .fits) _ (at-enum-told .enum-told .given .1) in
     record {
       answers = answer-refused (a .g) (a .image .now) _ (a .path .now) (a .bytes .now) (start .pre .0) T

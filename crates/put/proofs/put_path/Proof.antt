@@ -1,5 +1,6 @@
 -- The file is put where it goes, once the chain that it replaces is free.
 use mathlib.Core.Path.{_∙_}
+use Rattle.owners.specs.Records.{recordsOf}
 use Rattle.put.proofs.PathPuts.{refused, has-old, to-put, put-at}
 use borrow.Author.Needs.{needs}
 use Rattle.put.proofs.put_path.Statement.{statement}
@@ -20,7 +21,7 @@ release-old-requires c κs =
     let start = at-path .before .before in
     let a = start .args in
     let p = start .pre in
-    let old = has-old (a .g) (a .image .now) (a .table .now) (a .path .now) (a .bytes .now) (p .0) (p .1 .1)
+    let old = has-old (a .g) (a .image .now) (recordsOf (a .table .now)) (a .path .now) (a .bytes .now) (p .0) (p .1 .1)
     (λ i. at-path .shared-slice-known .given i .fits) (λ i. at-bytes .shared-slice-known2 .given i .fits) _ (at-place-file .place-file .ensures) (a .budget) _ (at-file .file .given .1) in
     (p .0, (old, p .1 .0))
 
@@ -34,7 +35,7 @@ put-file-requires c κs =
     let start = at-path .before .before in
     let a = start .args in
     let p = start .pre in
-    let put = to-put (a .g) (a .image .now) (a .table .now) (a .path .now) (a .bytes .now) (p .0) (p .1 .1)
+    let put = to-put (a .g) (a .image .now) (recordsOf (a .table .now)) (a .path .now) (a .bytes .now) (p .0) (p .1 .1)
     (λ i. at-path .shared-slice-known .given i .fits) (λ i. at-bytes .shared-slice-known2 .given i .fits)
     _ (at-place-file .place-file .ensures) (a .budget) _ (at-file .file .given .1) _ (at-release .release-old .ensures) in
     (p .0, (at-release .release-old .kept .1 .1 .1 .0 ∙ p .1 .0, put, p .1 .2))
@@ -48,7 +49,7 @@ returns c =
     let start = at-path .before .before in
     let a = start .args in
     let p = start .pre in
-    refused (a .g) (a .image .now) (a .table .now) (a .path .now) (a .bytes .now) (p .0) (p .1 .1)
+    refused (a .g) (a .image .now) (recordsOf (a .table .now)) (a .path .now) (a .bytes .now) (p .0) (p .1 .1)
     (λ i. at-path .shared-slice-known .given i .fits) (λ i. at-bytes .shared-slice-known2 .given i .fits)
     _ (at-place-file .place-file .ensures) (a .budget) _ _ (at-number .number .given .1)
 
@@ -63,7 +64,7 @@ returns-2 c =
     let start = at-path .before .before in
     let a = start .args in
     let p = start .pre in
-    put-at (a .g) (a .image .now) (a .table .now) (a .path .now) (a .bytes .now) (p .0) (p .1 .1)
+    put-at (a .g) (a .image .now) (recordsOf (a .table .now)) (a .path .now) (a .bytes .now) (p .0) (p .1 .1)
     (λ i. at-path .shared-slice-known .given i .fits) (λ i. at-bytes .shared-slice-known2 .given i .fits)
     _ (at-place-file .place-file .ensures) (a .budget) _ (at-file .file .given .1) _ (at-release .release-old .ensures) _ (at-put-file .put-file .result) (at-put-file .put-file .ensures)
 

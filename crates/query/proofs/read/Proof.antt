@@ -1,6 +1,7 @@
 -- Refusal 1 touches neither output nor table, the check's refusal not the output; an image that is accepted has its path read. Each is a case of `readCall`.
 -- That answer and output are those of the tree, `TellsTree`, is a theorem about `readCall`.
 use mathlib.Core.Path.{sym, _∙_}
+use native.Mathlib.Omega.{arith}
 use lib.Seq.{length-take-le}
 use Rattle.geometry.specs.ShapeLaws.{sized-of, fit-of}
 use Rattle.rules.specs.CallLaws.{read-invalid}
@@ -10,9 +11,17 @@ use borrow.Author.Needs.{needs}
 use Rattle.query.proofs.read.Statement.{statement}
 use Rattle.query.proofs.read.Tie as tie
 
+mul-end : tie.Need-mul-end
+mul-end c =
+    let at-g = c .before .before in
+    let at-new = at-g .before .before in
+    let start = at-new .before .before .before .before .before in
+    let a = start .args in
+    omega (arith, sized-of (a .size) (a .pages) _ _ _ (sym (at-new .new .ensures) ∙ at-g .g .given .1) .valid .few)
+
 slice-relend-prefix-check-table : tie.Need-slice-relend-prefix-check-table
 slice-relend-prefix-check-table c =
-    let at-g = c .before in
+    let at-g = c .before .before in
     let at-new = at-g .before .before in
     let start = at-new .before .before .before .before .before in
     let a = start .args in
@@ -20,7 +29,7 @@ slice-relend-prefix-check-table c =
 
 slice-aggregate-check-table : tie.Need-slice-aggregate-check-table
 slice-aggregate-check-table c =
-    let at-g = c .before .before in
+    let at-g = c .before .before .before in
     let at-new = at-g .before .before in
     let start = at-new .before .before .before .before .before in
     let a = start .args in
@@ -28,7 +37,7 @@ slice-aggregate-check-table c =
 
 check-table-requires : tie.Need-check-table-requires
 check-table-requires c κs =
-    let at-g = c .before .before in
+    let at-g = c .before .before .before in
     let at-new = at-g .before .before in
     let start = at-new .before .before .before .before .before in
     let a = start .args in
@@ -39,7 +48,7 @@ read-path-requires : tie.Need-read-path-requires
 read-path-requires c κs =
     let at-enum-told2 = c .before in
     let at-check-table = at-enum-told2 .before .before .before .before in
-    let at-g = at-check-table .before .before .before in
+    let at-g = at-check-table .before .before .before .before in
     let at-new = at-g .before .before in
     let start = at-new .before .before .before .before .before in
     let a = start .args in
@@ -64,14 +73,17 @@ returns c =
 returns-2 : tie.Need-returns-2
 returns-2 c =
     let at-number = c .before in
-    let at-check-table = at-number .before .before .before .before in
-    let at-g = at-check-table .before .before .before in
+    let at-back = at-number .before .before in
+    let at-check-table = at-back .before .before in
+    let at-g = at-check-table .before .before .before .before in
     let at-new = at-g .before .before in
     let at-shared-slice-known = at-new .before .before .before .before in
     let start = at-shared-slice-known .before in
     let a = start .args in
-    let e = read-fault (a .size) (a .pages) (a .image .now) (a .table .now) _ (sym (at-new .new .ensures) ∙ at-g .g .given .1) (at-check-table .check-table .result)
-    (at-check-table .check-table .last .1 .1 .0) (at-check-table .check-table .ensures) _ _ (at-number .number .given .1) (a .path .now) (a .out .now) in (
+    let f = sym (at-new .new .ensures) ∙ at-g .g .given .1 in
+    let l = at-check-table .check-table .kept .1 .1 .0 ∙ length-take-le _ (a .table .now) (sized-of (a .size) (a .pages) _ _ _ f .room) in
+    let e = read-fault (a .size) (a .pages) (a .image .now) (a .table .now) _ f (at-check-table .check-table .result) (at-check-table .check-table .last .1 .1 .0)
+    (at-check-table .check-table .ensures) l (λ i. at-back .slice-known3 .given i .fits) _ _ (at-number .number .given .1) (a .path .now) (a .out .now) in (
       e,
       reads-tree (a .size) (a .pages) (a .image .now) (a .table .now) (λ i. at-shared-slice-known .shared-slice-known .given i .fits) (a .path .now) (a .out .now)
           (length′.Refused (at-number .number .given .0 .0) (at-number .number .given .0 .1 .0)) _ _ e,
@@ -81,14 +93,17 @@ returns-3 : tie.Need-returns-3
 returns-3 c =
     let at-read-path = c .before .before in
     let at-enum-told2 = at-read-path .before .before in
-    let at-check-table = at-enum-told2 .before .before .before .before in
-    let at-g = at-check-table .before .before .before in
+    let at-back = at-enum-told2 .before .before in
+    let at-check-table = at-back .before .before in
+    let at-g = at-check-table .before .before .before .before in
     let at-new = at-g .before .before in
     let at-shared-slice-known = at-new .before .before .before .before in
     let start = at-shared-slice-known .before in
     let a = start .args in
-    let e = read-done (a .size) (a .pages) (a .image .now) (a .table .now) _ (sym (at-new .new .ensures) ∙ at-g .g .given .1) (at-check-table .check-table .result)
-    (at-check-table .check-table .last .1 .1 .0) (at-check-table .check-table .ensures) _ (at-enum-told2 .enum-told2 .given .1) (a .path .now) (a .out .now)
+    let f = sym (at-new .new .ensures) ∙ at-g .g .given .1 in
+    let l = at-check-table .check-table .kept .1 .1 .0 ∙ length-take-le _ (a .table .now) (sized-of (a .size) (a .pages) _ _ _ f .room) in
+    let e = read-done (a .size) (a .pages) (a .image .now) (a .table .now) _ f (at-check-table .check-table .result) (at-check-table .check-table .last .1 .1 .0)
+    (at-check-table .check-table .ensures) l (λ i. at-back .slice-known3 .given i .fits) _ (at-enum-told2 .enum-told2 .given .1) (a .path .now) (a .out .now)
     (at-read-path .read-path .result) _ (at-read-path .read-path .ensures) in (
       e,
       reads-tree (a .size) (a .pages) (a .image .now) (a .table .now) (λ i. at-shared-slice-known .shared-slice-known .given i .fits) (a .path .now) (a .out .now)
@@ -98,5 +113,5 @@ returns-3 c =
 pub read-spec : {M : Type 1} → statement M
 read-spec =
     tie.close
-    (tie.spec (λ c κs. search needs) (λ c. search needs) (λ c. search needs) slice-relend-prefix-check-table slice-aggregate-check-table check-table-requires (λ c. search needs)
+    (tie.spec (λ c κs. search needs) (λ c. search needs) (λ c. search needs) mul-end slice-relend-prefix-check-table slice-aggregate-check-table check-table-requires (λ c. search needs)
     (λ c. search needs) read-path-requires returns (λ c. search needs) returns-2 (λ c. search needs) (λ c. search needs) returns-3)

@@ -3,6 +3,7 @@
 use mathlib.Core.Path.{ap, _∙_}
 use Prim.Native.Nat.{ℕ}
 use lib.ListN.{replicate}
+use Rattle.owners.specs.RecordLaws.{empty-zero}
 use Rattle.volume.proofs.CheckLaws.{scan-done, scan-fault, table-differs, table-same}
 use borrow.Author.Needs.{needs}
 use Rattle.volume.proofs.check_table.Statement.{statement}
@@ -14,7 +15,7 @@ scan-requires c κs =
     let at-clear = at-root-of .before .before .before in
     let start = at-clear .before .before .before .before in
     let s = start .pre in
-    (s .0, (at-clear .clear .ensures ∙ ap (λ (n : ℕ). replicate n 0) (s .1), at-root-of .root-of .ensures))
+    (s .0, (empty-zero (start .args .g .pages) (start .args .table .now) _ (s .1) (at-clear .clear .ensures), at-root-of .root-of .ensures))
 
 compare-requires : tie.Need-compare-requires
 compare-requires c κs =
@@ -36,8 +37,7 @@ returns c =
     let start = at-clear .before .before .before .before in
     let s = start .pre in (
       scan-fault _ _ _ _ _ _ (at-scan .scan .ensures) (at-number .number .given .1),
-      at-clear2 .clear2 .ensures
-          ∙ ap (λ (n : ℕ). replicate n 0) (at-scan .scan .kept .1 .1 .1 .0 ∙ at-clear .clear .kept .0 ∙ s .1),
+      empty-zero (start .args .g .pages) (at-scan .scan .last .1 .1 .1 .0) _ (at-scan .scan .kept .1 .1 .1 .0 ∙ at-clear .clear .kept .0 ∙ s .1) (at-clear2 .clear2 .ensures) .free,
     )
 
 returns-2 : tie.Need-returns-2
@@ -52,8 +52,7 @@ returns-2 c =
     let s = start .pre in
     let k = scan-done _ _ _ _ _ (at-scan .scan .ensures) (at-totals .totals .given .1) in (
       table-differs _ _ _ _ k _ (at-compare .compare .ensures) _ (at-bit .bit .given .1),
-      at-clear3 .clear3 .ensures
-          ∙ ap (λ (n : ℕ). replicate n 0) (at-scan .scan .kept .1 .1 .1 .0 ∙ at-clear .clear .kept .0 ∙ s .1),
+      empty-zero (start .args .g .pages) (at-scan .scan .last .1 .1 .1 .0) _ (at-scan .scan .kept .1 .1 .1 .0 ∙ at-clear .clear .kept .0 ∙ s .1) (at-clear3 .clear3 .ensures) .free,
     )
 
 returns-3 : tie.Need-returns-3

@@ -17,7 +17,7 @@ claim-chain-requires : tie.Need-claim-chain-requires
 claim-chain-requires c κs =
     let start = c .before .before .before .before in
     let s = start .pre in
-    (s .0, (empty-table _ _ (s .1) .1, omega arith, λ h. omega arith))
+    (s .0, (s .1 .sized, omega arith, λ h. omega arith))
 
 returns-2 : tie.Need-returns-2
 unfolding MapClaimed
@@ -26,7 +26,7 @@ returns-2 c =
     let at-claim-chain = at-pages .before .before .before .before in
     let at-if1 = at-claim-chain .before .before in
     let start = at-if1 .before .before .before in
-    map-counted _ _ _ _ (at-if1 .if1 .left) _ _ (start .pre .1) _ (at-claim-chain .claim-chain .ensures) _ _ (at-pages .pages .given .1) (c .if2 .taken)
+    map-counted _ _ _ _ (at-if1 .if1 .left) _ _ (start .pre .1 .free) _ (at-claim-chain .claim-chain .ensures) _ _ (at-pages .pages .given .1) (c .if2 .taken)
 
 returns-3 : tie.Need-returns-3
 unfolding MapClaimed
@@ -37,7 +37,7 @@ returns-3 c =
     let at-claim-chain = at-pages .before .before .before .before in
     let at-if1 = at-claim-chain .before .before in
     let start = at-if1 .before .before .before in
-    map-short _ _ _ _ (at-if1 .if1 .left) _ _ (start .pre .1) _ (at-claim-chain .claim-chain .ensures) _ _ (at-pages .pages .given .1) (at-if2 .if2 .left) _
+    map-short _ _ _ _ (at-if1 .if1 .left) _ _ (start .pre .1 .free) _ (at-claim-chain .claim-chain .ensures) _ _ (at-pages .pages .given .1) (at-if2 .if2 .left) _
     (at-bitmap-size .bitmap-size .ensures) (c .if3 .taken)
 
 returns-4 : tie.Need-returns-4
@@ -47,7 +47,7 @@ returns-4 c =
     let at-claim-chain = at-number .before .before .before .before in
     let at-if1 = at-claim-chain .before .before in
     let start = at-if1 .before .before .before in
-    map-refused _ _ _ (start .args .count) (at-if1 .if1 .left) _ _ (start .pre .1) _ (at-claim-chain .claim-chain .ensures) _ _ (at-number .number .given .1)
+    map-refused _ _ _ (start .args .count) (at-if1 .if1 .left) _ _ (start .pre .1 .free) _ (at-claim-chain .claim-chain .ensures) _ _ (at-number .number .given .1)
 
 returns-5 : tie.Need-returns-5
 returns-5 c =
@@ -57,7 +57,7 @@ returns-5 c =
     let at-claim-chain = at-pages .before .before .before .before in
     let at-if1 = at-claim-chain .before .before in
     let start = at-if1 .before .before .before in
-    map-done _ _ _ _ (at-if1 .if1 .left) _ _ (start .pre .1) _ (at-claim-chain .claim-chain .ensures) _ _ (at-pages .pages .given .1) (at-if2 .if2 .left) _
+    map-done _ _ _ _ (at-if1 .if1 .left) _ _ (start .pre .1 .free) _ (at-claim-chain .claim-chain .ensures) _ _ (at-pages .pages .given .1) (at-if2 .if2 .left) _
     (at-bitmap-size .bitmap-size .ensures) (c .if3 .left)
 
 pub claim-map-spec : {M : Type 1} → statement M

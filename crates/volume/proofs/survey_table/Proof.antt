@@ -2,6 +2,8 @@
 use mathlib.Core.Path.{ap, _∙_}
 use Prim.Native.Nat.{ℕ}
 use lib.ListN.{replicate}
+use Rattle.owners.specs.Records.{recordsOf}
+use Rattle.owners.specs.RecordLaws.{length-exact, empty-zero}
 use Rattle.volume.proofs.CheckLaws.{scan-done}
 use Rattle.volume.proofs.SurveyLaws.{no-scan, table-surveyed}
 use borrow.Author.Needs.{needs}
@@ -14,7 +16,7 @@ scan-requires c κs =
     let at-clear = at-root-of .before .before .before in
     let start = at-clear .before .before .before .before in
     let s = start .pre in
-    (s .0, (at-clear .clear .ensures ∙ ap (λ (n : ℕ). replicate n 0) (s .1), at-root-of .root-of .ensures))
+    (s .0, (empty-zero (start .args .g .pages) (start .args .table .now) _ (s .1) (at-clear .clear .ensures), at-root-of .root-of .ensures))
 
 survey-requires : tie.Need-survey-requires
 survey-requires c κs =
@@ -29,7 +31,7 @@ survey-requires c κs =
 returns : tie.Need-returns
 returns c =
     let at-scan = c .before .before .before .before in
-    no-scan _ _ (at-scan .scan .result) (at-scan .scan .last .1 .1 .1 .0) _ _ (at-scan .scan .ensures) (c .enum-told .given .1)
+    no-scan _ _ (at-scan .scan .result) (recordsOf (at-scan .scan .last .1 .1 .1 .0)) _ _ (at-scan .scan .ensures) (c .enum-told .given .1)
 
 returns-2 : tie.Need-returns-2
 returns-2 c =
@@ -38,7 +40,7 @@ returns-2 c =
     let at-clear = at-scan .before .before .before .before .before in
     let start = at-clear .before .before .before .before in
     let k = scan-done _ _ _ _ _ (at-scan .scan .ensures) (at-totals .enum-told2 .given .1) in
-    table-surveyed _ _ _ _ k (at-scan .scan .kept .1 .1 .1 .0 ∙ at-clear .clear .kept .0 ∙ start .pre .1) (c .survey .result) (c .survey .ensures)
+    table-surveyed _ _ _ _ k (length-exact _ _ (at-scan .scan .kept .1 .1 .1 .0 ∙ at-clear .clear .kept .0 ∙ start .pre .1)) (c .survey .result) (c .survey .ensures)
 
 pub survey-table-spec : {M : Type 1} → statement M
 survey-table-spec =

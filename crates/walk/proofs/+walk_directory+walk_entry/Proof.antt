@@ -5,6 +5,8 @@ use mathlib.Core.List.{List}
 use native.Mathlib.Omega.{arith}
 use lib.ListN.{length}
 use Prim.Native.Nat.{_<_, ℕ, _+_, _-_, _*_, _≤_}
+use Rattle.owners.specs.Records.{recordsOf}
+use Rattle.owners.specs.RecordLaws.{length-exact}
 use Rattle.packet.specs.Packet.{viewOf}
 use Rattle.rules.specs.Chain.{viewsOf, Link}
 use Rattle.owners.specs.Owned.{Represents}
@@ -69,9 +71,9 @@ walk-entry-below t =
 
 abbrev walk-directory-Inv-loop : walk-directory-lts.InvT-loop
 walk-directory-Inv-loop image g levels name from start owner table₀ pages so-far₀ count parent slot₀ left₀ table so-far slot left =
-    (length table ≡ g .pages) × KnownChain g (viewOf g image) start × (left ≤ count)
-    × ((claimed : List ℕ) (ls : List Link) → Represents table₀ claimed → ChainAt g (viewOf g image) start ls
-    → Left g (viewsOf g image) levels name start so-far₀ table₀ claimed ls table so-far slot (count - left))
+    (length table ≡ 4 * g .pages) × KnownChain g (viewOf g image) start × (left ≤ count)
+    × ((claimed : List ℕ) (ls : List Link) → Represents (recordsOf table₀) claimed → ChainAt g (viewOf g image) start ls
+    → Left g (viewsOf g image) levels name start so-far₀ (recordsOf table₀) claimed ls (recordsOf table) so-far slot (count - left))
 
 abbrev walk-directory-μ-loop : walk-directory-lts.MeasureT-loop
 walk-directory-μ-loop image g levels name from start owner table₀ pages so-far₀ count parent slot₀ left₀ table so-far slot left =
@@ -115,7 +117,7 @@ walk-directory-add-t29 t c =
     let at-claim = at-pages .before .before .before .before in
     let start = at-claim .before .before .before .before in
     let s = start .pre .1 in
-    let n = pages-few (is-claimed _ _ _ _ _ (at-claim .claim-chain .ensures) (at-pages .pages .given .1) (s .1 .0) (s .1 .1)) in
+    let n = pages-few (is-claimed _ _ _ _ _ (at-claim .claim-chain .ensures) (at-pages .pages .given .1) (length-exact _ _ (s .1 .0)) (s .1 .1)) in
     let f = s .0 .valid .few in
     let u = s .1 .1 .used-is in
     omega arith
@@ -126,7 +128,7 @@ walk-directory-count-of-requires t c κs =
     let at-claim = at-pages .before .before .before .before in
     let start = at-claim .before .before .before .before in
     let s = start .pre .1 in
-    (s .0, claimed-known (is-claimed _ _ _ _ _ (at-claim .claim-chain .ensures) (at-pages .pages .given .1) (s .1 .0) (s .1 .1)) .0)
+    (s .0, claimed-known (is-claimed _ _ _ _ _ (at-claim .claim-chain .ensures) (at-pages .pages .given .1) (length-exact _ _ (s .1 .0)) (s .1 .1)) .0)
 
 walk-directory-first-requires : (t : ℕ) → walk-directory-lts.Need-first-requires (walk-directory-calls t) (walk-directory-at t) walk-directory.Post walk-directory-Inv-loop walk-directory-μ-loop
 walk-directory-first-requires t c κs =
@@ -134,7 +136,7 @@ walk-directory-first-requires t c κs =
     let at-claim = at-pages .before .before .before .before in
     let start = at-claim .before .before .before .before in
     let s = start .pre .1 in
-    (s .0, claimed-known (is-claimed _ _ _ _ _ (at-claim .claim-chain .ensures) (at-pages .pages .given .1) (s .1 .0) (s .1 .1)) .0)
+    (s .0, claimed-known (is-claimed _ _ _ _ _ (at-claim .claim-chain .ensures) (at-pages .pages .given .1) (length-exact _ _ (s .1 .0)) (s .1 .1)) .0)
 
 walk-directory-loop-holds : (t : ℕ) → walk-directory-lts.Need-loop-holds (walk-directory-calls t) (walk-directory-at t) walk-directory.Post walk-directory-Inv-loop walk-directory-μ-loop
 walk-directory-loop-holds t c =
@@ -142,7 +144,7 @@ walk-directory-loop-holds t c =
     let at-claim = at-pages .before .before .before .before in
     let start = at-claim .before .before .before .before in
     let s = start .pre .1 in
-    let k = claimed-known (is-claimed _ _ _ _ _ (at-claim .claim-chain .ensures) (at-pages .pages .given .1) (s .1 .0) (s .1 .1)) in
+    let k = claimed-known (is-claimed _ _ _ _ _ (at-claim .claim-chain .ensures) (at-pages .pages .given .1) (length-exact _ _ (s .1 .0)) (s .1 .1)) in
     (at-claim .claim-chain .kept .1 .1 .1 .1 .1 .1 .0 ∙ s .1 .0, k .0, omega arith, λ claimed ls r d. left-first _ _ _ _ (c .first .ensures) d (omega arith) r (k .1))
 
 walk-directory-next-entry-requires : (t : ℕ) → walk-directory-lts.Need-next-entry-requires (walk-directory-calls t) (walk-directory-at t) walk-directory.Post walk-directory-Inv-loop walk-directory-μ-loop
@@ -171,7 +173,7 @@ walk-directory-returns t c =
     let s = start .pre .1 in
     let i = at-loop .loop .inv in
     let n = end-answer _ _ _ _ (at-next .next-entry .ensures) (c .enum-told .given .1) in
-    whole-done (viewsOf _ _) (is-claimed _ _ _ _ _ (at-claim .claim-chain .ensures) (at-pages .pages .given .1) (s .1 .0) (s .1 .1)) (start .args .levels) (start .args .name) _ _
+    whole-done (viewsOf _ _) (is-claimed _ _ _ _ _ (at-claim .claim-chain .ensures) (at-pages .pages .given .1) (length-exact _ _ (s .1 .0)) (s .1 .1)) (start .args .levels) (start .args .name) _ _
     (λ others ls r d. left-done (i .3 others ls r d) n)
 
 walk-directory-entry-requires : (t : ℕ) → walk-directory-lts.Need-entry-requires (walk-directory-calls t) (walk-directory-at t) walk-directory.Post walk-directory-Inv-loop walk-directory-μ-loop
@@ -226,7 +228,7 @@ walk-directory-returns-2 t c =
     let s = start .pre .1 in
     let i = at-loop .loop .inv in
     let n = entry-answer _ _ _ _ (at-next .next-entry .ensures) _ (at-at .at .given .1) in
-    whole-refused (viewsOf _ _) (is-claimed _ _ _ _ _ (at-claim .claim-chain .ensures) (at-pages .pages .given .1) (s .1 .0) (s .1 .1)) (start .args .levels) (start .args .name) _ _
+    whole-refused (viewsOf _ _) (is-claimed _ _ _ _ _ (at-claim .claim-chain .ensures) (at-pages .pages .given .1) (length-exact _ _ (s .1 .0)) (s .1 .1)) (start .args .levels) (start .args .name) _ _
     (λ others ls r d. left-refused (i .3 others ls r d) n (at-entry .entry .ensures) _ _ (at-walk-entry .walk-entry .ensures) _ _ (at-number .number2 .given .1))
 
 walk-directory-past-requires : (t : ℕ) → walk-directory-lts.Need-past-requires (walk-directory-calls t) (walk-directory-at t) walk-directory.Post walk-directory-Inv-loop walk-directory-μ-loop
@@ -277,7 +279,7 @@ walk-directory-loop-again t c =
       at-walk-entry .walk-entry .kept .1 .1 .1 .1 .1 .1 .1 .1 .0 ∙ i .0,
       i .1,
       omega (arith, i .2),
-      λ claimed ls r d. left-entry (i .3 claimed ls r d) n e _ _ (at-walk-entry .walk-entry .ensures) (i .0) _ (at-d .d .given .1) _ _ (c .past .ensures) (omega (arith, i .2)),
+      λ claimed ls r d. left-entry (i .3 claimed ls r d) n e _ _ (at-walk-entry .walk-entry .ensures) (length-exact _ _ (i .0)) _ (at-d .d .given .1) _ _ (c .past .ensures) (omega (arith, i .2)),
     )
 
 walk-directory-returns-3 : (t : ℕ) → walk-directory-lts.Need-returns-3 (walk-directory-calls t) (walk-directory-at t) walk-directory.Post walk-directory-Inv-loop walk-directory-μ-loop
@@ -323,8 +325,8 @@ walk-entry-returns-2 t c =
     λ claimed seen h m.
     let a = start .args in
     file-entry (a .g) (viewsOf (a .g) (a .image .now)) (a .levels) (a .parent .name) (a .parent .start) claimed (a .page) seen (a .e) _ (at-entry-fault .entry-fault .ensures seen m (a .page))
-    (at-if1 .if1 .left) (sym (at-is-directory .is-directory .ensures) ∙ not-true _ (at-if2 .if2 .taken)) (a .totals) (a .table .now) (at-walk-file .walk-file .result)
-    (at-walk-file .walk-file .last .1 .1 .1 .1 .1 .0) (at-walk-file .walk-file .ensures claimed h)
+    (at-if1 .if1 .left) (sym (at-is-directory .is-directory .ensures) ∙ not-true _ (at-if2 .if2 .taken)) (a .totals) (recordsOf (a .table .now)) (at-walk-file .walk-file .result)
+    (recordsOf (at-walk-file .walk-file .last .1 .1 .1 .1 .1 .0)) (at-walk-file .walk-file .ensures claimed h)
 
 walk-entry-returns-3 : (t : ℕ) → walk-entry-lts.Need-returns-3 (walk-entry-calls t) (walk-entry-at t) walk-entry.Post
 walk-entry-returns-3 t c =
@@ -343,7 +345,7 @@ walk-entry-add-owner t c =
     let at-entry-fault = c .before .before .before .before .before .before in
     let start = at-entry-fault .before .before .before .before in
     let s = start .pre .1 in
-    let k = totals-fit _ _ _ (s .1 .2) (s .1 .0) (s .0 .valid .few) in
+    let k = totals-fit _ _ _ (s .1 .2) (length-exact _ _ (s .1 .0)) (s .0 .valid .few) in
     omega arith
 
 walk-entry-add-owner-2 : (t : ℕ) → walk-entry-lts.Need-add-owner-2 (walk-entry-calls t) (walk-entry-at t) walk-entry.Post
@@ -351,7 +353,7 @@ walk-entry-add-owner-2 t c =
     let at-entry-fault = c .before .before .before .before .before .before in
     let start = at-entry-fault .before .before .before .before in
     let s = start .pre .1 in
-    let k = totals-fit _ _ _ (s .1 .2) (s .1 .0) (s .0 .valid .few) in
+    let k = totals-fit _ _ _ (s .1 .2) (length-exact _ _ (s .1 .0)) (s .0 .valid .few) in
     omega arith
 
 walk-entry-add-walk-directory : (t : ℕ) → walk-entry-lts.Need-add-walk-directory (walk-entry-calls t) (walk-entry-at t) walk-entry.Post
@@ -359,7 +361,7 @@ walk-entry-add-walk-directory t c =
     let at-if1 = c .before .before .before .before .before .before in
     let start = at-if1 .before .before .before .before .before in
     let s = start .pre .1 in
-    let k = totals-fit _ _ _ (s .1 .2) (s .1 .0) (s .0 .valid .few) in
+    let k = totals-fit _ _ _ (s .1 .2) (length-exact _ _ (s .1 .0)) (s .0 .valid .few) in
     omega arith
 
 walk-entry-sub-walk-directory : (t : ℕ) → walk-entry-lts.Need-sub-walk-directory (walk-entry-calls t) (walk-entry-at t) walk-entry.Post
@@ -377,7 +379,7 @@ walk-entry-walk-directory-requires t c κs =
     let start = at-slice-known .before .before in
     let s = start .pre .1 in
     let k = below-some _ 0 _ _ (at-below-fault .below-fault .ensures 0) (at-if3 .if3 .left) in
-    (omega (arith, start .pre .0, s .1 .3 .some), (s .0, (s .1 .0, below-ready _ _ _ (s .1 .2) (s .1 .0) (s .0 .valid .few))))
+    (omega (arith, start .pre .0, s .1 .3 .some), (s .0, (s .1 .0, below-ready _ _ _ (s .1 .2) (length-exact _ _ (s .1 .0)) (s .0 .valid .few))))
 
 walk-entry-returns-4 : (t : ℕ) → walk-entry-lts.Need-returns-4 (walk-entry-calls t) (walk-entry-at t) walk-entry.Post
 walk-entry-returns-4 t c =
@@ -393,7 +395,7 @@ walk-entry-returns-4 t c =
     let a = start .args in
     entry-directory (a .g) (viewsOf (a .g) (a .image .now)) (a .levels) (a .parent .name) (a .parent .start) claimed (a .page) seen (a .e) _ (at-entry-fault .entry-fault .ensures seen m (a .page))
     (at-if1 .if1 .left) (sym (at-is-directory .is-directory .ensures) ∙ not-false _ (at-if2 .if2 .left)) _ (at-below-fault .below-fault .ensures (a .page)) (at-if3 .if3 .left) (a .totals) _
-    (a .table .now) refl (at-walk-directory .walk-directory .result) (at-walk-directory .walk-directory .last .1 .1 .1 .1 .1 .1 .1 .1 .1 .0) (at-walk-directory .walk-directory .ensures claimed h)
+    (recordsOf (a .table .now)) refl (at-walk-directory .walk-directory .result) (recordsOf (at-walk-directory .walk-directory .last .1 .1 .1 .1 .1 .1 .1 .1 .1 .0)) (at-walk-directory .walk-directory .ensures claimed h)
 
 pub +walk-directory+walk-entry-spec : {M : Type 1} → statement M
 +walk-directory+walk-entry-spec =

@@ -1,6 +1,7 @@
 -- The answer for a file's chain, with its entry's page count; the owner's number fits.
 use mathlib.Core.Path.{refl}
 use native.Mathlib.Omega.{arith}
+use Rattle.owners.specs.RecordLaws.{length-exact}
 use Rattle.walk.proofs.Parts.{totals-fit, owner-fits, claim-few, file-none, file-refused, file-counted, file-done}
 use borrow.Author.Needs.{needs}
 use Rattle.walk.proofs.walk_file.Statement.{statement}
@@ -15,21 +16,21 @@ add-owner : tie.Need-add-owner
 add-owner c =
     let start = c .before .before .before .before .before in
     let s = start .pre in
-    let k = totals-fit _ _ _ (s .1 .1) (s .1 .0) (s .0 .valid .few) in
+    let k = totals-fit _ _ _ (s .1 .1) (length-exact _ _ (s .1 .0)) (s .0 .valid .few) in
     omega arith
 
 add-owner-2 : tie.Need-add-owner-2
 add-owner-2 c =
     let start = c .before .before .before .before .before in
     let s = start .pre in
-    let k = totals-fit _ _ _ (s .1 .1) (s .1 .0) (s .0 .valid .few) in
+    let k = totals-fit _ _ _ (s .1 .1) (length-exact _ _ (s .1 .0)) (s .0 .valid .few) in
     omega arith
 
 claim-chain-requires : tie.Need-claim-chain-requires
 claim-chain-requires c κs =
     let start = c .before .before .before .before .before .before in
     let s = start .pre in
-    (s .0, (s .1 .0, omega arith, owner-fits _ _ _ (s .1 .1) (s .1 .0) (s .0 .valid .few)))
+    (s .0, (s .1 .0, omega arith, owner-fits _ _ _ (s .1 .1) (length-exact _ _ (s .1 .0)) (s .0 .valid .few)))
 
 returns-2 : tie.Need-returns-2
 returns-2 c =
@@ -46,8 +47,8 @@ add-t19 c =
     let at-struct-known = at-claim-chain .before .before .before .before in
     let start = at-struct-known .before .before .before in
     let s = start .pre in
-    let k = totals-fit _ _ _ (s .1 .1) (s .1 .0) (s .0 .valid .few) in
-    let n = claim-few (start .args .g) _ _ _ _ _ _ _ _ _ _ (at-claim-chain .claim-chain .ensures) (at-pages .pages .given .1) (s .1 .0) in
+    let k = totals-fit _ _ _ (s .1 .1) (length-exact _ _ (s .1 .0)) (s .0 .valid .few) in
+    let n = claim-few (start .args .g) _ _ _ _ _ _ _ _ _ _ (at-claim-chain .claim-chain .ensures) (at-pages .pages .given .1) (length-exact _ _ (s .1 .0)) in
     let f = s .0 .valid .few in
     omega arith
 
@@ -57,7 +58,7 @@ add-t20 c =
     let at-if1 = at-match .before .before .before .before .before .before in
     let start = at-if1 .before .before .before .before in
     let s = start .pre in
-    let k = totals-fit _ _ _ (s .1 .1) (s .1 .0) (s .0 .valid .few) in
+    let k = totals-fit _ _ _ (s .1 .1) (length-exact _ _ (s .1 .0)) (s .0 .valid .few) in
     omega arith
 
 returns-3 : tie.Need-returns-3

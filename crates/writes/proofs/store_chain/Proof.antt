@@ -4,6 +4,8 @@ use mathlib.Core.List.{List}
 use Prim.Native.Nat.{ℕ, _-_, _≤_}
 use native.Mathlib.Omega.{arith}
 use lib.ListN.{length, drop}
+use Rattle.owners.specs.Records.{recordsOf}
+use Rattle.owners.specs.RecordLaws.{length-exact}
 use Rattle.owners.specs.Owned.{Represents}
 use Rattle.editing_theorems.specs.Capacity.{capacity-least}
 use Rattle.writes.specs.Stores.{Stores}
@@ -14,7 +16,7 @@ use Rattle.writes.proofs.store_chain.Tie as tie
 
 abbrev Inv-loop : tie.InvT-loop
 Inv-loop image₀ g table from bytes capacity left₀ page₀ done₀ image left page done = (length image ≡ length image₀) × (done ≤ length bytes)
-    × ((used : List ℕ) → Represents table used → Storing g (stored g used from bytes image₀ left₀) table (drop done bytes) image left page)
+    × ((used : List ℕ) → Represents (recordsOf table) used → Storing g (stored g used from bytes image₀ left₀) (recordsOf table) (drop done bytes) image left page)
 
 abbrev μ-loop : tie.MeasureT-loop
 μ-loop image₀ g table from bytes capacity left₀ page₀ done₀ image left page done = length bytes - done
@@ -28,7 +30,7 @@ loop-holds : tie.Need-loop-holds Inv-loop μ-loop
 loop-holds c =
     let start = c .before .before .before .before .before in
     let s = start .pre .1 in
-    (refl, omega arith, λ used r. store-first _ _ _ _ _ _ _ (s .0) (s .1) (s .2) (c .next-free .ensures) used r)
+    (refl, omega arith, λ used r. store-first _ _ _ _ _ _ _ (length-exact _ _ (s .0)) (s .1) (s .2) (c .next-free .ensures) used r)
 
 add-next-free : tie.Need-add-next-free Inv-loop μ-loop
 add-next-free c =
@@ -58,7 +60,7 @@ returns c =
     let at-data-capacity = at-loop .before .before in
     let start = at-data-capacity .before .before .before .before in
     λ used r.
-    store-stop _ _ (at-data-capacity .data-capacity .ensures) (start .pre .0 .valid) (start .pre .1 .0) (at-loop .loop .inv .2 used r) (at-loop-test .loop-test .taken) _
+    store-stop _ _ (at-data-capacity .data-capacity .ensures) (start .pre .0 .valid) (length-exact _ _ (start .pre .1 .0)) (at-loop .loop .inv .2 used r) (at-loop-test .loop-test .taken) _
     (at-next-free2 .next-free2 .ensures) _ _ (at-write .write .ensures) (c .if1 .taken)
 
 loop-less : tie.Need-loop-less Inv-loop μ-loop
@@ -80,7 +82,7 @@ loop-again c =
       search needs,
       omega (arith, at-loop-test .loop-test .taken),
       λ used r.
-          store-on _ _ (at-data-capacity .data-capacity .ensures) (start .pre .0 .valid) (start .pre .1 .0) (at-loop .loop .inv .2 used r) (at-loop-test .loop-test .taken) _
+          store-on _ _ (at-data-capacity .data-capacity .ensures) (start .pre .0 .valid) (length-exact _ _ (start .pre .1 .0)) (at-loop .loop .inv .2 used r) (at-loop-test .loop-test .taken) _
           (at-next-free2 .next-free2 .ensures) _ _ (at-write .write .ensures) (c .if1 .left),
     )
 
@@ -104,7 +106,7 @@ returns-2 c =
     let at-data-capacity = at-loop .before .before in
     let start = at-data-capacity .before .before .before .before in
     λ used r.
-    store-last (start .args .bytes .now) (at-loop .loop .done) (at-data-capacity .data-capacity .ensures) (start .pre .0 .valid) (start .pre .1 .0)
+    store-last (start .args .bytes .now) (at-loop .loop .done) (at-data-capacity .data-capacity .ensures) (start .pre .0 .valid) (length-exact _ _ (start .pre .1 .0))
     (at-loop .loop .inv .2 used r) (at-loop-test .loop-test .left) _ (at-write2 .write2 .ensures)
 
 pub store-chain-spec : {M : Type 1} → statement M

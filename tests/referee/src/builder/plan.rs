@@ -2,6 +2,7 @@
 
 use super::pages::Pages;
 use crate::answer::{Listing, Totals};
+use crate::owners::{record_bytes, RECORD_LENGTH};
 use crate::rng::Rng;
 
 /// A chain: its pages in order, and the number of data bytes in the packet of each.
@@ -105,7 +106,7 @@ pub struct Built {
     pub page_length: u32,
     pub page_count: u32,
     pub image: Vec<u8>,
-    /// The owner table as bytes, 2N of them.
+    /// The owner table as bytes, four for each page.
     pub owners: Vec<u8>,
     pub totals: Totals,
     /// All entries in walk order.
@@ -204,7 +205,7 @@ struct Place {
 /// The image and the answers while they are made.
 struct Work {
     pages: Pages,
-    owners: Vec<u16>,
+    owners: Vec<[u8; RECORD_LENGTH]>,
     entries: Vec<BuiltEntry>,
     chains: Vec<BuiltChain>,
 }
@@ -218,7 +219,7 @@ impl ImagePlan {
             Fill::Random(seed) => pages.image = Rng::new(seed).bytes(pages.image.len()),
         }
         let mut work = Work {
-            owners: vec![0; self.page_count as usize],
+            owners: vec![record_bytes(0, 0); self.page_count as usize],
             pages,
             entries: Vec::new(),
             chains: Vec::new(),
@@ -267,11 +268,7 @@ impl ImagePlan {
         Built {
             page_length: self.page_length,
             page_count: self.page_count,
-            owners: work
-                .owners
-                .iter()
-                .flat_map(|owner| owner.to_le_bytes())
-                .collect(),
+            owners: work.owners.concat(),
             totals: Totals {
                 number: 0,
                 page: 0,
@@ -288,10 +285,10 @@ impl ImagePlan {
 }
 
 impl Work {
-    /// Records a chain and its owner.
-    fn add_chain(&mut self, of: ChainOf, pages: &[usize], owner: u16) -> usize {
-        for &page in pages {
-            self.owners[page] = owner;
+    /// Records a chain: its owner, and each page's place in it.
+    fn add_chain(&mut self, of: ChainOf, pages: &[usize], owner: usize) -> usize {
+        for (place, &page) in pages.iter().enumerate() {
+            self.owners[page] = record_bytes(owner, place);
         }
         self.chains.push(BuiltChain {
             of,
@@ -344,7 +341,7 @@ impl Work {
             Item::File(_) => ChainOf::File,
             Item::Directory { .. } => ChainOf::Directory,
         };
-        let chain = self.add_chain(of, item.pages(), owner as u16);
+        let chain = self.add_chain(of, item.pages(), owner);
         let mut path = place.path.clone();
         path.extend(item.name());
         self.add_entry(item, page, offset, &path, place, chain);

@@ -1,4 +1,4 @@
--- Within its bounds P times N is no more than 256 times 65535, so the product is exact. The image must have that length and the table at least N;
+-- Within its bounds P times N is no more than 256 times 65535, so the product is exact. The image must have that length and the table at least four bytes a page;
 -- page numbers take one byte up to 256 pages, else two.
 use Prim.Native.Nat.{_*_, _≤_}
 use native.Mathlib.Nat.{mul-le-mul}
@@ -12,6 +12,9 @@ mul-if1 c = let a = c .args in let m : a .size * a .pages ≤ 256 * 65535 = mul-
 
 returns : tie.Need-returns
 returns c = let p = c .before .pre in wrong-image _ _ _ _ (p .0) (p .1) (p .2) (p .3) (c .if1 .taken)
+
+mul-if2 : tie.Need-mul-if2
+mul-if2 c = let p = c .before .pre in omega (arith, p .3)
 
 returns-2 : tie.Need-returns-2
 returns-2 c = let p = c .before .before .pre in short-table _ _ _ _ (p .0) (p .1) (p .2) (p .3) (c .before .if1 .left) (c .if2 .taken)
@@ -33,4 +36,4 @@ returns-4 c =
 pub sized-spec : {M : Type 1} → statement M
 sized-spec =
     tie.close
-    (tie.spec mul-if1 returns returns-2 returns-3 returns-4)
+    (tie.spec mul-if1 returns mul-if2 returns-2 returns-3 returns-4)
