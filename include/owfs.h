@@ -36,10 +36,12 @@ struct owfs_totals {
  *      7  page in two chains or twice in one                       that page
  *      8  page count, bitmap byte count, or entries not whole      page that holds the entries; 0 for the bitmap file
  *      9  name                                                     page of the entry
- *     10  extension 100 to 126, or extended entry                  page of the entry
+ *     10  extension 100 to 126, or a stamp without its entry       page of the entry or the stamp
  *     11  name and extension twice                                 page of the later entry
  *     12  nested too deep                                          page of the entry
  *     13  bitmap disagrees                                         lowest differing bit
+ *
+ * Extended entries (first byte above 127) are stamps of the entry after them in their page: they are accepted, and nothing lists or counts them.
  *
  * `owners` are bytes, a record of four for each page; at least 4 * page_count of them are needed (1). A record is the page's owner, two bytes, low byte
  * first, then its place in the owner's chain, two bytes, low byte first. Afterwards the owner is 0 if the page is free, 1 in the root, 2 in the bitmap
@@ -64,7 +66,8 @@ struct owfs_entry {
 };
 
 /* Checks an image as owfs_check does, then tells the entry at `position` in walk order. The image is not written.
- * Walk order: a directory's entries in chain order, and right after a subdirectory's entry all entries below it. The root's first entry has position 0.
+ * Walk order: a directory's entries in chain order, and right after a subdirectory's entry all entries below it. The root's first entry that is no stamp
+ * has position 0; stamps have no position.
  *
  * number  meaning                                                  page
  *      0  done                                                     0
@@ -140,10 +143,11 @@ struct owfs_answer owfs_format(uint32_t page_length, uint32_t page_count, uint8_
  *     16  file is read-only                                        0
  *     17  no room                                                  0
  *
- * A replaced file's entry stays in place and its old pages count as free. A new entry goes to the end of the first page of its directory with
- * space, in chain order; if there is none, the lowest free page joins the directory's end. The file then takes the lowest free pages, rising, all
- * packets full but the last; an empty file takes one page. 17 is answered only if no image that keeps every other entry, file and page could hold
- * the file, and no such image has fewer pages in use than the one that is left after 0.
+ * A replaced file's entry stays in place with its stamps, and its old pages count as free. A new entry goes to the end of the first page of its
+ * directory with space, in chain order, where stamps take space as entries do; if there is none, the lowest free page joins the directory's end. The
+ * file then takes the lowest free pages, rising, all packets full but the last; an empty file takes one page. 17 is answered only if no image that
+ * keeps every other entry with its stamps, every other file and page could hold the file, and no such image has fewer pages in use than the one that
+ * is left after 0.
  * Only the packets of the file's new pages, of one page of the directory, of a page that joins it and of the bitmap change; a bitmap file keeps its
  * packets' lengths. In a page written only the bytes of its new packet change; every other byte of the image stays, those of old pages too that the
  * file has no longer. A refusal changes no byte of the image.
@@ -154,8 +158,8 @@ struct owfs_answer owfs_format(uint32_t page_length, uint32_t page_count, uint8_
 struct owfs_answer owfs_put(uint32_t page_length, uint32_t page_count, uint8_t *image, size_t image_length, const uint8_t *path, size_t path_length,
                             const uint8_t *bytes, size_t bytes_length, uint8_t *owners, size_t owners_length);
 
-/* Checks an image as owfs_check does, then deletes a file: its entry is removed, later entries of the same directory page move up, and its pages
- * are free in the bitmap. The path is as for owfs_read and is not written. Files below hidden directories are deleted like others.
+/* Checks an image as owfs_check does, then deletes a file: its entry is removed with its stamps, later ones of the same directory page move up,
+ * and its pages are free in the bitmap. The path is as for owfs_read and is not written. Files below hidden directories are deleted like others.
  *
  * number  meaning, in the order in which it is judged              page
  *      0  done                                                     0
@@ -216,8 +220,8 @@ struct owfs_writes owfs_careful_put(uint32_t page_length, uint32_t page_count, u
                                     uint32_t allowed);
 
 /* Checks an image as owfs_check does, then deletes a file as owfs_delete does, but in an order as owfs_careful_put has it, by at most `allowed` page
- * writes: the directory page without the entry, which makes the change visible, then the bitmap's pages that release the file's pages, in chain order;
- * with a local bitmap page 0.
+ * writes: the directory page without the entry and its stamps, which makes the change visible, then the bitmap's pages that release the file's pages,
+ * in chain order; with a local bitmap page 0.
  *
  * number  meaning, in the order in which it is judged              page
  *      0  done, as far as the writes allowed go                    0

@@ -80,6 +80,9 @@ pub fn crc16(start: u16, bytes: &[u8]) -> u16 {
 /// has the place 0 ([`crate::owner_of`] reads both). After the refusals 2 to 13 all records are 0; after 1 no byte is changed. Bytes past the first
 /// four for each page never change.
 ///
+/// Extended entries, whose first byte is above 127, are stamps of the entry after them in their page. They are accepted; nothing lists or counts
+/// them.
+///
 /// # Errors
 ///
 /// 1 if page length, page count or image length is wrong or the owner table is too short; 2 to 13 for the first fault of the image, with its page.
@@ -95,7 +98,7 @@ pub fn check(geometry: Geometry, image: &[u8], owners: &mut [u8]) -> Result<Tota
 
 /// Checks an image and tells the entry at a position in walk order, from 0. The image is not written.
 ///
-/// Walk order: a directory's entries in chain order, and right after a subdirectory's entry all entries below it.
+/// Walk order: a directory's entries in chain order, and right after a subdirectory's entry all entries below it. Stamps have no position.
 /// The owner table is left as [`check`] leaves it, after 15 too.
 ///
 /// # Errors
@@ -194,10 +197,11 @@ pub fn format(
 
 /// Checks an image and puts `bytes` as the file at a path: makes the file or replaces it, not read-only.
 ///
-/// [`crate::path`] makes a path. A replaced file's entry stays in place and its old pages count as free. A new entry goes to the end of the first page of
-/// its directory with space; if there is none, the lowest free page joins the directory's end. The file then takes the lowest free pages. In a page
-/// written only the bytes of its packet change; every other byte of the image stays. A refusal changes no byte of the image. The owner table is left
-/// as [`check`] leaves it: it tells of the new image, and after 14 to 17 of the image as it stands.
+/// [`crate::path`] makes a path. A replaced file's entry stays in place with its stamps, and its old pages count as free. A new entry goes to the end
+/// of the first page of its directory with space, where stamps take space as entries do; if there is none, the lowest free page joins the directory's
+/// end. The file then takes the lowest free pages. In a page written only the bytes of its packet change; every other byte of the image stays. A
+/// refusal changes no byte of the image. The owner table is left as [`check`] leaves it: it tells of the new image, and after 14 to 17 of the image as
+/// it stands.
 ///
 /// # Errors
 ///
@@ -220,7 +224,7 @@ pub fn put(
     done(told.number, told.page)
 }
 
-/// Checks an image and deletes a file: its entry is removed, later entries of the same directory page move up, and its pages are free.
+/// Checks an image and deletes a file: its entry is removed with its stamps, later ones of the same directory page move up, and its pages are free.
 ///
 /// [`crate::path`] makes a path. The directory keeps its pages, also one that is left without entries. In a page written only the bytes of its packet
 /// change; every other byte of the image stays, those of the file's pages too. A refusal changes no byte of the image. The owner table is left as
@@ -317,8 +321,8 @@ pub fn careful_put(
     ))
 }
 
-/// Checks an image and deletes a file as [`delete`] does, by at most `allowed` whole-page writes: the directory page without the entry, which makes
-/// the change visible, then the bitmap's pages that release the file's pages, in chain order (with a local bitmap page 0).
+/// Checks an image and deletes a file as [`delete`] does, by at most `allowed` whole-page writes: the directory page without the entry and its
+/// stamps, which makes the change visible, then the bitmap's pages that release the file's pages, in chain order (with a local bitmap page 0).
 ///
 /// What is left while writes are left is as for [`careful_put`]; the path's file is as before until the first write is made, and absent from it on.
 /// A refusal changes no byte of the image.

@@ -43,7 +43,7 @@ pub enum Reason {
     Count,
     /// 9: name is malformed. The page of the entry.
     Name,
-    /// 10: extension is 100 to 126, or entry is extended. The page of the entry.
+    /// 10: extension is 100 to 126, or an extended entry has no entry after it in its page. The page of the entry.
     Extension,
     /// 11: name and extension are there twice. The page of the later entry.
     Twice,
@@ -135,7 +135,7 @@ impl Reason {
             Reason::Crossed => "page is in two chains or twice in one",
             Reason::Count => "page count or bitmap byte count is wrong, or entries are not whole",
             Reason::Name => "name is malformed",
-            Reason::Extension => "extension is 100 to 126, or entry is extended",
+            Reason::Extension => "extension is 100 to 126, or extended entry has no entry after it",
             Reason::Twice => "name and extension are there twice",
             Reason::TooDeep => "directories are nested too deep",
             Reason::Bitmap => "bitmap disagrees with the pages in use",

@@ -32,9 +32,13 @@ fn formatted() -> Vec<u8> {
 
 /// Writes a packet that ends its chain.
 fn packet(image: &mut [u8], page: u16, body: &[u8]) {
-    let mut packet = vec![body.len() as u8 + 1];
-    packet.extend_from_slice(body);
-    packet.push(0);
+    chained(image, page, &[body, &[0]].concat());
+}
+
+/// Writes a packet of these bytes, the last of which is its pointer.
+fn chained(image: &mut [u8], page: u16, bytes: &[u8]) {
+    let mut packet = vec![bytes.len() as u8];
+    packet.extend_from_slice(bytes);
     let check = !crc16(page, &packet);
     packet.extend(check.to_le_bytes());
     let start = 32 * usize::from(page);
@@ -228,6 +232,55 @@ fn entries_come_in_walk_order_with_their_paths() {
         assert_eq!(owner_of(&owners, page), record(Owner::Entry(page - 1), 0));
     }
     assert_eq!(owner_of(&owners, 5), record(Owner::Free, 0));
+}
+
+/// Two stamps before A.1, and one that looks like an entry before the directory LAB, which has none.
+fn stamped() -> Vec<u8> {
+    let mut image = vec![0; 32 * 16];
+    let root = b"\xAA\x00\x80\x1F\x00\x00\x00\xCFWNER\x01\x01\xFF\xFF\xFF\xFF\xFF\xFF\xFFA   \x01\x01\x01\x02";
+    let second = b"\xC1   \x01\x01\x01LAB \x7F\x03\x00\x00";
+    chained(&mut image, 0, root);
+    packet(&mut image, 1, b"bytes");
+    chained(&mut image, 2, second);
+    packet(&mut image, 3, b"\xAAROOT\x00\x00B   \x02\x04\x01");
+    packet(&mut image, 4, b"");
+    image
+}
+
+/// Stamps are no entries; a replaced file keeps its own, and a deleted one loses them.
+#[test]
+fn stamps_are_passed_over_kept_and_deleted() {
+    let mut image = stamped();
+    let mut owners = owner_table(16);
+    let listed: Result<Vec<Listed>, Refusal> = entries(GEOMETRY, &image, &mut owners).collect();
+    let names: Vec<String> = listed.expect("accepted").iter().map(words).collect();
+    assert_eq!(names, ["A", "LAB", "LAB/B"]);
+    assert_eq!(owner_of(&owners, 3), record(Owner::Entry(1), 0));
+    let a = path(&[], "A", 1).expect("a path");
+    let stamps = image[8..22].to_vec();
+    put(GEOMETRY, &mut image, &a, &[7; 30], &mut owners).expect("room");
+    assert_eq!(image[8..22], stamps);
+    // The first page of the root is full because of its stamps; the second has space.
+    let new = path(&[], "NEW", 1).expect("a path");
+    put(GEOMETRY, &mut image, &new, b"", &mut owners).expect("room");
+    assert_eq!(image[2 * 32 + 15..2 * 32 + 19], *b"NEW ");
+    delete(GEOMETRY, &mut image, &a, &mut owners).expect("a file");
+    assert_eq!(image[..9], [8, 0xAA, 0, 0x80, 0x5D, 0, 0, 0, 2]);
+    let totals = Totals {
+        used: 5,
+        files: 2,
+        directories: 1,
+    };
+    assert_eq!(check(GEOMETRY, &image, &mut owners), Ok(totals));
+}
+
+/// A stamp with no entry after it in its page is refused there.
+#[test]
+fn stamp_without_its_entry_is_refused() {
+    let mut image = stamped();
+    chained(&mut image, 2, b"LAB \x7F\x03\x00\xC1   \x01\x01\x01\x00");
+    let told = check(GEOMETRY, &image, &mut owner_table(16)).expect_err("a stamp alone");
+    assert_eq!((told.reason(), told.page), (Reason::Extension, 2));
 }
 
 #[test]

@@ -76,6 +76,7 @@ fn directory(geometry: &Geometry, pages: Vec<usize>, items: Vec<Item>) -> Direct
         pages,
         counts,
         items,
+        ..DirectoryPlan::default()
     }
 }
 

@@ -18,8 +18,8 @@ use std::time::{Duration, Instant, SystemTime, UNIX_EPOCH};
 use common::dumps::{compare, faulty_dump, malformed_dump, sound_dump};
 use common::edit_runs::Run;
 use common::generators::{
-    any_case, case_of, large_image, random_case, random_sizes, worn_plan, Case, Kind, Made,
-    OWNER_TABLES,
+    any_case, case_of, large_image, random_case, random_sizes, stamped_plan, worn_plan, Case, Kind,
+    Made, OWNER_TABLES,
 };
 use common::plans::{formatted_plan, geometry, may_be_local};
 use common::puts::used_plan;
@@ -147,9 +147,24 @@ impl Soak {
         self.geometries.add(geometry_class(&button));
     }
 
-    /// A run of calls on an image in use, or on a formatted one.
+    /// Every call with an image of many stamps, sound or of another kind.
+    fn stamps(&mut self, rng: &mut Rng) {
+        let kinds = Kind::each(rng);
+        for kind in [Kind::Sound, kinds[rng.below(kinds.len())]] {
+            if let Some(case) = case_of(kind, stamped_plan(rng).build(), rng) {
+                self.trial(&format!("with stamps, {}", words(kind)), &case, rng);
+            }
+        }
+    }
+
+    /// A run of calls on an image in use, with many stamps or any, or on a formatted one.
     fn edits(&mut self, rng: &mut Rng) {
         let steps = steps(rng);
+        if rng.chance(25) {
+            let plan = stamped_plan(rng);
+            self.begin_run("edits of an image with stamps", &plan);
+            return Run::generated(plan, rng, &mut self.calls).run(steps);
+        }
         if rng.chance(75) {
             let plan = used_plan(rng.next_u64(), rng);
             self.begin_run("edits of an image in use", &plan);
@@ -213,6 +228,7 @@ impl Soak {
             self.trial("worn image", &case, rng);
         }
         self.trial("any bytes", &any_case(rng), rng);
+        self.stamps(rng);
         self.sums(rng);
         self.edits(rng);
         if rng.chance(5) {

@@ -246,6 +246,32 @@ static void add_directory(void)
     append_entry(start, name, DIRECTORY | (below(4) == 0) << 7, page, 0);
 }
 
+/* A stamp more, an entry's bytes with the first above 127, in a page of the root or of a directory that is there, if it has space: before one of its
+ * entries or at its end. */
+static void add_stamp(void)
+{
+    uint8_t path[NAME * (LEVELS + 2)];
+    struct owfs_entry entry;
+    size_t length = random_entry(&entry, path), n = number_length(), slot = NAME + 1 + 2 * n, control = NAME + 2 + n;
+    uint32_t page = length > 0 && entry.extension == DIRECTORY ? entry.start : 0;
+    uint32_t next = has_packet(page) ? number_at(pointer_of(page)) : 0;
+    if (next > 0 && next < dump.page_count && below(2) == 0) {
+        page = next;
+        control = 0;
+    }
+    uint8_t *bytes = page_at(page);
+    if (!has_packet(page) || bytes[0] < control + n || bytes[0] + slot + 3 > dump.page_length)
+        return;
+    uint32_t slots = (uint32_t)((bytes[0] - control - n) / slot);
+    uint8_t *place = bytes + 1 + control + slot * below(slots + 1), *end = bytes + 1 + bytes[0];
+    memmove(place + slot, place, (size_t)(end - place));
+    for (size_t byte = 0; byte < slot; byte++)
+        place[byte] = (uint8_t)below(256);
+    place[0] |= 0x80;
+    bytes[0] = (uint8_t)(bytes[0] + slot);
+    seal(page);
+}
+
 /* The image as a put, a delete or a format with the settings leaves it. */
 static void edit(void)
 {
@@ -271,7 +297,7 @@ static void change_settings(void)
 static void change(void)
 {
     static void (*const of_button[])(void) = {
-        change_page, change_page, copy_page, change_pointer, change_path, change_path, add_directory, edit, edit,
+        change_page, change_page, copy_page, change_pointer, change_path, change_path, add_directory, add_stamp, edit, edit,
     };
     if (below(6) == 0)
         change_settings();

@@ -101,7 +101,9 @@ fn random_offset(rng: &mut Rng) -> usize {
 pub fn sound_dump(rng: &mut Rng) -> (&'static str, Vec<u8>) {
     let case = fitting(rng, sound_case);
     let offset = random_offset(rng);
+    let has_stamps = case.built.entries.iter().any(|entry| entry.stamps > 0);
     let label = match offset {
+        _ if has_stamps => "sound image with stamps",
         8 => "sound image at offset 8",
         _ => "sound image at another offset",
     };

@@ -174,15 +174,19 @@ impl<'a> Run<'a> {
         let table = self.table();
         let told = both::delete(&mut self.button, table, path, self.rng);
         self.tally.add(format!("delete {}", told.number));
-        match self.file(path).map(|file| file.listing.attribute) {
-            None => assert!(told == answer(14, 0) || told == answer(15, 0)),
-            Some(1) => assert_eq!(told, answer(16, 0)),
-            Some(_) => {
-                assert_eq!(told, answer(0, 0));
-                let plan = plan_without(&self.plan, path).expect("the plan has the file");
-                self.edited(&before, plan);
-            }
+        let Some(file) = self.file(path) else {
+            assert!(told == answer(14, 0) || told == answer(15, 0));
+            return;
+        };
+        if file.listing.attribute == 1 {
+            return assert_eq!(told, answer(16, 0));
         }
+        assert_eq!(told, answer(0, 0));
+        if file.stamps > 0 {
+            self.tally.add("file with stamps deleted");
+        }
+        let plan = plan_without(&self.plan, path).expect("the plan has the file");
+        self.edited(&before, plan);
     }
 
     /// A careful put or delete with both, of some writes or all, and a mend if any are left.

@@ -1,6 +1,8 @@
 //! Seeded images, paths, positions and lengths, for the tests of the library's calls.
 
-use crate::plans::{geometry, may_be_local};
+use std::collections::{BTreeMap, BTreeSet};
+
+use crate::plans::{geometry, is_path, may_be_local};
 use crate::{answer, table_bytes, Button, Tally};
 use referee::builder::fault::{
     with_fault, with_random_changes, with_sealed_flips, with_two_faults,
@@ -130,7 +132,7 @@ pub fn deep_image(rng: &mut Rng) -> Built {
 }
 
 /// A sound image of 65,535 pages with so many entries in each directory as long as there are pages: files of up to so many pages,
-/// and this part of them directories.
+/// and this part of them directories. A few entries have stamps.
 pub fn largest_image(
     page_length: u32,
     entries: usize,
@@ -148,6 +150,7 @@ pub fn largest_image(
         directory_percent,
         deep: false,
         odd_packet_percent: 0,
+        stamp_percent: 3,
         fill: Fill::Byte(0xFF),
     };
     random_plan(page_length, 65_535, shape, &mut Rng::new(seed)).build()
@@ -208,6 +211,53 @@ fn plan_with_free_pages(
         ..shape
     };
     random_plan(page_length, page_count, shape, rng)
+}
+
+/// Page length and page count of an image with stamps: every page length, but pages are often short; one image in six has page numbers of two bytes.
+fn stamped_sizes(rng: &mut Rng) -> (u32, u32) {
+    let most_pages = [16, 24, 32, 32, 40, 60, 60, 300][rng.below(8)];
+    let (any_length, any_count) = random_sizes(rng, most_pages);
+    let lengths = [32, 32, 32, 33, 38, 39, 40, 48, 64, 128, 256];
+    let page_length = match rng.chance(70) {
+        true => lengths[rng.below(lengths.len())],
+        false => any_length,
+    };
+    match rng.chance(15) {
+        true => (page_length, rng.between(257, 300) as u32),
+        false => (page_length, any_count),
+    }
+}
+
+/// A plan of not many entries on up to some sixty pages. Most entries have stamps, or all, so that every directory with entries has some. Pages are
+/// mostly short, so that directory pages are often full because of them.
+pub fn stamped_plan(rng: &mut Rng) -> ImagePlan {
+    let (page_length, page_count) = stamped_sizes(rng);
+    let geometry = geometry(page_length, page_count);
+    let unused = geometry.page_count().saturating_sub(rng.between(10, 60));
+    let shape = Shape {
+        free_pages: unused.max([0, 3, 5, 9][rng.below(4)]),
+        least_entries: rng.between(1, 3),
+        most_entries: [3, 6, 12][rng.below(3)],
+        most_file_pages: rng.between(1, 3),
+        stamp_percent: [40, 70, 100][rng.below(3)],
+        ..Shape::random(&geometry, rng)
+    };
+    random_plan(page_length, page_count, shape, rng)
+}
+
+/// The image of a plan with one to three stamps' first bytes made less than 128, and the checks computed again; none if it has no stamp.
+pub fn with_stamps_made_plain(built: &Built, rng: &mut Rng) -> Option<Vec<u8>> {
+    let mut pages = Pages::of(built.page_length, built.page_count, &built.image);
+    let stamped = built.entries.iter().filter(|entry| entry.stamps > 0);
+    let stamped: Vec<&BuiltEntry> = stamped.collect();
+    for _ in 0..rng.between(1, 3) {
+        let entry = *rng.pick(&stamped)?;
+        let back = rng.between(1, entry.stamps) * pages.geometry.entry_length();
+        let place = entry.offset - back;
+        let first = pages.page(entry.page)[place] & 0x7F;
+        pages.alter(entry.page, place, &[first]);
+    }
+    Some(pages.image)
 }
 
 /// A number that asks format for a bitmap file (0) or a local bitmap, with a label.
@@ -675,9 +725,131 @@ pub fn features(built: &Built) -> Vec<&'static str> {
     for chain in &built.chains {
         labels.extend(chain_features(&pages, chain));
     }
+    labels.extend(stamp_features(built));
     labels.sort_unstable();
     labels.dedup();
     labels
+}
+
+/// The labels of images with stamps.
+pub const STAMPS: [&str; 15] = [
+    "stamps in the root",
+    "stamps in a subdirectory",
+    "stamps in each of several directories",
+    "stamps before a file's entry",
+    "stamps before a directory's entry",
+    "several stamps before one entry",
+    "stamps in a later page of a directory",
+    "page of stamps and one entry only",
+    "page full because of stamps",
+    "page full of one entry and its stamps",
+    "stamp like a name",
+    "stamp like an entry",
+    "stamp like a marker",
+    "stamp of erased bytes",
+    "stamp like an entry of its directory",
+];
+
+/// The words for so many stamps.
+pub const STAMP_COUNTS: [&str; 5] = [
+    "no stamps",
+    "one stamp",
+    "two stamps",
+    "three stamps",
+    "more than three stamps",
+];
+
+/// The words for the number of an entry's stamps.
+pub fn stamp_count(stamps: usize) -> &'static str {
+    STAMP_COUNTS[stamps.min(4)]
+}
+
+/// What the stamps of a sound image are like, as labels to be counted.
+pub fn stamp_features(built: &Built) -> Vec<&'static str> {
+    let is_stamped = |entry: &&BuiltEntry| entry.stamps > 0;
+    let stamped: Vec<&BuiltEntry> = built.entries.iter().filter(is_stamped).collect();
+    let mut taken: BTreeMap<usize, Vec<usize>> = BTreeMap::new();
+    let mut keys: BTreeSet<(usize, [u8; 5])> = BTreeSet::new();
+    for entry in &built.entries {
+        taken.entry(entry.page).or_default().push(1 + entry.stamps);
+        keys.insert((entry.directory, entry_key(entry)));
+    }
+    let mut labels = Vec::new();
+    for entry in &stamped {
+        labels.extend(entry_stamp_features(built, entry, &taken[&entry.page]));
+        for stamp in built.stamps_of(entry) {
+            labels.extend(looks_like(built, stamp));
+            if keys.contains(&(entry.directory, stamp_key(stamp))) {
+                labels.push("stamp like an entry of its directory");
+            }
+        }
+    }
+    let every: BTreeSet<usize> = built.entries.iter().map(|entry| entry.directory).collect();
+    let with_stamps: BTreeSet<usize> = stamped.iter().map(|entry| entry.directory).collect();
+    if every.len() > 1 && every == with_stamps {
+        labels.push("stamps in each of several directories");
+    }
+    labels
+}
+
+/// An entry's name and extension number.
+fn entry_key(entry: &BuiltEntry) -> [u8; 5] {
+    let [first, second, third, fourth] = entry.listing.name.to_le_bytes();
+    [first, second, third, fourth, entry.listing.extension as u8]
+}
+
+/// The name and extension number that a stamp looks like.
+fn stamp_key(stamp: &[u8]) -> [u8; 5] {
+    [
+        stamp[0] & 0x7F,
+        stamp[1],
+        stamp[2],
+        stamp[3],
+        stamp[4] & 0x7F,
+    ]
+}
+
+/// What an entry with stamps is like, and the directory page that holds it, whose entries take so many slots each.
+fn entry_stamp_features(built: &Built, entry: &BuiltEntry, taken: &[usize]) -> Vec<&'static str> {
+    let geometry = geometry(built.page_length, built.page_count);
+    let is_first = built.chains[entry.directory].pages[0] == entry.page;
+    let slots = match is_first {
+        true => geometry.first_page_entries(),
+        false => geometry.continuation_entries(),
+    };
+    let is_file = built.chains[entry.chain].of == ChainOf::File;
+    let met = [
+        (entry.listing.level == 0, "stamps in the root"),
+        (entry.listing.level > 0, "stamps in a subdirectory"),
+        (is_file, "stamps before a file's entry"),
+        (!is_file, "stamps before a directory's entry"),
+        (entry.stamps > 1, "several stamps before one entry"),
+        (!is_first, "stamps in a later page of a directory"),
+        (taken.len() == 1, "page of stamps and one entry only"),
+        (
+            taken.iter().sum::<usize>() == slots,
+            "page full because of stamps",
+        ),
+        (taken == [slots], "page full of one entry and its stamps"),
+    ];
+    let met = met.into_iter().filter(|(is, _)| *is);
+    met.map(|(_, label)| label).collect()
+}
+
+/// What a stamp looks like, but for the top bit of its first byte.
+fn looks_like(built: &Built, stamp: &[u8]) -> Option<&'static str> {
+    let geometry = geometry(built.page_length, built.page_count);
+    let path = [&stamp_key(stamp)[..4], &[1]].concat();
+    let start = geometry.number_at(&stamp[5..]);
+    match stamp[4] & 0x7F {
+        _ if stamp.iter().all(|&byte| byte == 0xFF) => Some("stamp of erased bytes"),
+        0 if stamp[0] == geometry.marker() => Some("stamp like a marker"),
+        0..=99 | 127 if is_path(&path) && start < geometry.page_count() => {
+            Some("stamp like an entry")
+        }
+        _ if is_path(&path) => Some("stamp like a name"),
+        _ => None,
+    }
 }
 
 /// What a chain has: empty packets, partly filled packets before its end, pages in another order than rising.

@@ -455,6 +455,13 @@ impl Tally {
         *self.counts.entry(label.into()).or_default() += u64::from(times);
     }
 
+    /// Counts every label as many times more as another tally has counted it.
+    pub fn add_all(&mut self, other: &Tally) {
+        for (label, count) in &other.counts {
+            *self.counts.entry(label.clone()).or_default() += count;
+        }
+    }
+
     /// How many times a label was counted.
     pub fn count(&self, label: &str) -> u64 {
         self.counts.get(label).copied().unwrap_or(0)

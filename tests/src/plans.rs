@@ -36,7 +36,7 @@ pub fn formatted_plan(page_length: u32, page_count: u32, local: bool) -> ImagePl
         root: DirectoryPlan {
             pages: vec![0],
             counts: vec![0],
-            items: Vec::new(),
+            ..DirectoryPlan::default()
         },
         fill: Fill::Byte(0),
     }
@@ -121,19 +121,16 @@ pub fn directories(plan: &ImagePlan) -> Vec<(Vec<u8>, &DirectoryPlan)> {
     all
 }
 
-/// The place in a directory's chain of its first page with space for an entry; none if all are full.
+/// The place in a directory's chain of its first page with space for an entry; none if all are full. Stamps take slots as entries do.
 pub fn page_with_space(geometry: &Geometry, directory: &DirectoryPlan) -> Option<usize> {
-    directory
-        .counts
-        .iter()
-        .enumerate()
-        .position(|(place, &count)| {
-            let entries = match place {
-                0 => geometry.first_page_entries(),
-                _ => geometry.continuation_entries(),
-            };
-            count < entries
-        })
+    let slots = directory.slots();
+    slots.iter().enumerate().position(|(place, &taken)| {
+        let slots = match place {
+            0 => geometry.first_page_entries(),
+            _ => geometry.continuation_entries(),
+        };
+        taken < slots
+    })
 }
 
 /// The pages that no chain has, rising.
@@ -148,12 +145,16 @@ fn free_pages(plan: &ImagePlan) -> Vec<usize> {
 /// What a put meets that nothing but room could refuse.
 pub struct Room {
     pub geometry: Geometry,
-    /// The number of entries in each page of the directory, in chain order.
+    /// The slots taken in each page of the directory by entries and stamps, in chain order.
     pub counts: Vec<usize>,
+    /// The stamps in the directory.
+    pub stamps: usize,
     /// The place of the page that the new entry goes to; none if the directory must grow, or the file is replaced.
     pub space: Option<usize>,
     /// The file that is replaced.
     pub old: Option<FilePlan>,
+    /// The stamps of the file that is replaced.
+    pub old_stamps: usize,
     /// The pages that may be taken, rising: free ones and those of the replaced file.
     pub free: Vec<usize>,
 }
@@ -166,7 +167,8 @@ impl Room {
         }
         let (names, name) = split(path);
         let directory = directory(&plan.root, names).ok_or(15_u32)?;
-        let old = match file_place(directory, name).map(|place| &directory.items[place]) {
+        let item = file_place(directory, name).map(|place| &directory.items[place]);
+        let old = match item {
             Some(Item::File(file)) if file.read_only => return Err(16),
             Some(Item::File(file)) => Some(file.clone()),
             _ => None,
@@ -177,9 +179,11 @@ impl Room {
         let geometry = geometry(plan.page_length, plan.page_count);
         Ok(Room {
             geometry,
-            counts: directory.counts.clone(),
+            counts: directory.slots(),
+            stamps: directory.stamps.values().map(Vec::len).sum(),
             space: page_with_space(&geometry, directory).filter(|_| old.is_none()),
             old,
+            old_stamps: item.map_or(0, |item| directory.stamps_of(item).len()),
             free,
         })
     }
@@ -215,8 +219,8 @@ impl Room {
     }
 }
 
-/// The plan after a put, or the number of its refusal, 14 to 17. A replaced entry stays in place and its chain counts as free. A new one
-/// goes to the end of the first directory page with space; if none has, the lowest free page joins the directory's end. The file
+/// The plan after a put, or the number of its refusal, 14 to 17. A replaced entry stays in place with its stamps and its chain counts as free. A
+/// new one goes to the end of the first directory page with space; if none has, the lowest free page joins the directory's end. The file
 /// then has the lowest free pages, rising, all packets full but the last.
 pub fn plan_with(plan: &ImagePlan, path: &[u8], bytes: &[u8]) -> Result<ImagePlan, u32> {
     plan_with_room(plan, &Room::of(plan, path)?, path, bytes)
@@ -261,13 +265,14 @@ fn plan_with_room(
     Ok(plan)
 }
 
-/// The plan without the file of this path; none if there is no such file. The page that held its entry has one less.
+/// The plan without the file of this path and its stamps; none if there is no such file. The page that held its entry has one less.
 pub fn plan_without(plan: &ImagePlan, path: &[u8]) -> Option<ImagePlan> {
     let mut plan = plan.clone();
     let (names, name) = split(path);
     let directory = directory_mut(&mut plan.root, names)?;
     let mut place = file_place(directory, name)?;
-    directory.items.remove(place);
+    let removed = directory.items.remove(place);
+    directory.stamps.remove(&removed.key());
     for count in &mut directory.counts {
         if place < *count {
             *count -= 1;

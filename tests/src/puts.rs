@@ -261,6 +261,17 @@ pub const ROOM: [&str; 21] = [
     "one page free, directory must grow: 17",
 ];
 
+/// The labels of stamps in the directory of a put, with the answers of the puts.
+pub const STAMPED: [&str; 7] = [
+    "new file, stamps in its directory: 0",
+    "new file, stamps in its directory: 17",
+    "directory must grow because of stamps: 0",
+    "directory must grow because of stamps: 17",
+    "replaced file has stamps: 0",
+    "replaced file has stamps: 17",
+    "replaced file has none, but others have stamps: 0",
+];
+
 /// Counts the room for a put of these bytes and its entry, each with the number that the put answered.
 pub fn count_room(room: &Room, bytes: &[u8], number: u32, tally: &mut Tally) {
     for label in room_features(room, bytes) {
@@ -292,7 +303,19 @@ pub fn room_features(room: &Room, bytes: &[u8]) -> Vec<String> {
         1 => labels.push(format!("one page free, {put}")),
         _ => {}
     }
+    labels.extend(stamp_feature(room).map(String::from));
     labels
+}
+
+/// What the stamps in the directory of a put are to it, if there are any.
+pub fn stamp_feature(room: &Room) -> Option<&'static str> {
+    match (&room.old, room.old_stamps) {
+        _ if room.stamps == 0 => None,
+        (Some(_), 0) => Some("replaced file has none, but others have stamps"),
+        (Some(_), _) => Some("replaced file has stamps"),
+        (None, _) if room.grows() => Some("directory must grow because of stamps"),
+        (None, _) => Some("new file, stamps in its directory"),
+    }
 }
 
 /// What the entry of a put is like: its place in the directory, or the file that it replaces.

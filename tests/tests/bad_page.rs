@@ -366,3 +366,16 @@ fn samples_are_told_as_the_guide_prints() {
     let indented: String = text.lines().map(|line| format!("    {line}\n")).collect();
     assert!(guide.contains(&indented), "docs/OFFICE.md: {text}");
 }
+
+/// Of a directory the bytes after a bad page are those of entries and stamps: the root's second page has a stamp and two entries.
+#[test]
+fn bytes_after_a_bad_directory_page_count_stamps() {
+    let root = Path::new(env!("CARGO_MANIFEST_DIR")).join("..");
+    let last = fs::read(root.join("samples/stamps.dump")).expect("a sample");
+    let mut bad = last.clone();
+    bad[8 + 1] ^= 0x10;
+    let (is_answered, text) = both("stamps", &last, &bad);
+    assert!(is_answered);
+    let words = "page 0 has place 0 of 2 in the root directory\nafter it pages 1 bytes 21";
+    assert_eq!(text, format!("refused 2 page 0\n{words}\n{NO_OTHER}"));
+}

@@ -7,7 +7,9 @@
 
 use common::generators::{files, roomy_plan};
 use common::plans::{directories, plan_with, Room};
-use common::puts::{careful_bytes, done_features, labelled_path, path_in, used_plan};
+use common::puts::{
+    careful_bytes, done_features, labelled_path, path_in, stamp_feature, used_plan,
+};
 use common::stops::{careful_edit, lay_packets, Careful, Edit};
 use common::{no_writes, run_seeds, Button, Tally};
 use referee::builder::plan::{Built, BuiltEntry, ImagePlan};
@@ -96,7 +98,8 @@ fn put_features(edit: &Careful, bytes: &[u8]) -> Vec<&'static str> {
         ),
     ];
     let met = met.into_iter().filter(|(is, _)| *is);
-    met.map(|(_, label)| label).collect()
+    let met = met.map(|(_, label)| label);
+    met.chain(stamp_feature(&room)).collect()
 }
 
 /// Stops a careful put, and counts what it is like.
@@ -111,7 +114,7 @@ fn put(edit: Careful, bytes: &[u8], rng: &mut Rng, tally: &mut Tally) {
 }
 
 /// The labels of all puts.
-const PUT_LABELS: [&str; 23] = [
+const PUT_LABELS: [&str; 27] = [
     "new file",
     "replaced file",
     "directory that grows",
@@ -135,6 +138,10 @@ const PUT_LABELS: [&str; 23] = [
     "file without bytes",
     "file on several pages",
     "file whose pages lie apart",
+    "new file, stamps in its directory",
+    "directory must grow because of stamps",
+    "replaced file has stamps",
+    "replaced file has none, but others have stamps",
 ];
 
 /// Puts to images of every shape, stopped after every write.
@@ -252,6 +259,7 @@ fn puts_to_full_directories_are_stopped_after_every_write() {
         "local bitmap",
         "bitmap file",
         "file on several pages",
+        "directory must grow because of stamps",
     ];
     tally.demand(300, &["edits"]);
     tally.demand(40, &labels);
@@ -291,7 +299,7 @@ fn long_put(seed: u64, rng: &mut Rng) -> Option<(Careful, Vec<u8>)> {
 #[test]
 fn long_puts_are_stopped_after_some_writes() {
     let mut tally = Tally::default();
-    run_seeds(LONG..LONG + 3_000, |seed, rng| {
+    run_seeds(LONG..LONG + 4_000, |seed, rng| {
         if let Some((edit, bytes)) = long_put(seed, rng) {
             put(edit, &bytes, rng, &mut tally);
         }
@@ -338,10 +346,14 @@ fn delete(edit: Careful, rng: &mut Rng, tally: &mut Tally) {
     if edit.total() > 2 {
         tally.add("several bitmap pages release");
     }
+    let file = edit.before.file(&edit.path);
+    if file.is_some_and(|file| file.stamps > 0) {
+        tally.add("file with stamps");
+    }
 }
 
 /// The labels of all deletes.
-const DELETE_LABELS: [&str; 9] = [
+const DELETE_LABELS: [&str; 10] = [
     "local bitmap",
     "bitmap file",
     "bitmap file's chain scattered",
@@ -351,6 +363,7 @@ const DELETE_LABELS: [&str; 9] = [
     "file in a directory",
     "file in a directory at level 8",
     "two-byte page numbers",
+    "file with stamps",
 ];
 
 /// Deletes from images of every shape, stopped after every write.

@@ -345,6 +345,117 @@ fn a_bitmap_file_keeps_the_root_for_the_entry() {
     assert_eq!(delete_order(&button, &file("A")), [0, 1]);
 }
 
+/// A stamp with this first byte; its other bytes look like an entry of a file on page 1.
+fn stamp(first: u8) -> [u8; 7] {
+    [first, b'A', b' ', b' ', 1, 1, 1]
+}
+
+/// A root on page 0 that two stamps and the entry of A.1, on page 1, fill.
+fn stamped() -> Button {
+    let mut pages = Pages::new(32, 16);
+    let root = [
+        pages.local_control(&[0, 1]),
+        stamp(0x80).to_vec(),
+        stamp(0xC1).to_vec(),
+        pages.entry("A", 1, 1, 1),
+    ];
+    pages.packet(0, &root.concat(), 0).packet(1, b"a", 0);
+    Button::from(&pages)
+}
+
+/// The slots of a root's first page with a local bitmap.
+fn root_slots(button: &Button) -> Vec<u8> {
+    button.pages().body(0)[7..].to_vec()
+}
+
+/// A file that has stamps is replaced in the order of any other. Its stamps stand before it after every write.
+#[test]
+fn a_replaced_file_has_its_stamps_after_every_write() {
+    let button = stamped();
+    let stamps = [stamp(0x80), stamp(0xC1)].concat();
+    assert_eq!(put_order(&button, &file("A"), &[7; 30]), [0, 2, 3, 0, 0]);
+    for allowed in 0..=5 {
+        let mut stopped = button.clone();
+        let told = stopped.careful_put(&file("A"), &[7; 30], allowed).0;
+        assert_eq!(told, writes(allowed, allowed < 5));
+        let entry = match allowed {
+            0..=3 => stopped.pages().entry("A", 1, 1, 1),
+            _ => stopped.pages().entry("A", 1, 2, 2),
+        };
+        assert_eq!(root_slots(&stopped), [stamps.clone(), entry].concat());
+        let marks = [0, 2, 2, 2, 1, 0][allowed as usize];
+        assert_eq!(stopped.mend().0, mended(marks));
+        let bytes = match allowed {
+            0..=3 => b"a".to_vec(),
+            _ => vec![7; 30],
+        };
+        assert_eq!(stopped.read(&file("A")), (0, bytes));
+    }
+}
+
+/// The one write of the directory page takes away the entry and its stamps.
+#[test]
+fn a_deleted_file_and_its_stamps_go_by_one_write() {
+    let button = stamped();
+    assert_eq!(delete_order(&button, &file("A")), [0, 0]);
+    for (allowed, slots, marks) in [(0, 21, 0), (1, 0, 1), (2, 0, 0)] {
+        let mut stopped = button.clone();
+        let told = stopped.careful_delete(&file("A"), allowed).0;
+        assert_eq!(told, writes(allowed, allowed < 2));
+        assert_eq!(root_slots(&stopped).len(), slots);
+        assert_eq!(stopped.mend().0, mended(marks));
+    }
+}
+
+/// A page that is full because of stamps: the directory's new page holds the entry and is written after the file's pages.
+#[test]
+fn a_directory_full_because_of_stamps_grows_after_the_files_pages() {
+    let button = stamped();
+    assert_eq!(put_order(&button, &file("D"), &[1; 29]), [0, 3, 4, 2, 0]);
+    for allowed in 0..=5 {
+        let mut stopped = button.clone();
+        let told = stopped.careful_put(&file("D"), &[1; 29], allowed).0;
+        assert_eq!(told, writes(allowed, allowed < 5));
+        assert_eq!(root_slots(&stopped), root_slots(&button));
+        let marks = if (1..5).contains(&allowed) { 3 } else { 0 };
+        let (told, owners) = stopped.mend();
+        assert_eq!(told, mended(marks));
+        assert_eq!(stopped.list_all().len(), 1 + usize::from(allowed == 5));
+        let root = if allowed == 5 { vec![0, 2] } else { vec![0] };
+        assert_eq!(chain_of(&owners, 1), root);
+    }
+}
+
+/// Stamps before a subdirectory's entry and in the subdirectory, with a bitmap file.
+#[test]
+fn a_nested_target_with_stamps_is_written_between_marks_and_releases() {
+    let mut pages = nested(true).pages();
+    let root = [
+        pages.file_control(9, 2),
+        stamp(0x81).to_vec(),
+        stamp(0x82).to_vec(),
+        pages.entry("D", 0x7F, 3, 0),
+    ];
+    let sub = [
+        pages.sub_control("ROOT", 0),
+        stamp(0x83).to_vec(),
+        pages.entry("X", 1, 4, 1),
+    ];
+    pages.packet(0, &root.concat(), 0);
+    let button = Button::from(pages.packet(3, &sub.concat(), 0));
+    assert_eq!(button.verdict(), answer(0, 0));
+    let (new, old) = (path(&["D"], "NEW", 1), path(&["D"], "X", 1));
+    assert_eq!(put_order(&button, &new, b"n"), [9, 1, 3]);
+    assert_eq!(put_order(&button, &old, b"n"), [9, 1, 3, 9]);
+    assert_eq!(delete_order(&button, &old), [3, 9]);
+    // The page of D is full with NEW, its third slot: the next file needs another page.
+    let full = with_file(button, &new, b"n");
+    assert_eq!(
+        put_order(&full, &path(&["D"], "MORE", 1), b"m"),
+        [9, 6, 2, 3]
+    );
+}
+
 /// Two-byte page numbers: 300 pages of 32 bytes with a bitmap of 38 bytes on two pages.
 #[test]
 fn two_byte_page_numbers_have_their_bitmap_pages_in_order() {

@@ -5,7 +5,8 @@
 //! The archive is made by `rt staticlib owfs`.
 
 use common::edit_runs::Run;
-use common::puts::{used_plan, DONE, ENTRIES, ROOM};
+use common::generators::stamped_plan;
+use common::puts::{used_plan, DONE, ENTRIES, ROOM, STAMPED};
 use common::{run_seeds, Seed, Tally};
 use referee::rng::Rng;
 
@@ -55,6 +56,23 @@ fn runs_on_formatted_images_are_as_planned() {
     tally.demand_numbers("careful put", 50, [0, 15, 17]);
     tally.demand_numbers("careful delete", 50, [0, 15]);
     tally.demand(100, &["careful edits stopped"]);
+}
+
+/// Runs on images with many stamps.
+#[test]
+fn runs_on_images_with_stamps_are_as_planned() {
+    let mut tally = Tally::default();
+    run_seeds(0xB200_0000..0xB200_0000 + 400, |_, rng| {
+        Run::generated(stamped_plan(rng), rng, &mut tally).run(40);
+    });
+    tally.print();
+    tally.demand(5_000, &["puts"]);
+    tally.demand(40, &STAMPED);
+    tally.demand(100, &["file with stamps deleted", "careful edits stopped"]);
+    tally.demand_numbers("put", 100, [0, 14, 15, 16, 17]);
+    tally.demand_numbers("delete", 100, [0, 14, 15, 16]);
+    tally.demand_numbers("careful put", 50, [0, 15, 16, 17]);
+    tally.demand_numbers("careful delete", 20, [0, 15, 16]);
 }
 
 /// Runs on generated images: nested directories, scattered chains, odd packets, read-only files.

@@ -45,7 +45,7 @@ const PATHS: [&str; 24] = [
 ];
 
 /// What deletes that were done must have met.
-const DONE: [&str; 33] = [
+const DONE: [&str; 37] = [
     "one-byte page numbers",
     "two-byte page numbers",
     "local bitmap",
@@ -79,6 +79,10 @@ const DONE: [&str; 33] = [
     "directory's chain scattered",
     "file at level 8",
     "file below a hidden directory",
+    "file with stamps",
+    "file with several stamps",
+    "file without stamps beside stamps of its page",
+    "page of stamps and one entry only",
 ];
 
 /// The label of an entry's place among those of its page, and of a continuation page that has no other.
@@ -129,6 +133,12 @@ fn delete_features(built: &Built, entry: &BuiltEntry, after: &Button) -> Vec<&'s
         1 => "file of one page",
         _ => "file of several pages",
     });
+    let mut in_page = built
+        .entries
+        .iter()
+        .filter(|other| other.page == entry.page);
+    let is_alone = in_page.clone().count() == 1;
+    let stamps_in_page = in_page.any(|other| other.stamps > 0);
     let changed = |page: &&usize| before.page(**page) != after.page(**page);
     let changes = bitmap.map_or(0, |chain| chain.pages.iter().filter(changed).count());
     let met = [
@@ -143,6 +153,16 @@ fn delete_features(built: &Built, entry: &BuiltEntry, after: &Button) -> Vec<&'s
         (
             changes > 1,
             "bits changed in several packets of the bitmap file",
+        ),
+        (entry.stamps > 0, "file with stamps"),
+        (entry.stamps > 1, "file with several stamps"),
+        (
+            entry.stamps == 0 && stamps_in_page,
+            "file without stamps beside stamps of its page",
+        ),
+        (
+            entry.stamps > 0 && is_alone,
+            "page of stamps and one entry only",
         ),
         (entry.bytes.is_empty(), "file without bytes"),
         (entry.listing.level == 8, "file at level 8"),

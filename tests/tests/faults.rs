@@ -828,7 +828,7 @@ fn extension_numbers_100_to_126_are_10() {
 }
 
 #[test]
-fn high_byte_is_10_in_the_first_place_and_9_in_the_others() {
+fn high_byte_is_10_in_the_first_place_of_a_last_entry_and_9_in_the_others() {
     for place in 1..4 {
         let mut pages = local(&[0], &[("ABCD", 200, 0, 0)]);
         pages.alter(0, 8 + place, &[0x80]);

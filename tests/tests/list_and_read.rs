@@ -5,7 +5,7 @@
 
 use common::generators::{
     damaged_case, deep_image, fault_case, features, flip, largest_image, sound_case,
-    two_faults_case, Case, Made, OWNER_TABLES,
+    two_faults_case, Case, Made, OWNER_TABLES, STAMPS,
 };
 use common::trials::{absent, Trial};
 use common::{answer, both, table_bytes, Button, Seed, Tally};
@@ -120,6 +120,7 @@ fn calls_on_sound_images_are_as_planned() {
     });
     tally.print();
     tally.demand(20, &FEATURES);
+    tally.demand(20, &STAMPS);
     tally.demand(20, &OWNER_TABLES);
     tally.demand(20, &OUTPUTS);
     tally.demand(20, &POSITIONS);

@@ -16,7 +16,11 @@ fn sound_dumps_are_printed_as_the_second_program_prints_them() {
         assert_eq!(compare(&dump, &mut tally), "accepted 0");
     }
     tally.print();
-    let labels = ["sound image at offset 8", "sound image at another offset"];
+    let labels = [
+        "sound image with stamps",
+        "sound image at offset 8",
+        "sound image at another offset",
+    ];
     tally.demand(200, &labels);
 }
 

@@ -4,8 +4,10 @@
 //! The images are formatted and put to by the library and the second program alike.
 
 use common::dumps::{dump, text};
-use common::{answer, Button};
+use common::generators::stamped_plan;
+use common::{answer, run_seeds, Button};
 use referee::builder::pages::Pages;
+use referee::builder::plan::Built;
 use referee::builder::random::random_image;
 use referee::rng::Rng;
 
@@ -124,6 +126,65 @@ fn more_than_32768_bytes_after_the_offset_are_19() {
     assert_eq!(text(&dump(32, 16, 8, &just)), "refused 1 page 0\n");
 }
 
+/// Stamps have no line and are counted nowhere.
+#[test]
+fn stamps_have_no_line() {
+    let mut pages = Pages::new(32, 16);
+    let stamp = |first: u8| vec![first, b'N', b'E', b'R', 12, 1, 1];
+    let mut root = pages.local_control(&[0, 1, 2, 3]);
+    root.extend([stamp(0xCF), stamp(0xFF)].concat());
+    root.extend(pages.entry("D", 0x7F, 1, 0));
+    let mut sub = pages.sub_control("ROOT", 0);
+    sub.extend(pages.entry("A", 0x81, 2, 1));
+    sub.extend(stamp(0x80));
+    sub.extend(pages.entry("B", 2, 3, 1));
+    pages.packet(0, &root, 0).packet(1, &sub, 0);
+    pages.packet(2, b"abc", 0).packet(3, b"", 0);
+    assert_eq!(
+        text(&dump(32, 16, 8, &pages.image)),
+        "page 32 pages 16 used 4 files 2 directories 1\n\
+         0 D 127 - 1 0 0\n\
+         1 A 001 r 2 1 3\n\
+         1 B 002 - 3 1 0\n"
+    );
+    // The stamp between A and B in the place of B.
+    let mut pages = Pages::of(32, 16, &pages.image);
+    let body = pages.body(1);
+    pages.packet(1, &body[..21], 0);
+    assert_eq!(text(&dump(32, 16, 8, &pages.image)), "refused 10 page 1\n");
+}
+
+/// The text that an image's plan gives.
+fn planned_text(built: &Built) -> String {
+    let totals = built.totals;
+    let mut text = format!(
+        "page {} pages {} used {} files {} directories {}\n",
+        built.page_length, built.page_count, totals.used, totals.files, totals.directories
+    );
+    for entry in &built.entries {
+        let listing = entry.listing;
+        let name = String::from_utf8(listing.name.to_le_bytes().to_vec()).expect("ASCII");
+        let attribute = ["-", if listing.extension == 127 { "h" } else { "r" }];
+        text += &format!(
+            "{} {} {:03} {} {} {} {}\n",
+            listing.level,
+            name.replace(' ', ""),
+            listing.extension,
+            attribute[listing.attribute as usize],
+            listing.start,
+            listing.pages,
+            listing.length
+        );
+    }
+    text
+}
+
+/// The dump of an image.
+fn dump_of(built: &Built) -> Vec<u8> {
+    let (page_length, page_count) = (built.page_length as u16, built.page_count as u16);
+    dump(page_length, page_count, 8, &built.image)
+}
+
 /// The lines agree with the plan that the image was built from.
 #[test]
 fn lines_of_generated_images_are_as_planned() {
@@ -132,29 +193,30 @@ fn lines_of_generated_images_are_as_planned() {
         let page_length = rng.between(32, 256) as u32;
         let page_count = rng.between(2, 32_768 / page_length as usize) as u32;
         let built = random_image(page_length, page_count, &mut rng);
-        let totals = built.totals;
-        let mut expected = format!(
-            "page {page_length} pages {page_count} used {} files {} directories {}\n",
-            totals.used, totals.files, totals.directories
+        assert_eq!(
+            text(&dump_of(&built)),
+            planned_text(&built),
+            "round {round}"
         );
-        for entry in &built.entries {
-            let listing = entry.listing;
-            let name = String::from_utf8(listing.name.to_le_bytes().to_vec()).expect("ASCII");
-            let attribute = ["-", if listing.extension == 127 { "h" } else { "r" }];
-            expected += &format!(
-                "{} {} {:03} {} {} {} {}\n",
-                listing.level,
-                name.replace(' ', ""),
-                listing.extension,
-                attribute[listing.attribute as usize],
-                listing.start,
-                listing.pages,
-                listing.length
-            );
-        }
-        let dump = dump(page_length as u16, page_count as u16, 8, &built.image);
-        assert_eq!(text(&dump), expected, "round {round}");
     }
+}
+
+/// The lines of images with many stamps are those of the plain entries.
+#[test]
+fn lines_of_images_with_stamps_are_as_planned() {
+    let mut stamps = 0;
+    run_seeds(0x1_1000..0x1_1000 + 300, |_, rng| {
+        let built = stamped_plan(rng).build();
+        if built.image.len() <= 32_768 {
+            assert_eq!(text(&dump_of(&built)), planned_text(&built));
+            stamps += built
+                .entries
+                .iter()
+                .map(|entry| entry.stamps)
+                .sum::<usize>();
+        }
+    });
+    assert!(stamps > 1_000, "{stamps} stamps");
 }
 
 /// Any bytes give one line of refusal or the lines of an accepted image.

@@ -3,7 +3,9 @@
 //! Programs: the library and the second program. Each call is made by both; every answer and every lent byte is compared. Answer and image of each
 //! mend are known by construction besides. The archive is made by `rt staticlib owfs`.
 
-use common::generators::{fault_case, large_image, roomy_plan, two_faults_case, worn_plan};
+use common::generators::{
+    fault_case, large_image, roomy_plan, stamped_plan, two_faults_case, worn_plan,
+};
 use common::stops::{bitmap_places, differing_pages, with_flipped_bits};
 use common::write_orders::Planned;
 use common::{all_free, answer, mended, not_mended, records, run_seeds, Button, Tally, FREE};
@@ -31,8 +33,9 @@ impl Sound {
     /// A random image of up to so many pages.
     fn random(most_pages: usize, rng: &mut Rng) -> Sound {
         loop {
-            let plan = match rng.below(3) {
+            let plan = match rng.below(4) {
                 0 => worn_plan(rng),
+                1 => stamped_plan(rng),
                 _ => roomy_plan(most_pages, rng),
             };
             if plan.page_count as usize <= most_pages {
@@ -101,16 +104,30 @@ fn count_kind(sound: &Sound, tally: &mut Tally) {
     if pages.iter().any(|(_, length)| *length == 0) {
         tally.add("empty packet in the bitmap file");
     }
+    if sound
+        .held
+        .built
+        .entries
+        .iter()
+        .any(|entry| entry.stamps > 0)
+    {
+        tally.add(match sound.held.built.local_bitmap {
+            true => "stamps and a local bitmap",
+            false => "stamps and a bitmap file",
+        });
+    }
 }
 
 /// The labels of all kinds of bitmaps.
-const KINDS: [&str; 6] = [
+const KINDS: [&str; 8] = [
     "local bitmap",
     "bitmap file on one page",
     "bitmap file on several pages",
     "bits from N up",
     "scattered bitmap file",
     "empty packet in the bitmap file",
+    "stamps and a local bitmap",
+    "stamps and a bitmap file",
 ];
 
 /// Each single bit of the bitmap the other way.

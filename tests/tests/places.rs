@@ -4,7 +4,7 @@
 //! Programs: the library and the second program. Each call is made by both; every answer and every lent byte is compared, and the tables are known.
 //! The archive is made by `rt staticlib owfs`.
 
-use common::generators::{deep_image, large_image, random_sizes};
+use common::generators::{deep_image, large_image, random_sizes, stamped_plan};
 use common::{
     agreed, all_free, answer, chain_of, mended, records, run_seeds, table_bytes, writes, Button,
     Record, FREE,
@@ -304,17 +304,19 @@ fn demand_chains(built: &Built) {
 /// Random trees, those nested to level eight and those of many pages among them.
 #[test]
 fn chains_of_random_images_are_told_in_order() {
-    let mut long = 0;
+    let (mut long, mut stamped) = (0, 0);
     run_seeds(0xA800_0000..0xA800_0000 + 400, |seed, rng| {
         let built = match seed % 8 {
             0 => deep_image(rng),
             1 if seed % 80 == 1 => large_image(rng),
+            2 | 3 => stamped_plan(rng).build(),
             _ => {
                 let (page_length, page_count) = random_sizes(rng, 600);
                 random_image(page_length, page_count, rng)
             }
         };
         demand_chains(&built);
+        stamped += usize::from(built.entries.iter().any(|entry| entry.stamps > 0));
         long += built
             .chains
             .iter()
@@ -322,6 +324,42 @@ fn chains_of_random_images_are_told_in_order() {
             .count();
     });
     assert!(long > 5, "{long} chains of more than 256 pages");
+    assert!(stamped > 100, "{stamped} images with stamps");
+}
+
+/// Stamps have no owner and no walk position: owners are counted by plain entries, places by the chain, and a stamp's start page is nobody's by it.
+#[test]
+fn stamps_have_no_owner_and_take_no_walk_position() {
+    let mut pages = Pages::new(32, 16);
+    let stamp = |first: u8, start: u8| vec![first, b'X', b' ', b' ', 1, start, 1];
+    let root = [
+        pages.local_control(&[0, 1, 2, 3, 4, 5]),
+        stamp(0x80, 7),
+        stamp(0x81, 8),
+        pages.entry("D", 127, 1, 0),
+    ];
+    let second = [stamp(0xFF, 9), pages.entry("B", 1, 5, 1)];
+    let sub = [
+        pages.sub_control("ROOT", 0),
+        stamp(0x82, 3),
+        pages.entry("A", 1, 3, 2),
+    ];
+    pages.packet(0, &root.concat(), 2);
+    pages.packet(2, &second.concat(), 0);
+    pages.packet(1, &sub.concat(), 0);
+    pages.packet(3, b"a", 4).packet(4, b"a", 0);
+    pages.packet(5, b"b", 0);
+    let button = Button::from(&pages);
+    let owners = button.check().1;
+    let known = [(1, 0), (3, 0), (1, 1), (4, 0), (4, 1), (5, 0)];
+    assert_eq!(owners[..6], known);
+    assert!(all_free(&owners[6..]));
+    let names: Vec<u32> = button.list_all().iter().map(|entry| entry.name).collect();
+    let expected = [*b"D   ", *b"A   ", *b"B   "].map(u32::from_le_bytes);
+    assert_eq!(names, expected);
+    // A takes pages that stamps name as their start; nobody had them.
+    let (_, owners) = with_file(button, &path(&["D"], "A", 1), &[1; 28 * 6]);
+    assert_eq!(chain_of(&owners, 4), [3, 4, 6, 7, 8, 9]);
 }
 
 /// A table that was full of records before has none left of the pages that became free, by any call.

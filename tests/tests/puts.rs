@@ -10,7 +10,7 @@ use common::generators::{
 use common::plans::{formatted_plan, is_path, may_be_local, overlaid, plan_with, Room};
 use common::puts::{
     count_room, done_features, labelled_path, random_bytes, thinned_plan, used_plan, DONE, ENTRIES,
-    ROOM,
+    ROOM, STAMPED,
 };
 use common::trials::Trial;
 use common::{answer, both, run_seeds, table_bytes, Button, Seed, Tally};
@@ -120,6 +120,7 @@ fn puts_into_sound_images_leave_the_planned_image() {
     tally.demand(20, &DONE);
     tally.demand(20, &ENTRIES);
     tally.demand(20, &ROOM);
+    tally.demand(20, &STAMPED);
     tally.demand(10, &PATHS);
     tally.demand(20, &OWNER_TABLES);
     tally.demand_numbers("put", 100, [0, 1, 14, 15, 16, 17]);

@@ -3,12 +3,14 @@
 //! Document 01, "Words of demand 3", says which images could hold the file of a put. Such an image, a candidate, is accepted and reads the
 //! asked bytes at the path. Every other entry stands in the same directory with the same bytes, in any order. Every other file reads as
 //! before. Every other file and directory has the pages it had and no others; the target, the directory that the path's names lead to, has
-//! at least these. The bitmap is local in both images, or its file has the same pages.
+//! at least these. The bitmap is local in both images, or its file has the same pages. Every entry that was there, a replaced one too, has the same
+//! stamps before it in the same order (document 02, A2).
 //!
 //! So the pages of all that is kept are given, and no page is in two chains. What is left to choose are two sets among the other pages:
-//! those of the file, and those that join the target. (Entries that are neither kept nor the file's would only take pages away.) The search
-//! tries every such pair of sets. A pair fits if packets filled to the brim hold the bytes and the target's entries: if not, no other way to
-//! fill them does. For each pair that fits an image is built and judged by the words.
+//! those of the file, and those that join the target. (Entries that are neither kept nor the file's, and stamps of a new file, would only take pages
+//! or slots away.) The search tries every such pair of sets. A pair fits if packets filled to the brim hold the bytes, and there is a way to lay the
+//! target's entries on its pages, each together with its stamps; every such way is tried, whatever the order of the entries was. For each pair that
+//! fits an image is built and judged by the words.
 //!
 //! A put must be answered with 17 exactly if no pair fits, and else leave a candidate; none has fewer pages in use.
 //!
@@ -18,21 +20,26 @@
 
 use std::collections::{BTreeMap, BTreeSet};
 
-use common::plans::{directory_mut, file_place, geometry, split, Room};
-use common::puts::{room_features, ROOM};
+use common::plans::{directories, directory_mut, file_place, geometry, plan_with, split, Room};
+use common::puts::{room_features, ROOM, STAMPED};
 use common::trees::{page_order, trees, Most, Tree, PAGE_LENGTH};
 use common::{answer, both, chain_of, table_bytes, Button, Seed, Tally};
-use referee::builder::plan::{Chain, FilePlan, ImagePlan, Item};
+use referee::builder::plan::{Chain, DirectoryPlan, FilePlan, ImagePlan, Item, Stamps};
 use referee::geometry::Geometry;
 use referee::rng::Rng;
-use referee::Answer;
+use referee::{Answer, Listing};
 
 type PageSet = BTreeSet<usize>;
+
+/// The bytes of the stamps before each entry of a directory that has any, in order, by the entry's name and extension number.
+type StampsOf = BTreeMap<Vec<u8>, Vec<Vec<u8>>>;
 
 /// What an entry is and leads to.
 struct Found {
     /// The entry's fields: name, extension number, attribute, start page, number of pages.
     entry: [u32; 5],
+    /// The stamps before it.
+    stamps: Vec<Vec<u8>>,
     pages: PageSet,
     /// A file's bytes as read.
     bytes: Vec<u8>,
@@ -59,33 +66,28 @@ impl Contents {
         let pages_of = |owner: u16| -> PageSet { chain_of(&owners, owner).into_iter().collect() };
         let mut entries = BTreeMap::new();
         let mut names = Vec::new();
+        // Of each directory on the way to an entry, the root's first.
+        let mut stamps = vec![stamps_on(button, &chain_of(&owners, 1))];
         for (position, listing) in button.list_all().into_iter().enumerate() {
             names.truncate(4 * listing.level as usize);
+            stamps.truncate(1 + listing.level as usize);
             let mut path = names.clone();
             path.extend(listing.name.to_le_bytes());
-            let mut bytes = Vec::new();
+            let owner = 3 + position as u16;
+            let mut found = Found {
+                entry: fields(&listing),
+                stamps: stamps_of(&stamps[listing.level as usize], &listing),
+                pages: pages_of(owner),
+                bytes: Vec::new(),
+            };
             if listing.extension == 127 {
                 names = path.clone();
+                stamps.push(stamps_on(button, &chain_of(&owners, owner)));
             } else {
                 path.push(listing.extension as u8);
-                bytes = button.read(&path).1;
+                found.bytes = button.read(&path).1;
             }
-            let entry = [
-                listing.name,
-                listing.extension,
-                listing.attribute,
-                listing.start,
-                listing.pages,
-            ];
-            let pages = pages_of(3 + position as u16);
-            entries.insert(
-                path,
-                Found {
-                    entry,
-                    pages,
-                    bytes,
-                },
-            );
+            entries.insert(path, found);
         }
         let number_length = button.pages().geometry.number_length();
         Some(Contents {
@@ -120,6 +122,48 @@ impl Contents {
     }
 }
 
+/// The fields of an entry.
+fn fields(listing: &Listing) -> [u32; 5] {
+    [
+        listing.name,
+        listing.extension,
+        listing.attribute,
+        listing.start,
+        listing.pages,
+    ]
+}
+
+/// The stamps on a directory's pages, by their bytes: the first of a stamp is above 127, and it stands before its entry.
+fn stamps_on(button: &Button, pages: &[usize]) -> StampsOf {
+    let geometry = geometry(button.page_length, button.page_count);
+    let mut all = StampsOf::new();
+    for (place, &page) in pages.iter().enumerate() {
+        let control = match place {
+            0 => geometry.control_length(),
+            _ => 0,
+        };
+        let packet = button.page(page);
+        let end = 1 + usize::from(packet[0]) - geometry.number_length();
+        let mut own = Vec::new();
+        for slot in packet[1 + control..end].chunks(geometry.entry_length()) {
+            if slot[0] > 127 {
+                own.push(slot.to_vec());
+            } else if !own.is_empty() {
+                let key = [&slot[..4], &[slot[4] & 127]].concat();
+                all.insert(key, std::mem::take(&mut own));
+            }
+        }
+    }
+    all
+}
+
+/// The stamps of an entry among those of its directory.
+fn stamps_of(all: &StampsOf, listing: &Listing) -> Vec<Vec<u8>> {
+    let mut key = listing.name.to_le_bytes().to_vec();
+    key.push(listing.extension as u8);
+    all.get(&key).cloned().unwrap_or_default()
+}
+
 /// Whether a file or directory has the pages it had and no others; the target has at least these.
 fn has_its_pages(old: &PageSet, new: &PageSet, is_target: bool) -> bool {
     old == new || (is_target && old.is_subset(new))
@@ -141,7 +185,11 @@ fn is_candidate(old: &Contents, new: &Contents, path: &[u8], bytes: &[u8]) -> bo
             new.entry == old.entry && new.bytes == old.bytes && pages
         })
     });
-    reads && bitmap && root && kept
+    let stamps = old.entries.iter().all(|(path, old)| {
+        let new = new.entries.get(path);
+        new.is_some_and(|new| new.stamps == old.stamps)
+    });
+    reads && bitmap && root && kept && stamps
 }
 
 /// A way to place a put: the pages of the file, and those that join the target.
@@ -172,19 +220,41 @@ fn chain_over(geometry: &Geometry, pages: &[usize], length: usize) -> Option<Cha
     (held == length && !pages.is_empty()).then_some(chain)
 }
 
-/// The entries in each of so many pages of a directory, filled to the brim; none if they do not hold so many.
-fn counts_over(geometry: &Geometry, pages: usize, entries: usize) -> Option<Vec<usize>> {
-    let mut rest = entries;
-    let mut counts = Vec::new();
-    for place in 0..pages {
-        let most = match place {
-            0 => geometry.first_page_entries(),
-            _ => geometry.continuation_entries(),
-        };
-        counts.push(rest.min(most));
-        rest -= rest.min(most);
+/// A page for each of these entries, by the slots that each takes and those that each page has left; none if there is no such way.
+fn pages_for(entries: &[usize], left: &mut [usize]) -> Option<Vec<usize>> {
+    let Some((&taken, others)) = entries.split_first() else {
+        return Some(Vec::new());
+    };
+    if entries.iter().sum::<usize>() > left.iter().sum() {
+        return None;
     }
-    (rest == 0).then_some(counts)
+    for page in 0..left.len() {
+        if taken > left[page] {
+            continue;
+        }
+        left[page] -= taken;
+        let rest = pages_for(others, left);
+        left[page] += taken;
+        if let Some(rest) = rest {
+            return Some([vec![page], rest].concat());
+        }
+    }
+    None
+}
+
+/// Lays a directory's entries, each with its stamps, on its pages; none if there is no way to do so.
+fn lay_entries(geometry: &Geometry, directory: &mut DirectoryPlan) -> Option<()> {
+    let taken = |item: &Item| 1 + directory.stamps_of(item).len();
+    let entries: Vec<usize> = directory.items.iter().map(taken).collect();
+    let mut left = vec![geometry.continuation_entries(); directory.pages.len()];
+    left[0] = geometry.first_page_entries();
+    let pages = pages_for(&entries, &mut left)?;
+    let count = |page: usize| pages.iter().filter(|&&other| other == page).count();
+    directory.counts = (0..directory.pages.len()).map(count).collect();
+    let mut items: Vec<_> = pages.into_iter().zip(directory.items.drain(..)).collect();
+    items.sort_by_key(|(page, _)| *page);
+    directory.items = items.into_iter().map(|(_, item)| item).collect();
+    Some(())
 }
 
 /// The image of a plan with the file placed in this way, as a plan; none if the way does not fit.
@@ -201,7 +271,7 @@ fn placed(plan: &ImagePlan, path: &[u8], bytes: &[u8], way: &Way) -> Option<Imag
     let file = FilePlan::new(four, own[4], bytes, chain);
     target.items.push(Item::File(file));
     target.pages.extend(&way.joining);
-    target.counts = counts_over(&geometry, target.pages.len(), target.items.len())?;
+    lay_entries(&geometry, target)?;
     Some(plan)
 }
 
@@ -315,6 +385,7 @@ fn no_room_in_small_images_exactly_if_no_way_fits() {
         root_pages: 3,
         sub_pages: 2,
         first_pages: 3,
+        stamps: 0,
     };
     for page_count in 2..=8 {
         let seed = 0xD000_0000 + u64::from(page_count);
@@ -342,6 +413,7 @@ fn no_room_in_few_pages_of_many_exactly_if_no_way_fits() {
         root_pages: 2,
         sub_pages: 2,
         first_pages: 2,
+        stamps: 0,
     };
     for (page_count, few) in [(256, 7), (257, 8)] {
         let seed = 0xD100_0000 + u64::from(page_count);
@@ -358,27 +430,85 @@ fn no_room_in_few_pages_of_many_exactly_if_no_way_fits() {
     tally.demand(10, &room_labels());
 }
 
-/// Ways that give away pages which must be kept, too: no candidate comes of them in which such a page is the file's or has joined the target.
+/// The labels of room that puts to images with stamps meet.
+fn stamped_labels() -> Vec<&'static str> {
+    [room_labels(), STAMPED.to_vec()].concat()
+}
+
+/// Every tree with stamps on 2 to 6 pages, its entries with up to three stamps each.
 #[test]
-fn no_candidate_gives_away_pages_that_must_be_kept() {
+fn no_room_in_small_images_with_stamps_exactly_if_no_way_fits() {
     let mut tally = Tally::default();
     let most = Most {
         root_pages: 2,
         sub_pages: 1,
         first_pages: 2,
+        stamps: 3,
     };
-    for page_count in 2..=5 {
-        let all: Vec<usize> = (0..page_count as usize).collect();
-        for tree in trees(page_count, 0, most) {
-            if let Some(plan) = tree.plan(&all[1..]) {
-                for path in tree.paths(&plan) {
-                    give_away(&plan, &all, &path, &mut tally);
-                }
-            }
+    for page_count in 2..=6 {
+        let seed = 0xD200_0000 + u64::from(page_count);
+        let _seed = Seed(seed);
+        let mut rng = Rng::new(seed);
+        for (place, tree) in trees(page_count, 0, most).iter().enumerate() {
+            let pages = page_order(page_count, place, &mut rng);
+            judge(tree, &pages, &mut tally, &mut rng);
         }
     }
     tally.print();
-    tally.demand(1_000, &["candidate", "no candidate"]);
+    tally.demand(20_000, &["puts"]);
+    tally.demand(50_000, &["ways that fit"]);
+    tally.demand(20, &stamped_labels());
+}
+
+/// Images of 256 and 257 pages with stamps: a large file leaves few pages for the tree and the put.
+#[test]
+fn no_room_in_few_pages_of_many_with_stamps_exactly_if_no_way_fits() {
+    let mut tally = Tally::default();
+    let most = Most {
+        root_pages: 2,
+        sub_pages: 1,
+        first_pages: 1,
+        stamps: 2,
+    };
+    for (page_count, few) in [(256, 6), (257, 7)] {
+        let seed = 0xD300_0000 + u64::from(page_count);
+        let _seed = Seed(seed);
+        let mut rng = Rng::new(seed);
+        let large_pages = page_count as usize - few;
+        for tree in trees(page_count, large_pages, most) {
+            let pages = page_order(page_count, 2, &mut rng);
+            judge(&tree, &pages, &mut tally, &mut rng);
+        }
+    }
+    tally.print();
+    tally.demand(1_000, &["puts"]);
+    tally.demand(5, &stamped_labels());
+}
+
+/// Ways that give away pages which must be kept, too: no candidate comes of them in which such a page is the file's or has joined the target.
+#[test]
+fn no_candidate_gives_away_pages_that_must_be_kept() {
+    for (most_pages, stamps) in [(5, 0), (4, 3)] {
+        let mut tally = Tally::default();
+        let most = Most {
+            root_pages: 2,
+            sub_pages: 1,
+            first_pages: 2,
+            stamps,
+        };
+        for page_count in 2..=most_pages {
+            let all: Vec<usize> = (0..page_count as usize).collect();
+            for tree in trees(page_count, 0, most) {
+                if let Some(plan) = tree.plan(&all[1..]) {
+                    for path in tree.paths(&plan) {
+                        give_away(&plan, &all, &path, &mut tally);
+                    }
+                }
+            }
+        }
+        tally.print();
+        tally.demand(500, &["candidate", "no candidate"]);
+    }
 }
 
 /// Tries every way to give these pages to the file and the target, whether they must be kept or not.
@@ -400,6 +530,96 @@ fn give_away(plan: &ImagePlan, pages: &[usize], path: &[u8], tally: &mut Tally) 
         assert!(joined.is_subset(&others), "pages that joined the target");
         assert!(new.entries[path].pages.is_subset(&others), "file's pages");
     }
+}
+
+/// Each way to have other stamps before the entries of a directory: one less, a byte changed, two exchanged, or those of an entry before another.
+fn other_stamps(directory: &DirectoryPlan) -> Vec<(&'static str, Stamps)> {
+    let mut all = Vec::new();
+    for item in &directory.items {
+        let own = directory.stamps_of(item);
+        if own.is_empty() {
+            continue;
+        }
+        let mut changed = own.to_vec();
+        changed[0][4] ^= 1;
+        all.push(("one stamp less", vec![(item, own[1..].to_vec())]));
+        all.push(("a byte of a stamp changed", vec![(item, changed)]));
+        if own.len() > 1 {
+            let mut exchanged = own.to_vec();
+            exchanged.swap(0, 1);
+            all.push(("two stamps exchanged", vec![(item, exchanged)]));
+        }
+        let others = directory
+            .items
+            .iter()
+            .filter(|other| other.key() != item.key());
+        all.extend(others.map(|other| {
+            let more = [directory.stamps_of(other), own].concat();
+            (
+                "stamps before another entry",
+                vec![(item, Vec::new()), (other, more)],
+            )
+        }));
+    }
+    let with = |changes: Vec<(&Item, Vec<Vec<u8>>)>| {
+        let mut stamps = directory.stamps.clone();
+        stamps.extend(changes.into_iter().map(|(item, own)| (item.key(), own)));
+        stamps
+    };
+    all.into_iter()
+        .map(|(label, changes)| (label, with(changes)))
+        .collect()
+}
+
+/// Demands of a put's image that it is a candidate, and of each like it but for stamps that it is none.
+fn change_stamps(plan: &ImagePlan, path: &[u8], tally: &mut Tally) {
+    let old = Contents::of(&Button::from(&plan.build())).expect("accepted");
+    let Ok(put) = plan_with(plan, path, b"new") else {
+        return;
+    };
+    let is_candidate = |plan: &ImagePlan| {
+        let new = Contents::of(&Button::from(&plan.build())).expect("accepted");
+        is_candidate(&old, &new, path, b"new")
+    };
+    assert!(is_candidate(&put), "the put's image");
+    tally.add("candidate");
+    for (names, directory) in directories(&put) {
+        for (label, stamps) in other_stamps(directory) {
+            let mut other = put.clone();
+            let changed = directory_mut(&mut other.root, &names).expect("a directory");
+            changed.stamps = stamps;
+            assert!(!is_candidate(&other), "{label}");
+            tally.add(label);
+        }
+    }
+}
+
+/// Images that hold the file of a put and all entries, but other stamps before one of them, are no candidates.
+#[test]
+fn no_candidate_has_other_stamps() {
+    let mut tally = Tally::default();
+    let most = Most {
+        root_pages: 1,
+        sub_pages: 1,
+        first_pages: 1,
+        stamps: 2,
+    };
+    for tree in trees(9, 0, most) {
+        if let Some(plan) = tree.plan(&[1, 2, 3, 4, 5, 6, 7, 8]) {
+            for path in tree.paths(&plan) {
+                change_stamps(&plan, &path, &mut tally);
+            }
+        }
+    }
+    tally.print();
+    let labels = [
+        "candidate",
+        "one stamp less",
+        "a byte of a stamp changed",
+        "two stamps exchanged",
+        "stamps before another entry",
+    ];
+    tally.demand(50, &labels);
 }
 
 /// Every pair of sets without a common page is tried, and each once.

@@ -5,8 +5,9 @@
 
 use std::collections::{BTreeMap, BTreeSet};
 
+use common::generators::{stamp_count, stamped_plan};
 use common::plans::may_be_local;
-use common::{answer, chain_of, Button, Record, Seed, FREE};
+use common::{answer, chain_of, run_seeds, Button, Record, Seed, Tally, FREE};
 use referee::builder::pages::Pages;
 use referee::builder::plan::{Built, ChainOf};
 use referee::builder::random::random_image;
@@ -19,7 +20,7 @@ struct File {
     read_only: bool,
 }
 
-/// The pages of a directory in chain order, each with the bytes of its entries.
+/// The pages of a directory in chain order, each with the bytes of its entries and stamps.
 type Layout = Vec<(usize, Vec<Vec<u8>>)>;
 
 /// A button and the model of what it holds.
@@ -29,11 +30,15 @@ struct World {
     files: BTreeMap<Vec<u8>, File>,
     /// The names that lead to each directory; the root's are empty.
     directories: BTreeSet<Vec<u8>>,
+    /// The edits done that have to do with stamps.
+    stamped: Tally,
 }
 
 /// A put that is expected to be done: where the entry and the file go.
 struct Expected {
     layout: Layout,
+    /// Whether the directory has a page more.
+    grown: bool,
     file_pages: Vec<usize>,
 }
 
@@ -49,6 +54,7 @@ impl World {
             owners,
             files: BTreeMap::new(),
             directories: BTreeSet::from([Vec::new()]),
+            stamped: Tally::default(),
         }
     }
 
@@ -73,6 +79,7 @@ impl World {
             button,
             files,
             directories,
+            stamped: Tally::default(),
         }
     }
 
@@ -143,6 +150,7 @@ impl World {
         let geometry = self.button.pages().geometry;
         let (names, name) = path.split_at(path.len() - 5);
         let mut layout = self.layout(self.directory_start(names));
+        let pages = layout.len();
         let old = self.file_pages(path).unwrap_or_default();
         let is_free = |page: &usize| self.owners[*page] == FREE || old.contains(page);
         let mut free = (0..self.owners.len()).filter(is_free);
@@ -169,7 +177,11 @@ impl World {
         entry.extend(geometry.number_bytes(file_pages[0]));
         entry.extend(geometry.number_bytes(needed));
         layout[slot.0].1[slot.1] = entry;
-        Some(Expected { layout, file_pages })
+        Some(Expected {
+            grown: layout.len() > pages,
+            layout,
+            file_pages,
+        })
     }
 
     /// The pages that hold the bitmap: page 0 or the bitmap file's.
@@ -219,7 +231,22 @@ impl World {
             },
         );
         self.placed(&before, path, bytes, &expected);
+        self.count_put(path, &expected.layout, expected.grown);
         0
+    }
+
+    /// Counts a put that has to do with stamps.
+    fn count_put(&mut self, path: &[u8], layout: &Layout, grown: bool) {
+        let stamps = stamps_of(layout, &path[path.len() - 5..]);
+        let mut slots = layout.iter().flat_map(|(_, slots)| slots);
+        let has_stamps = slots.any(|slot| is_stamp(slot));
+        if stamps > 0 {
+            self.stamped.add("file with stamps replaced");
+        } else if has_stamps && grown {
+            self.stamped.add("directory full because of stamps grown");
+        } else if has_stamps {
+            self.stamped.add("file beside stamps put");
+        }
     }
 
     /// After a put: entry and file stand where they must, and nothing else has changed.
@@ -259,7 +286,10 @@ impl World {
         let start = self.directory_start(names);
         let mut layout = self.layout(start);
         let (place, slot) = find_entry(&layout, name).expect("the entry is there");
-        layout[place].1.remove(slot);
+        let stamps = stamps_of(&layout, name);
+        layout[place].1.drain(slot - stamps..=slot);
+        let words = stamp_count(stamps);
+        self.stamped.add(format!("file with {words} deleted"));
         let freed = self.file_pages(path).unwrap_or_default();
         let (done, owners) = self.button.delete(path);
         assert_eq!(done, answer(0, 0));
@@ -351,6 +381,20 @@ fn find_entry(layout: &Layout, name: &[u8]) -> Option<(usize, usize)> {
         }
     }
     None
+}
+
+/// Whether a slot of a directory page is a stamp's: its first byte is above 127.
+fn is_stamp(slot: &[u8]) -> bool {
+    slot[0] > 127
+}
+
+/// The number of stamps directly before a file's entry.
+fn stamps_of(layout: &Layout, name: &[u8]) -> usize {
+    let Some((place, slot)) = find_entry(layout, name) else {
+        return 0;
+    };
+    let before = layout[place].1[..slot].iter().rev();
+    before.take_while(|slot| is_stamp(slot)).count()
 }
 
 /// Only the packets of these pages may differ; every other byte of the image stays.
@@ -538,6 +582,32 @@ fn runs_on_generated_buttons_agree_with_the_model() {
     for number in [0, 14, 15, 16, 17] {
         assert!(counts[number] > 100, "number {number}: {}", counts[number]);
     }
+}
+
+/// Runs that begin with images of many stamps, which edits take away and none adds.
+#[test]
+fn runs_on_buttons_with_stamps_agree_with_the_model() {
+    let mut counts = [0; 20];
+    let mut stamped = Tally::default();
+    run_seeds(25_000..25_300, |_, rng| {
+        let mut world = World::generated(&stamped_plan(rng).build());
+        run(&mut world, 30, rng, &mut counts);
+        stamped.add_all(&world.stamped);
+    });
+    stamped.print();
+    for number in [0, 14, 15, 16, 17] {
+        assert!(counts[number] > 100, "number {number}: {}", counts[number]);
+    }
+    let labels = [
+        "file with stamps replaced",
+        "file beside stamps put",
+        "directory full because of stamps grown",
+        "file with no stamps deleted",
+        "file with one stamp deleted",
+        "file with two stamps deleted",
+        "file with three stamps deleted",
+    ];
+    stamped.demand(40, &labels);
 }
 
 /// One long run on each of some buttons.

@@ -1,7 +1,7 @@
 //! Every dump in `samples/` with the text that stands beside it.
 //!
 //! Programs: the second program in one test, the program `list` in another; both the second program and the library make the samples of a stopped put
-//! and of a bad page.
+//! and of a bad page, and judge those of owner stamps.
 //! `rt check` and `rt ci` make `list`, `rt staticlib owfs` the archive.
 
 use std::fs;
@@ -9,7 +9,7 @@ use std::path::{Path, PathBuf};
 
 use common::dumps::{dump, list_program};
 use common::{answer, chain_of, mended, writes, Button, Tally};
-use referee::builder::pages::path;
+use referee::builder::pages::{path, Pages};
 use referee::list_text;
 
 /// A sample dump.
@@ -99,4 +99,72 @@ fn bad_page_and_the_dump_before_it_are_made_by_puts() {
     button.image[3 * 32 + 10] ^= 0x04;
     assert_eq!(button.verdict(), answer(2, 3));
     assert_eq!(dump(32, 16, 8, &button.image), sample("bad-page.dump"));
+}
+
+/// A stamp of the owner with this number; to a reader that knows no stamps it is a file on page 1.
+fn stamp(number: u8) -> Vec<u8> {
+    [&[b'O' | 0x80], &b"WNER"[..], &[1, number]].concat()
+}
+
+/// A button with owner stamps. Two stand before LOG.7 and fill the root's first page with it; one stands before the entry of the directory JIB, on
+/// the root's second page. `jib` are the slots on JIB's page, `next` the page after it, if there is one.
+fn stamped(jib: &[Vec<u8>], next: usize) -> Pages {
+    let mut pages = Pages::new(32, 16);
+    let marked: Vec<usize> = (0..8).chain((next > 0).then_some(next)).collect();
+    let root = [
+        pages.local_control(&marked),
+        stamp(1),
+        stamp(2),
+        pages.entry("LOG", 7, 1, 2),
+    ];
+    let second = [
+        stamp(1),
+        pages.entry("JIB", 127, 4, 0),
+        pages.entry("DEMO", 12, 7, 1),
+    ];
+    let jib = [pages.sub_control("ROOT", 0), jib.concat()];
+    pages.packet(0, &root.concat(), 3);
+    pages.packet(1, b"Monday 12, Tuesday 15, Wedne", 2);
+    pages.packet(2, b"sday 9", 0);
+    pages.packet(3, &second.concat(), 0);
+    pages.packet(4, &jib.concat(), next);
+    pages.packet(5, b"four pins", 0).packet(6, b"12 t", 0);
+    pages.packet(7, b"TEST", 0);
+    pages
+}
+
+/// The sample with stamps: JIB's only page is full because of the one between PINS.1 and RAIL.2, so a file more there takes two pages.
+#[test]
+fn stamps_are_accepted_and_kept() {
+    let slots = Pages::new(32, 16);
+    let jib = [
+        slots.entry("PINS", 1, 5, 1),
+        stamp(2),
+        slots.entry("RAIL", 0x82, 6, 1),
+    ];
+    let pages = stamped(&jib, 0);
+    assert_eq!(dump(32, 16, 8, &pages.image), sample("stamps.dump"));
+    let mut button = Button::from(&pages);
+    let new = path(&["JIB"], "NEW", 3);
+    let (done, owners) = button.put(&new, b"new");
+    assert_eq!(done, answer(0, 0));
+    assert_eq!(chain_of(&owners, 4), [4, 8]);
+    assert_eq!(chain_of(&owners, 7), [9]);
+    assert_eq!(button.put(&path(&[], "LOG", 7), b"").0, answer(0, 0));
+    assert_eq!(button.pages().body(0)[7..21], [stamp(1), stamp(2)].concat());
+    assert_eq!(button.pages().body(4)[14..21], stamp(2));
+}
+
+/// The sample with a stamp at the end of JIB's first page: the entry of RAIL.2 stands on the next page, where the stamp is none of its own.
+#[test]
+fn stamp_without_its_entry_is_10() {
+    let slots = Pages::new(32, 16);
+    let mut pages = stamped(&[slots.entry("PINS", 1, 5, 1), stamp(2)], 8);
+    pages.packet(8, &slots.entry("RAIL", 0x82, 6, 1), 0);
+    let sample = sample("stamp-without-entry.dump");
+    assert_eq!(dump(32, 16, 8, &pages.image), sample);
+    Button::from(&pages).refused_by_all(10, 4);
+    let whole = pages.body(4);
+    pages.packet(4, &whole[..14], 8);
+    assert_eq!(Button::from(&pages).verdict(), answer(0, 0));
 }

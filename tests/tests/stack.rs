@@ -1,4 +1,5 @@
-//! Every call on a stack of 16 KiB, for the largest images: 50,000 entries in one directory, directories nested to level eight, one file on all pages.
+//! Every call on a stack of 16 KiB, for the largest images: 50,000 entries in one directory, directories nested to level eight, one file on all
+//! pages; some entries have stamps.
 //!
 //! Programs: the library, by the C program `tests/c/calls.c`, which makes each call on a small stack above memory that may not be touched, and the second
 //! program, whose answers and lent bytes the C program must print. Small images and faults of every kind are in `c_calls.rs`, on the same stack.
@@ -13,7 +14,7 @@ use common::generators::{deep_shape, largest_image};
 use common::plans::geometry;
 use common::{table_bytes, Button};
 use referee::builder::plan::{Built, BuiltEntry};
-use referee::builder::random::random_plan;
+use referee::builder::random::{random_plan, Shape};
 use referee::rng::Rng;
 
 /// N of all images here.
@@ -74,10 +75,11 @@ fn in_largest(calls: &[Call], what: &str) {
     on_small_stack(&Button::from(built), image, calls, what);
 }
 
-/// The path of the last file of an image that is not read-only.
+/// The path of the last file of an image that is not read-only; if any such file has stamps, of the last that has.
 fn last_path(built: &Built) -> Vec<u8> {
     let is_such = |entry: &&BuiltEntry| entry.listing.attribute == 0 && !entry.bytes.is_empty();
-    let last = built.entries.iter().rev().find(is_such);
+    let files = built.entries.iter().filter(is_such);
+    let last = files.max_by_key(|file| file.stamps > 0);
     last.expect("a file that is not read-only").path.clone()
 }
 
@@ -249,14 +251,18 @@ fn every_call(built: &Built, file: &[u8]) -> Vec<Call> {
     ]
 }
 
-/// A tree that goes down to level eight, in 65,535 pages; the calls go to a file there.
+/// A tree with stamps that goes down to level eight, in 65,535 pages; the calls go to a file there that has stamps.
 #[test]
 fn every_call_in_directories_down_to_level_eight_runs_on_a_small_stack() {
     let rng = &mut Rng::new(0x57AC_0000);
-    let shape = deep_shape(&geometry(32, PAGES), rng);
+    let shape = Shape {
+        stamp_percent: 70,
+        ..deep_shape(&geometry(32, PAGES), rng)
+    };
     let built = random_plan(32, PAGES, shape, rng).build();
     let is_deep = |entry: &&BuiltEntry| {
-        entry.listing.level == 8 && entry.listing.attribute == 0 && entry.listing.extension != 127
+        let is_file = entry.listing.attribute == 0 && entry.listing.extension != 127;
+        entry.listing.level == 8 && is_file && entry.stamps > 0
     };
     let file = built
         .entries

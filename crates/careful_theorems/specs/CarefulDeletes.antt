@@ -10,7 +10,7 @@ use Rattle.rules.specs.declared.WriteCount.{WriteCount}
 use Rattle.rules.specs.Result.{ok}
 use Rattle.rules.specs.ResultLaws.{ok-inj, on-then}
 use Rattle.rules.specs.PageSets.{count}
-use Rattle.rules.specs.Tree.{Items, end, page, file, dir, directoryLinks, Image}
+use Rattle.rules.specs.Tree.{Items, end, page, file, dir, tokens, directoryLinks, Image}
 use Rattle.rules.specs.WellFormed.{IsDirectory}
 use Rattle.rules.specs.Paths.{Found, nothing, aFile, fileKey}
 use Rattle.rules.specs.Delete.{remove, removeEdit, deleteEdit}
@@ -28,7 +28,7 @@ use Rattle.careful_theorems.specs.Halts.{same-paths, edit-halts}
 
 remove-change : (g : Geometry) (k : ℕ) (d : Items) → IsDirectory d → (control : List ℕ) → Change (directoryLinks g control d) (directoryLinks g control (remove k d))
 remove-change g k end i control = absurd i
-remove-change g k (page p t) i control = touch-page (g .width) control p t (remove k t) (remove-touch (g .width) k t)
+remove-change g k (page p t) i control = touch-page (g .width) control p (tokens t) (tokens (remove k t)) (remove-touch (g .width) k t)
 remove-change g k (file l ls t) i control = absurd i
 remove-change g k (dir l d t) i control = absurd i
 

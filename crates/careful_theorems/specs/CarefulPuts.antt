@@ -16,7 +16,7 @@ use Rattle.rules.specs.ResultLaws.{ok-inj, on-then, on-refuse}
 use Rattle.rules.specs.PageSets.{count, range, freePages}
 use Rattle.rules.specs.PageSetLaws.{hit-same, range-le, free-law}
 use Rattle.rules.specs.Chain.{Link, link, pages}
-use Rattle.rules.specs.Tree.{Label, keyOf, Items, end, page, file, dir, directoryLinks, ownPages, allPages, keys, mapPages, Image, used}
+use Rattle.rules.specs.Tree.{Label, keyOf, Items, end, page, file, dir, tokens, directoryLinks, ownPages, allPages, keys, mapPages, Image, used}
 use Rattle.rules.specs.WellFormed.{IsDirectory}
 use Rattle.rules.specs.Writes.{Edit}
 use Rattle.rules.specs.Put.{insert, replace, itemsAfter}
@@ -35,13 +35,14 @@ insert-change : (g : Geometry) (l : Label) (new : List Link) (q : ℕ) (d : Item
     → Change (directoryLinks g control d) (directoryLinks g control (insert (file l new) (laterEntries g) q (firstEntries g) 0 d))
 insert-change g l new q end i control = absurd i
 insert-change g l new q (page p t) i control =
-    touch-page (g .width) control p t (insert (file l new) (laterEntries g) q (laterEntries g) (firstEntries g) t) (insert-touch (g .width) l new (laterEntries g) q (laterEntries g) (firstEntries g) t)
+    touch-page (g .width) control p (tokens t) (tokens (insert (file l new) (laterEntries g) q (laterEntries g) (firstEntries g) t))
+    (insert-touch (g .width) l new (laterEntries g) q (laterEntries g) (firstEntries g) t)
 insert-change g l new q (file m ls t) i control = absurd i
 insert-change g l new q (dir m d t) i control = absurd i
 
 replace-change : (g : Geometry) (k : ℕ) (new : List Link) (d : Items) → IsDirectory d → (control : List ℕ) → Change (directoryLinks g control d) (directoryLinks g control (replace k new d))
 replace-change g k new end i control = absurd i
-replace-change g k new (page p t) i control = touch-page (g .width) control p t (replace k new t) (replace-touch (g .width) k new t)
+replace-change g k new (page p t) i control = touch-page (g .width) control p (tokens t) (tokens (replace k new t)) (replace-touch (g .width) k new t)
 replace-change g k new (file m ls t) i control = absurd i
 replace-change g k new (dir m d t) i control = absurd i
 

@@ -1,5 +1,5 @@
 -- The packets of a directory that an edit changes: the one that makes the change visible, and before it, in the order of writing, at most one of a page that joins.
-use mathlib.Core.Path.{_≡_, refl, ap, ap₂, sym}
+use mathlib.Core.Path.{_≡_, refl, ap, ap₂, sym, _∙_}
 use mathlib.Core.Bool.{Bool, true, false}
 use mathlib.Core.List.{List, [], _∷_, _++_}
 use Prim.Native.Nat.{ℕ, zero, suc, _+_, _-_, _≤_}
@@ -10,8 +10,10 @@ use Rattle.packet.specs.Packet.{Write, write}
 use Rattle.rules.specs.PageSets.{count}
 use Rattle.rules.specs.PageSetLaws.{same, other, hits, hit-same}
 use Rattle.rules.specs.Chain.{Link, link, pages, first, linked}
+use Rattle.rules.specs.declared.Entry.{Entry}
 use Rattle.rules.specs.Names.{entryBytes}
-use Rattle.rules.specs.Tree.{Label, keyOf, width, Items, end, page, file, dir, fileEntry, directoryEntry, tokens, tokenBytes, tokenLinks}
+use Rattle.rules.specs.Tree.{Label, keyOf, width, Items, end, page, file, dir, fileEntry, directoryEntry, Token, newPage, entry, stampTokens, tokens, tokenBytes, tokenLinks}
+use Rattle.rules.specs.StampLaws.{group-links}
 use Rattle.rules.specs.Writes.{sameWrite, changes}
 use Rattle.rules.specs.Put.{insert, replace}
 use Rattle.rules.specs.Delete.{remove}
@@ -59,51 +61,56 @@ turned (next p b {ls} {ms} c) z = go (turned c (omega arith))
 -- ---- edits of a directory
 module _ (n : ℕ) where
   -- in the page at hand; in a later page; or in a page that joins
-  pub data Touch (t u : Items) : Type 0 where
-    inPage : tokenLinks n [] (tokens u) ≡ tokenLinks n [] (tokens t) → Touch t u
-    later : tokenBytes n (tokens u) ≡ tokenBytes n (tokens t) → Change (tokenLinks n [] (tokens t)) (tokenLinks n [] (tokens u)) → Touch t u
-    joins : (q : ℕ) (b : List ℕ) → tokenBytes n (tokens u) ≡ tokenBytes n (tokens t) → tokenLinks n [] (tokens t) ≡ [] → tokenLinks n [] (tokens u) ≡ link q b ∷ [] → Touch t u
+  pub data Touch (ts us : List Token) : Type 0 where
+    inPage : tokenLinks n [] us ≡ tokenLinks n [] ts → Touch ts us
+    later : tokenBytes n us ≡ tokenBytes n ts → Change (tokenLinks n [] ts) (tokenLinks n [] us) → Touch ts us
+    joins : (q : ℕ) (b : List ℕ) → tokenBytes n us ≡ tokenBytes n ts → tokenLinks n [] ts ≡ [] → tokenLinks n [] us ≡ link q b ∷ [] → Touch ts us
 
-  pub touch-page : (control : List ℕ) (p : ℕ) (t u : Items) → Touch t u → Change (tokenLinks n control (tokens (page p t))) (tokenLinks n control (tokens (page p u)))
-  touch-page control p t u (inPage e) = rw e (here p (control ++ tokenBytes n (tokens t)) (control ++ tokenBytes n (tokens u)) (tokenLinks n [] (tokens t)))
-  touch-page control p t u (later e c) = rw e (next p (control ++ tokenBytes n (tokens t)) c)
-  touch-page control p t u (joins q b i j k) = rw (i, j, k) (grow p (control ++ tokenBytes n (tokens t)) q b)
+  pub touch-page : (control : List ℕ) (p : ℕ) (ts us : List Token) → Touch ts us → Change (tokenLinks n control (newPage p ∷ ts)) (tokenLinks n control (newPage p ∷ us))
+  touch-page control p ts us (inPage e) = rw e (here p (control ++ tokenBytes n ts) (control ++ tokenBytes n us) (tokenLinks n [] ts))
+  touch-page control p ts us (later e c) = rw e (next p (control ++ tokenBytes n ts) c)
+  touch-page control p ts us (joins q b i j k) = rw (i, j, k) (grow p (control ++ tokenBytes n ts) q b)
 
-  touch-file : (l : Label) (ls : List Link) (t u : Items) → Touch t u → Touch (file l ls t) (file l ls u)
-  touch-file l ls t u (inPage e) = inPage e
-  touch-file l ls t u (later e c) = later (ap (λ (b : List ℕ). entryBytes n (fileEntry l ls) ++ b) e) c
-  touch-file l ls t u (joins q b i j k) = joins q b (ap (λ (b : List ℕ). entryBytes n (fileEntry l ls) ++ b) i) j k
+  -- behind an entry, behind an entry with its stamps
+  touch-entry : (e : Entry) (ts us : List Token) → Touch ts us → Touch (entry e ∷ ts) (entry e ∷ us)
+  touch-entry e ts us (inPage i) = inPage i
+  touch-entry e ts us (later i c) = later (ap (λ (b : List ℕ). entryBytes n e ++ b) i) c
+  touch-entry e ts us (joins q b i j k) = joins q b (ap (λ (b : List ℕ). entryBytes n e ++ b) i) j k
 
-  touch-dir : (l : Label) (d t u : Items) → Touch t u → Touch (dir l d t) (dir l d u)
-  touch-dir l d t u (inPage e) = inPage e
-  touch-dir l d t u (later e c) = later (ap (λ (b : List ℕ). entryBytes n (directoryEntry l d) ++ b) e) c
-  touch-dir l d t u (joins q b i j k) = joins q b (ap (λ (b : List ℕ). entryBytes n (directoryEntry l d) ++ b) i) j k
+  touch-group : (ss : List Entry) (e : Entry) (ts us : List Token) → Touch ts us → Touch (stampTokens ss (entry e ∷ ts)) (stampTokens ss (entry e ∷ us))
+  touch-group [] e ts us h = touch-entry e ts us h
+  touch-group (s ∷ ss) e ts us h = touch-entry s (stampTokens ss (entry e ∷ ts)) (stampTokens ss (entry e ∷ us)) (touch-group ss e ts us h)
 
-  pub insert-touch : (l : Label) (chain : List Link) (most q room r : ℕ) (t : Items) → Touch t (insert (file l chain) most q room r t)
-  insert-touch l chain most q room zero end = joins q (entryBytes n (fileEntry l chain) ++ []) refl refl refl
-  insert-touch l chain most q room (suc r) end = inPage refl
-  insert-touch l chain most q room zero (page p t) = later refl (touch-page [] p t (insert (file l chain) most q most room t) (insert-touch l chain most q most room t))
-  insert-touch l chain most q room (suc r) (page p t) = inPage refl
-  insert-touch l chain most q room r (file m ls t) = touch-file m ls t (insert (file l chain) most q room (r - width m) t) (insert-touch l chain most q room (r - width m) t)
-  insert-touch l chain most q room r (dir m d t) = touch-dir m d t (insert (file l chain) most q room (r - width m) t) (insert-touch l chain most q room (r - width m) t)
+  pub insert-touch : (l : Label) (chain : List Link) (most q room r : ℕ) (t : Items) → Touch (tokens t) (tokens (insert (file l chain) most q room r t))
+  insert-touch l chain most q room zero end =
+      let b = tokenBytes n (stampTokens (l .stamps) (entry (fileEntry l chain) ∷ [])) in
+      joins q b refl refl (ap (λ (ls : List Link). link q b ∷ ls) (group-links n [] l (fileEntry l chain) []))
+  insert-touch l chain most q room (suc r) end = inPage (group-links n [] l (fileEntry l chain) [])
+  insert-touch l chain most q room zero (page p t) =
+      later refl (touch-page [] p (tokens t) (tokens (insert (file l chain) most q most room t)) (insert-touch l chain most q most room t))
+  insert-touch l chain most q room (suc r) (page p t) = inPage (group-links n [] l (fileEntry l chain) (tokens (page p t)))
+  insert-touch l chain most q room r (file m ls t) =
+      touch-group (m .stamps) (fileEntry m ls) (tokens t) (tokens (insert (file l chain) most q room (r - width m) t)) (insert-touch l chain most q room (r - width m) t)
+  insert-touch l chain most q room r (dir m d t) =
+      touch-group (m .stamps) (directoryEntry m d) (tokens t) (tokens (insert (file l chain) most q room (r - width m) t)) (insert-touch l chain most q room (r - width m) t)
 
-  pub replace-touch : (k : ℕ) (new : List Link) (t : Items) → Touch t (replace k new t)
+  pub replace-touch : (k : ℕ) (new : List Link) (t : Items) → Touch (tokens t) (tokens (replace k new t))
   replace-touch k new end = inPage refl
-  replace-touch k new (page p t) = later refl (touch-page [] p t (replace k new t) (replace-touch k new t))
+  replace-touch k new (page p t) = later refl (touch-page [] p (tokens t) (tokens (replace k new t)) (replace-touch k new t))
   replace-touch k new (file l ls t) = elim (hits k (keyOf l)) [
-    | same e i ↦ simp (eq-eqb k (keyOf l) e, choose-true) (inPage refl)
-    | other e i ↦ simp (ne-eqb k (keyOf l) e, choose-false) (touch-file l ls t (replace k new t) (replace-touch k new t))
+    | same e i ↦ simp (eq-eqb k (keyOf l) e, choose-true) (inPage (group-links n [] l (fileEntry l new) (tokens t) ∙ sym (group-links n [] l (fileEntry l ls) (tokens t))))
+    | other e i ↦ simp (ne-eqb k (keyOf l) e, choose-false) (touch-group (l .stamps) (fileEntry l ls) (tokens t) (tokens (replace k new t)) (replace-touch k new t))
   ]
-  replace-touch k new (dir l d t) = touch-dir l d t (replace k new t) (replace-touch k new t)
+  replace-touch k new (dir l d t) = touch-group (l .stamps) (directoryEntry l d) (tokens t) (tokens (replace k new t)) (replace-touch k new t)
 
-  pub remove-touch : (k : ℕ) (t : Items) → Touch t (remove k t)
+  pub remove-touch : (k : ℕ) (t : Items) → Touch (tokens t) (tokens (remove k t))
   remove-touch k end = inPage refl
-  remove-touch k (page p t) = later refl (touch-page [] p t (remove k t) (remove-touch k t))
+  remove-touch k (page p t) = later refl (touch-page [] p (tokens t) (tokens (remove k t)) (remove-touch k t))
   remove-touch k (file l ls t) = elim (hits k (keyOf l)) [
-    | same e i ↦ simp (eq-eqb k (keyOf l) e, choose-true) (inPage refl)
-    | other e i ↦ simp (ne-eqb k (keyOf l) e, choose-false) (touch-file l ls t (remove k t) (remove-touch k t))
+    | same e i ↦ simp (eq-eqb k (keyOf l) e, choose-true) (inPage (sym (group-links n [] l (fileEntry l ls) (tokens t))))
+    | other e i ↦ simp (ne-eqb k (keyOf l) e, choose-false) (touch-group (l .stamps) (fileEntry l ls) (tokens t) (tokens (remove k t)) (remove-touch k t))
   ]
   remove-touch k (dir l d t) = elim (hits k (keyOf l)) [
-    | same e i ↦ simp (eq-eqb k (keyOf l) e, choose-true) (inPage refl)
-    | other e i ↦ simp (ne-eqb k (keyOf l) e, choose-false) (touch-dir l d t (remove k t) (remove-touch k t))
+    | same e i ↦ simp (eq-eqb k (keyOf l) e, choose-true) (inPage (sym (group-links n [] l (directoryEntry l d) (tokens t))))
+    | other e i ↦ simp (ne-eqb k (keyOf l) e, choose-false) (touch-group (l .stamps) (directoryEntry l d) (tokens t) (tokens (remove k t)) (remove-touch k t))
   ]

@@ -59,23 +59,23 @@ module _ (g : Geometry) (image : List ℕ) (table : List OwnerRecord) (path : Li
         let m : FileAbsent g vs path i start name extension = looks-as g vs path i r h c (lookup.Absent start name extension) e in
         delete-target-absent path (i .tree) (m .target) (m .reached) 15 0 (ap present (m .absent) ∙ no-file)
 
-    module _ (s : Slot) (e : Entry) (q : r ≡ lookup.At s e) where
+    module _ (s : Slot) (stamps : ℕ) (e : Entry) (q : r ≡ lookup.At s stamps e) where
       pub read-only : 127 < e .extension → PathDeleted g image path budget image (outcome.Refused 16 0)
       read-only k = refused 16 0 λ i c.
-          let m : FileAt g vs path i s e = looks-as g vs path i r h c (lookup.At s e) q in
+          let m : FileAt g vs path i s stamps e = looks-as g vs path i r h c (lookup.At s stamps e) q in
           delete-target-kept path (i .tree) (m .target) (m .reached) 16 0 (ap present (m .found) ∙ a-file (m .label) (m .links)) (ap writable (m .found) ∙ not-writable m k)
 
-      there : FileAt g (viewsOf g image) path tree s e
-      there = looks-as g vs path tree r h accepted (lookup.At s e) q
+      there : FileAt g (viewsOf g image) path tree s stamps e
+      there = looks-as g vs path tree r h accepted (lookup.At s stamps e) q
 
-      pub can-delete : CanDelete g image table s e
+      pub can-delete : CanDelete g image table s stamps e
       can-delete = record { known = T; path = path; file = there }
 
       reached : e .extension ≤ 127 → deleteTarget path (tree .tree) ≡ ok (there .target)
       reached k = let f = there .found in
           delete-target-is path (tree .tree) (there .target) (there .reached) (ap present f ∙ a-file (there .label) (there .links)) (ap writable f ∙ is-writable there k)
 
-      pub done : e .extension ≤ 127 → (after : List ℕ) (left : Budget) → Unlinks g image table s e budget after left → PathDeleted g image path budget after (outcome.Done left)
+      pub done : e .extension ≤ 127 → (after : List ℕ) (left : Budget) → Unlinks g image table s stamps e budget after left → PathDeleted g image path budget after (outcome.Done left)
       unfolding Unlinks can-delete
       done k after left u i c =
           let a = reached k in

@@ -1,6 +1,6 @@
 -- The whole delete: the file's pages free again in the table, its entry taken from its page, the bitmap written.
 use mathlib.Core.Path.{_≡_, refl, ap, sym, _∙_, subst}
-use mathlib.Core.List.{List, [], _∷_}
+use mathlib.Core.List.{List, [], _∷_, _++_}
 use Prim.Native.Nat.{ℕ, _+_}
 use native.Mathlib.Omega.{arith}
 use lib.ListN.{length}
@@ -31,11 +31,12 @@ use Rattle.entries.specs.declared.Slot.{Slot}
 use Rattle.edit.specs.Plans.{Removal, RemovesEntry}
 use Rattle.edit.specs.ExchangeLaws.{pointer-is}
 use Rattle.edit.specs.StepLaws.{whole-is}
+use Rattle.lookup.specs.PlaceLaws.{group-shape, group-first, group-last}
 use Rattle.lookup.specs.Targets.{FileAt}
 use Rattle.volume.specs.Edits.{TableOf}
 use Rattle.delete.specs.Deletes.{CanDelete}
 
-module _ {g : Geometry} {image : List ℕ} {table : List OwnerRecord} (fit : Fit g image) {s : Slot} {e : Entry} (H : CanDelete g image table s e) where
+module _ {g : Geometry} {image : List ℕ} {table : List OwnerRecord} (fit : Fit g image) {s : Slot} {stamps : ℕ} {e : Entry} (H : CanDelete g image table s stamps e) where
   open CanDelete H using (known, path, file)
   open TableOf known using (bytes, tree, accepted, table-is)
   open FileAt file using (target, label, links, found, chain, at)
@@ -63,7 +64,7 @@ module _ {g : Geometry} {image : List ℕ} {table : List OwnerRecord} (fit : Fit
   known-chain = record { links = links; chain = chain }
 
   -- the table without its pages, and the entry's place
-  pub plan : (u : List OwnerRecord) → Releases g (viewOf g image) (e .start) table u → Removal g image u s
+  pub plan : (u : List OwnerRecord) → Releases g (viewOf g image) (e .start) table u → Removal g image u s stamps
   unfolding Releases
   plan u r = record {
     marks = bitmapOf g (used tree) (tree .map);
@@ -74,14 +75,14 @@ module _ {g : Geometry} {image : List ℕ} {table : List OwnerRecord} (fit : Fit
       exchanges = λ _. record {
         before = at .before;
         entries = at .entries;
-        exchanged = e ∷ [];
+        exchanged = at .stamps ++ (e ∷ []);
         later = at .later;
-        shape = at .shape;
+        shape = group-shape at;
         then = at .removed;
-        first-is = at .at-is;
-        last-is = ap (λ (n : ℕ). n + 1) (at .at-is);
+        first-is = group-first at;
+        last-is = group-last at;
         skip-is = at .skip-is;
-        next-is = pointer-is (directory g image bytes tree well (q .directories) place there k) (s .page) (s .next .page) (at .before) (at .entries) (e ∷ []) (at .later) (at .shape) (at .next-is);
+        next-is = pointer-is (directory g image bytes tree well (q .directories) place there k) (s .page) (s .next .page) (at .before) (at .entries) (at .stamps ++ (e ∷ [])) (at .later) (group-shape at) (at .next-is);
       };
       joins = λ z. absurd (z refl);
     };
@@ -91,7 +92,7 @@ module _ {g : Geometry} {image : List ℕ} {table : List OwnerRecord} (fit : Fit
   }
 
   -- the page writes are the rule's
-  pub unlinked : (u : List OwnerRecord) → Releases g (viewOf g image) (e .start) table u → (budget : Budget) (after : List ℕ) (rest : Budget) → RemovesEntry g image u s budget after rest
+  pub unlinked : (u : List OwnerRecord) → Releases g (viewOf g image) (e .start) table u → (budget : Budget) (after : List ℕ) (rest : Budget) → RemovesEntry g image u s stamps budget after rest
       → _≡_ {A = Progress} (record { image = after; budget = rest })
       (writeAll g (editWrites g (bitmapOf g (used tree) (tree .map)) (deleteEdit q place) tree (edited g (q .directories) (deleteEdit q place) tree)) (record { image = image; budget = budget }))
   unfolding deleteEdit plan

@@ -22,18 +22,18 @@ use Rattle.edit.specs.declared.Outcome.{Outcome}
 use Rattle.edit.specs.Plans.{Outcomes}
 use Rattle.volume.specs.Edits.{TableOf}
 
--- the image is accepted, the table tells of it, and the entry e at the place s is that of a path's file
-pub record CanDelete (g : Geometry) (image : List ℕ) (table : List OwnerRecord) (s : Slot) (e : Entry) : Type 0 where
+-- the image is accepted, the table tells of it, and the entry e at the place s, so many stamps before it, is that of a path's file
+pub record CanDelete (g : Geometry) (image : List ℕ) (table : List OwnerRecord) (s : Slot) (stamps : ℕ) (e : Entry) : Type 0 where
   pub known : TableOf g image table
   pub path : List ℕ
-  pub file : FileAt g (viewsOf g image) path (known .tree) s e
+  pub file : FileAt g (viewsOf g image) path (known .tree) s stamps e
 
 -- the page writes of a delete that has its target
 abbrev pub deleteWrites : Geometry → Image → Target → List Write
 deleteWrites g i x = let e = deleteEdit (x .to) (x .place) in editWrites g (bitmapOf g (used i) (i .map)) e i (edited g (x .to .directories) e i)
 
-unfoldable pub Unlinks : Geometry → List ℕ → List OwnerRecord → Slot → Entry → Budget → List ℕ → Budget → Type 0
-Unlinks g image table s e budget after left = (h : CanDelete g image table s e)
+unfoldable pub Unlinks : Geometry → List ℕ → List OwnerRecord → Slot → ℕ → Entry → Budget → List ℕ → Budget → Type 0
+Unlinks g image table s stamps e budget after left = (h : CanDelete g image table s stamps e)
     → _≡_ {A = Progress} (record { image = after; budget = left }) (writeAll g (deleteWrites g (h .known .tree) (h .file .target)) (record { image = image; budget = budget }))
 
 -- the page writes of the delete are the rule's

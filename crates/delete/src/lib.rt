@@ -29,16 +29,17 @@ fn unlink(
     image: &mut [u8],
     g: Geometry,
     slot: Slot,
+    stamps: usize,
     e: Entry,
     table: &mut [u8],
     budget: Budget,
 ) -> Budget
     requires { ⌜ Fit g (now image) ⌝ }
-    requires { ⌜ (length (now table) ≡ 4 * g .pages) × CanDelete g (now image) (recordsOf (now table)) slot e × Open budget ⌝ }
-    ensures { λ r. ⌜ Unlinks g (now (image .entry)) (recordsOf (now (table .entry))) slot e budget (now (image .exit)) r ⌝ }
+    requires { ⌜ (length (now table) ≡ 4 * g .pages) × CanDelete g (now image) (recordsOf (now table)) slot stamps e × Open budget ⌝ }
+    ensures { λ r. ⌜ Unlinks g (now (image .entry)) (recordsOf (now (table .entry))) slot stamps e budget (now (image .exit)) r ⌝ }
 {
     chain::release_chain(image, g, e.start, table);
-    edit::remove_entry(image, g, slot, table, budget)
+    edit::remove_entry(image, g, slot, stamps, table, budget)
 }
 
 // Deletes the file at a path within a budget. The table has the owners of the image's pages. 14, 15, 16.
@@ -57,11 +58,11 @@ pub fn delete_path(
         PathLookup::Malformed => Outcome::Refused(14, 0),
         PathLookup::Nowhere => Outcome::Refused(15, 0),
         PathLookup::Absent(_, _, _) => Outcome::Refused(15, 0),
-        PathLookup::At(slot, e) => {
+        PathLookup::At(slot, stamps, e) => {
             if extension_of(e.extension).attribute != 0 {
                 return Outcome::Refused(16, 0);
             }
-            Outcome::Done(unlink(image, g, slot, e, table, budget))
+            Outcome::Done(unlink(image, g, slot, stamps, e, table, budget))
         }
     }
 }

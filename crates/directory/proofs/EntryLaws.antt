@@ -7,7 +7,7 @@ use native.Mathlib.Nat.{pow-le-pow-right}
 use native.Mathlib.Omega.{arith}
 use lib.ListN.{length, getD, take, drop, length-append}
 use lib.Seq.{drop-drop, getD-drop}
-use borrow.Author.Tests.{le-leb, lt-leb, eq-eqb, ne-eqb, not-true, not-false}
+use borrow.Author.Tests.{le-ltb, lt-ltb, eq-eqb, ne-eqb, not-true, not-false}
 use Rattle.geometry.specs.declared.Geometry.{Geometry}
 use Rattle.geometry.specs.Geometry.{entrySize}
 use Rattle.geometry.specs.Number.{number, numberBytes}
@@ -16,7 +16,7 @@ use Rattle.geometry.specs.Page.{overwritten}
 use Rattle.packet.proofs.Fronts.{front, front-more, front-whole}
 use Rattle.rules.specs.declared.Entry.{Entry}
 use Rattle.rules.specs.Result.{andThen, refuse-unless}
-use Rattle.rules.specs.Names.{validName, entryOf, entryBytes}
+use Rattle.rules.specs.Names.{validName, extended, entryOf, entryBytes}
 use Rattle.rules.specs.Control.{wholeEntries}
 use Rattle.rules.specs.Check.{judgeLabel}
 use Rattle.directory.specs.declared.extensions.EntryKind.the-variants as kind
@@ -65,32 +65,37 @@ module _ (e : Entry) (n : ℕ) (b b₀ b₁ b₂ b₃ : List ℕ) (h : (length b
       let w : length (entryBytes n e) ≡ length b = simp (length-append, length-number) (omega (arith, h .0)) in
       e₃ ∙ rw is₂ (front-more (label ++ s) c b (5 + n) l) ∙ ap (λ (xs : List ℕ). front xs b) (append-assoc label s c) ∙ front-whole (entryBytes n e) b w
 
--- the label's tests, one after the other
+-- the first byte tells an extended entry
 module _ (e : Entry) where
-  pub high-byte : 127 < e .name % 256 → LabelFault e 10
+  pub high-byte : 127 < e .name % 256 → extended e ≡ true
+  unfolding extended
+  high-byte h = lt-ltb 127 (e .name % 256) h
+
+  pub low-byte : e .name % 256 ≤ 127 → extended e ≡ false
+  unfolding extended
+  low-byte h = le-ltb 127 (e .name % 256) h
+
+-- a plain entry's tests, one after the other
+module _ (e : Entry) (t : Bool) (q : t ≡ validName (e .name)) where
+  pub bad-name : not t ≡ true → LabelFault e 9
   unfolding judgeLabel andThen refuse-unless faultAt
-  high-byte h p = simp (judgeLabel, lt-leb (e .name % 256) 127 h)
+  bad-name k p = simp (judgeLabel, ← q, not-true t k)
 
-  module _ (h : e .name % 256 ≤ 127) (t : Bool) (q : t ≡ validName (e .name)) where
-    pub bad-name : not t ≡ true → LabelFault e 9
+  module _ (k : not t ≡ false) where
+    named : validName (e .name) ≡ true
+    named = sym q ∙ not-false t k
+
+    pub file-label : IsKind (e .extension) kind.File → LabelFault e 0
     unfolding judgeLabel andThen refuse-unless faultAt
-    bad-name k p = simp (judgeLabel, le-leb (e .name % 256) 127 h, ← q, not-true t k)
+    file-label l p = simp (judgeLabel, named, l .0)
 
-    module _ (k : not t ≡ false) where
-      named : validName (e .name) ≡ true
-      named = sym q ∙ not-false t k
+    pub directory-label : IsKind (e .extension) kind.Directory → LabelFault e 0
+    unfolding judgeLabel andThen refuse-unless faultAt
+    directory-label l p = simp (judgeLabel, named, l .0, l .1)
 
-      pub file-label : IsKind (e .extension) kind.File → LabelFault e 0
-      unfolding judgeLabel andThen refuse-unless faultAt
-      file-label l p = simp (judgeLabel, le-leb (e .name % 256) 127 h, named, l .0)
-
-      pub directory-label : IsKind (e .extension) kind.Directory → LabelFault e 0
-      unfolding judgeLabel andThen refuse-unless faultAt
-      directory-label l p = simp (judgeLabel, le-leb (e .name % 256) 127 h, named, l .0, l .1)
-
-      pub unknown-label : IsKind (e .extension) kind.Unknown → LabelFault e 10
-      unfolding judgeLabel andThen refuse-unless faultAt
-      unknown-label l p = simp (judgeLabel, le-leb (e .name % 256) 127 h, named, l .0, l .1)
+    pub unknown-label : IsKind (e .extension) kind.Unknown → LabelFault e 10
+    unfolding judgeLabel andThen refuse-unless faultAt
+    unknown-label l p = simp (judgeLabel, named, l .0, l .1)
 
 module _ (g : Geometry) (size k : ℕ) (q : k ≡ entrySize g) where
   pub are-whole : size % k ≡ 0 → WholeFault g size 0

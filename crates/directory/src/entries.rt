@@ -13,11 +13,17 @@ ghost use Prim.Native.Nat.{_+_, _*_, _≤_};
 ghost use lib.ListN.{length};
 ghost use Rattle.geometry.specs.Geometry.{Valid};
 ghost use Rattle.rules.specs.Names.{entryBytes};
-ghost use Rattle.directory.specs.EntryPlaces.{HasEntry, IsEntry};
+ghost use Rattle.directory.specs.EntryPlaces.{HasEntry, IsEntry, IsItem};
 ghost use Rattle.directory.specs.Faults.{LabelFault, WholeFault};
 
 // The greatest first byte of a plain entry; an extended entry has a greater one.
 const MOST_FIRST_BYTE: u32 = 127;
+
+// What stands in a slot of a directory's page: a plain entry, or an extended one, a stamp of the plain entry after it.
+pub enum Item {
+    Plain(Entry),
+    Extended,
+}
 
 // A place in a directory's page.
 pub struct EntryReader<'a> {
@@ -32,12 +38,12 @@ pub fn reader_at<'a>(page: &'a [u8], at: usize) -> EntryReader<'a>
     EntryReader { page, at }
 }
 
-// The entry at the reader's place.
-pub fn read<'a>(r: EntryReader<'a>, n: usize) -> Entry
+// What stands at the reader's place.
+pub fn read<'a>(r: EntryReader<'a>, n: usize) -> Item
     requires { ⌜ HasEntry n (now (r .page)) (r .at) ⌝ }
-    ensures { λ e. ⌜ IsEntry n (now (r .entry .page)) (r .entry .at) e ⌝ }
+    ensures { λ i. ⌜ IsItem n (now (r .entry .page)) (r .entry .at) i ⌝ }
 {
-    entry_at(r.page, r.at, n)
+    item_at(r.page, r.at, n)
 }
 
 // The reader past the entry at its place.
@@ -51,10 +57,10 @@ pub fn past<'a>(r: EntryReader<'a>, n: usize) -> EntryReader<'a>
     }
 }
 
-// The entry at a place of a directory's page.
-pub fn read_entry(page: &[u8], at: usize, n: usize) -> Entry
+// What stands in the slot at a place of a directory's page.
+pub fn read_slot(page: &[u8], at: usize, n: usize) -> Item
     requires { ⌜ HasEntry n (now page) at ⌝ }
-    ensures { λ e. ⌜ IsEntry n (now (page .entry)) at e ⌝ }
+    ensures { λ i. ⌜ IsItem n (now (page .entry)) at i ⌝ }
 {
     read(reader_at(page, at), n)
 }
@@ -67,7 +73,19 @@ pub fn after_entry(page: &[u8], at: usize, n: usize) -> usize
     past(reader_at(page, at), n).at
 }
 
-// The entry that stands at a place of bytes.
+// What stands in the slot at a place of bytes: its first byte tells the kind.
+fn item_at(bytes: &[u8], at: usize, n: usize) -> Item
+    requires { ⌜ HasEntry n (now bytes) at ⌝ }
+    ensures { λ i. ⌜ IsItem n (now (bytes .entry)) at i ⌝ }
+{
+    let e = entry_at(bytes, at, n);
+    if MOST_FIRST_BYTE < e.name % 256 {
+        return Item::Extended;
+    }
+    Item::Plain(e)
+}
+
+// The entry that stands at a place of bytes, of either kind.
 fn entry_at(bytes: &[u8], at: usize, n: usize) -> Entry
     requires { ⌜ HasEntry n (now bytes) at ⌝ }
     ensures { λ e. ⌜ IsEntry n (now (bytes .entry)) at e ⌝ }
@@ -102,13 +120,10 @@ pub fn put_entry(bytes: &mut [u8], e: Entry, n: usize)
     geometry::put_number(bytes, START_AT + n, n, e.pages);
 }
 
-// The fault of an entry's first byte, name or extension number, 0 if there is none.
+// The fault of a plain entry's name or extension number, 0 if there is none.
 pub fn label_fault(e: Entry) -> u8
     ensures { λ r. ⌜ LabelFault e r ⌝ }
 {
-    if MOST_FIRST_BYTE < e.name % 256 {
-        return 10;
-    }
     let named = names::valid_name(e.name);
     if !named {
         return 9;

@@ -22,8 +22,7 @@ use Rattle.rules.specs.PageSetLaws.{hit-same, count-append, count-split, range-
 use Rattle.rules.specs.Chain.{Link, pages, first, chainOf, pagesFor}
 use Rattle.rules.specs.ChainLaws.{pages-chain-of}
 use Rattle.rules.specs.Paths.{fileKey, Found, nothing, find}
-use Rattle.rules.specs.Tree.{Label, Items, end, page, file, dir, Token, newPage, entry, tokens, fileEntry, ownPages, allPages, keys, mapPages, used}
-use Rattle.rules.specs.TreeLaws.{entryTokens}
+use Rattle.rules.specs.Tree.{Label, Items, end, page, file, dir, Token, newPage, entry, entryTokens, tokens, fileEntry, ownPages, allPages, keys, mapPages, used}
 use Rattle.rules.specs.Bitmap.{bitmapOf}
 use Rattle.rules.specs.Writes.{Edit, edited, editWrites}
 use Rattle.rules.specs.Put.{keptPages, itemsAfter, putEdit}

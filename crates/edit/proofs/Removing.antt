@@ -2,7 +2,7 @@
 use mathlib.Core.Path.{_≡_, refl, ap, sym, _∙_, subst}
 use mathlib.Core.Bool.{true, false}
 use mathlib.Core.List.{List, []}
-use Prim.Native.Nat.{ℕ, _+_}
+use Prim.Native.Nat.{ℕ, _+_, _-_}
 use lib.ListN.{length}
 use Rattle.geometry.specs.declared.Geometry.{Geometry}
 use Rattle.geometry.specs.Geometry.{Fit}
@@ -21,9 +21,9 @@ use Rattle.edit.specs.Plans.{Removal}
 use Rattle.edit.specs.ChangeLaws.{can-change, changed-is}
 use Rattle.edit.specs.StepLaws.{step₁, step₂, step₃, two-stopped, two-open, fit-then, has-root, map-is}
 
-module _ (g : Geometry) (image : List ℕ) (table : List OwnerRecord) (s : Slot) (budget : Budget) (o : Open budget) (R : Removal g image table s) where
+module _ (g : Geometry) (image : List ℕ) (table : List OwnerRecord) (s : Slot) (stamps : ℕ) (budget : Budget) (o : Open budget) (R : Removal g image table s stamps) where
   abbrev change : Change
-  change = record { slot = s; first = s .at; last = s .at + 1; joins = 0 }
+  change = record { slot = s; first = s .at - stamps; last = s .at + 1; joins = 0 }
 
   -- no chain is written first
   same-image : image ≡ es.image₁ (R .edit)
@@ -34,10 +34,10 @@ module _ (g : Geometry) (image : List ℕ) (table : List OwnerRecord) (s : Slot)
   unfolding writeAll
   same-start = ap (λ (ls : List Link). writeAll g (linked ls) (record { image = image; budget = budget })) (R .none)
 
-  pub remove-can : CanChange g (viewOf g image) (record { slot = s; first = s .at; last = s .at + 1; joins = 0 }) 0
+  pub remove-can : CanChange g (viewOf g image) (record { slot = s; first = s .at - stamps; last = s .at + 1; joins = 0 }) 0
   remove-can = subst (λ (i : List ℕ). CanChange g (viewOf g i) change 0) (sym same-image) (can-change (R .edit) change [] (R .entering))
 
-  module _ (mid : List ℕ) (rest : Budget) (h : Changes g (record { slot = s; first = s .at; last = s .at + 1; joins = 0 }) [] image budget mid rest) where
+  module _ (mid : List ℕ) (rest : Budget) (h : Changes g (record { slot = s; first = s .at - stamps; last = s .at + 1; joins = 0 }) [] image budget mid rest) where
     changed : _≡_ {A = Progress} (record { image = mid; budget = rest }) (step₂ (R .edit) budget)
     changed = changed-is (R .edit) change [] (R .entering) (record { image = image; budget = budget }) (record { image = mid; budget = rest }) same-image h
         ∙ ap (writeAll g (es.ws₂ (R .edit))) (sym same-start)

@@ -7,8 +7,7 @@ use Rattle.geometry.specs.declared.Geometry.{Geometry}
 use Rattle.geometry.specs.Geometry.{controlSize}
 use Rattle.rules.specs.declared.Entry.{Entry}
 use Rattle.rules.specs.Chain.{first}
-use Rattle.rules.specs.Tree.{Token, newPage, tokens, tokenLinks}
-use Rattle.rules.specs.TreeLaws.{entryTokens}
+use Rattle.rules.specs.Tree.{Token, newPage, entryTokens, tokens, tokenLinks}
 use Rattle.editing_theorems.specs.PageChange.{controlOn}
 use Rattle.editing_theorems.specs.EditedImage.{DirectoryOf, OneEdit}
 use Rattle.writes.specs.declared.Change.{Change}

@@ -17,8 +17,7 @@ use Rattle.packet.specs.Budgets.{Progress, writeOne, writeAll}
 use Rattle.rules.specs.declared.Entry.{Entry}
 use Rattle.rules.specs.Chain.{first, linked}
 use Rattle.rules.specs.Names.{entryBytes}
-use Rattle.rules.specs.Tree.{Token, newPage, tokens, tokenBytes, tokenLinks}
-use Rattle.rules.specs.TreeLaws.{entryTokens}
+use Rattle.rules.specs.Tree.{Token, newPage, entryTokens, tokens, tokenBytes, tokenLinks}
 use Rattle.rules.specs.WellFormed.{HasPackets}
 use Rattle.rules.specs.Writes.{sameWrite, changes, backwards, controlOf}
 use Rattle.reading_theorems.specs.EntryLaws.{length-entry}

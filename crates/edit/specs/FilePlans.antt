@@ -22,8 +22,7 @@ use Rattle.rules.specs.PageSetLaws.{hit-same, count-append, count-split, range-
 use Rattle.rules.specs.Chain.{Link, pages, first, chainOf, pagesFor}
 use Rattle.rules.specs.ChainLaws.{pages-chain-of}
 use Rattle.rules.specs.Paths.{Path, fileKey, Found, nothing, find}
-use Rattle.rules.specs.Tree.{Label, Items, end, page, file, dir, Token, newPage, entry, tokens, fileEntry, ownPages, allPages, keys, mapPages, Image}
-use Rattle.rules.specs.TreeLaws.{entryTokens}
+use Rattle.rules.specs.Tree.{Label, Items, end, page, file, dir, Token, newPage, entry, entryTokens, stampTokens, tokens, fileEntry, directoryEntry, ownPages, allPages, keys, mapPages, Image}
 use Rattle.rules.specs.Bitmap.{bitmapOf}
 use Rattle.rules.specs.Writes.{Edit, edited, editWrites}
 use Rattle.rules.specs.Put.{keptPages, itemsAfter, putEdit}
@@ -59,11 +58,15 @@ tokenPages [] = []
 tokenPages (newPage p ∷ ts) = p ∷ tokenPages ts
 tokenPages (entry e ∷ ts) = tokenPages ts
 
+stamp-pages : (ss : List Entry) (ts : List Token) → tokenPages ts ≡ tokenPages (stampTokens ss ts)
+stamp-pages [] ts = refl
+stamp-pages (s ∷ ss) ts = stamp-pages ss ts
+
 own-tokens : (t : Items) → ownPages t ≡ tokenPages (tokens t)
 own-tokens end = refl
 own-tokens (page p t) = ap (λ (l : List ℕ). p ∷ l) (own-tokens t)
-own-tokens (file l ls t) = own-tokens t
-own-tokens (dir l d t) = own-tokens t
+own-tokens (file l ls t) = own-tokens t ∙ stamp-pages (l .stamps) (entry (fileEntry l ls) ∷ tokens t)
+own-tokens (dir l d t) = own-tokens t ∙ stamp-pages (l .stamps) (entry (directoryEntry l d) ∷ tokens t)
 
 page-there : (p : ℕ) (a ts : List Token) → 1 ≤ count p (tokenPages (a ++ (newPage p ∷ ts)))
 page-there p [] ts = omega (arith, hit-same p)

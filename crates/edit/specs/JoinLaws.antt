@@ -13,8 +13,7 @@ use Rattle.packet.specs.Packet.{good, viewOf, Write, write}
 use Rattle.packet.specs.Budgets.{Progress, writeAll}
 use Rattle.rules.specs.declared.Entry.{Entry}
 use Rattle.rules.specs.Chain.{Link, first, linked}
-use Rattle.rules.specs.Tree.{Token, newPage, tokenBytes, tokenLinks}
-use Rattle.rules.specs.TreeLaws.{entryTokens}
+use Rattle.rules.specs.Tree.{Token, newPage, tokenBytes, tokenLinks, entryTokens}
 use Rattle.rules.specs.WellFormed.{HasPackets}
 use Rattle.rules.specs.Writes.{changes, backwards}
 use Rattle.reading_theorems.specs.PacketLaws.{packets-right}

@@ -1,7 +1,7 @@
 -- For contracts: an edit that puts a chain with its entry, and a put within a budget.
 use mathlib.Core.Path.{_≡_}
 use mathlib.Core.List.{List, [], _∷_, _++_}
-use Prim.Native.Nat.{ℕ, _+_, _≤_, _<_}
+use Prim.Native.Nat.{ℕ, _+_, _-_, _≤_, _<_}
 use lib.ListN.{length}
 use Rattle.geometry.specs.declared.Geometry.{Geometry}
 use Rattle.geometry.specs.Geometry.{controlSize, dataCapacity}
@@ -12,8 +12,7 @@ use Rattle.rules.specs.declared.Entry.{Entry}
 use Rattle.rules.specs.Result.{Res, ok, err, andThen}
 use Rattle.rules.specs.PageSets.{count, range, freePages}
 use Rattle.rules.specs.Chain.{Link, chainOf, pagesFor}
-use Rattle.rules.specs.Tree.{Label, Items, fileEntry, Token, newPage, entry, tokens, Image, used}
-use Rattle.rules.specs.TreeLaws.{entryTokens}
+use Rattle.rules.specs.Tree.{Label, Items, fileEntry, Token, newPage, entry, entryTokens, tokens, Image, used}
 use Rattle.rules.specs.Bitmap.{bitmapOf}
 use Rattle.rules.specs.Paths.{Path, fileLabel, Target}
 use Rattle.rules.specs.Writes.{edited, editWrites}
@@ -57,17 +56,17 @@ abbrev pub Carries : Geometry → List ℕ → List OwnerRecord → List ℕ →
 Carries g image table bytes c e budget after left = (p : Plan g image table bytes c e) → _≡_ {A = Progress} (record { image = after; budget = left }) (step₂ (p .edit) budget)
 
 -- ---- a removal
--- an edit without a new chain that takes the entry at a slot out of its directory; the table tells of the pages that stay in use
-pub record Removal (g : Geometry) (image : List ℕ) (table : List OwnerRecord) (s : Slot) : Type 0 where
+-- an edit without a new chain that takes the entry at a slot and so many stamps before it out of its directory; the table tells of the pages that stay in use
+pub record Removal (g : Geometry) (image : List ℕ) (table : List OwnerRecord) (s : Slot) (stamps : ℕ) : Type 0 where
   pub marks : List ℕ
   pub directory : DirectoryOf g image marks
   pub edit : OneEdit directory
   pub none : edit .chain ≡ []
-  pub entering : Entering edit (record { slot = s; first = s .at; last = s .at + 1; joins = 0 }) []
+  pub entering : Entering edit (record { slot = s; first = s .at - stamps; last = s .at + 1; joins = 0 }) []
   pub kept : Represents table (left edit)
 
-abbrev pub RemovesEntry : Geometry → List ℕ → List OwnerRecord → Slot → Budget → List ℕ → Budget → Type 0
-RemovesEntry g image table s budget after rest = (p : Removal g image table s) → _≡_ {A = Progress} (record { image = after; budget = rest }) (step₃ (p .edit) budget)
+abbrev pub RemovesEntry : Geometry → List ℕ → List OwnerRecord → Slot → ℕ → Budget → List ℕ → Budget → Type 0
+RemovesEntry g image table s stamps budget after rest = (p : Removal g image table s stamps) → _≡_ {A = Progress} (record { image = after; budget = rest }) (step₃ (p .edit) budget)
 
 -- ---- a put
 -- where the entry goes if the directory keeps its pages: to the page of the slot, in the place of the entries from number `first` to `last`

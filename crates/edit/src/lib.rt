@@ -166,21 +166,22 @@ pub fn put_file(
     }
 }
 
-// Takes an entry out of its directory: its page is written without it, then the bitmap. The table has the pages that stay in use.
+// Takes an entry with the stamps before it out of its directory: its page is written without them, then the bitmap. The table has the pages that stay in use.
 pub fn remove_entry(
     image: &mut [u8],
     g: Geometry,
     slot: Slot,
+    stamps: usize,
     table: &[u8],
     budget: Budget,
 ) -> Budget
     requires { ⌜ Fit g (now image) ⌝ }
-    requires { ⌜ Removal g (now image) (recordsOf (now table)) slot × (slot .at < slot .count) × Open budget ⌝ }
-    ensures { λ r. ⌜ RemovesEntry g (now (image .entry)) (recordsOf (now (table .entry))) slot budget (now (image .exit)) r ⌝ }
+    requires { ⌜ Removal g (now image) (recordsOf (now table)) slot stamps × (slot .at < slot .count) × (stamps ≤ slot .at) × Open budget ⌝ }
+    ensures { λ r. ⌜ RemovesEntry g (now (image .entry)) (recordsOf (now (table .entry))) slot stamps budget (now (image .exit)) r ⌝ }
 {
     let change = Change {
         slot,
-        first: slot.at,
+        first: slot.at - stamps,
         last: slot.at + 1,
         joins: 0,
     };

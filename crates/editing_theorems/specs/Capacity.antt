@@ -1,16 +1,18 @@
 -- What a page holds: data bytes, and slots for entries in a directory's first and later pages.
-use mathlib.Core.Path.{_≡_, refl, _∙_}
+use mathlib.Core.Path.{_≡_, refl, ap, _∙_}
+use mathlib.Core.List.{List, _∷_}
 use Prim.Native.Nat.{ℕ, _+_, _-_, _*_, _≤_, _<_}
-use native.Mathlib.Nat.{le-div-iff-mul-le}
+use native.Mathlib.Nat.{le-div-iff-mul-le, suc-mul, add-mul}
 use native.Mathlib.Omega.{arith}
 use lib.ListN.{length, length-append}
 use Rattle.geometry.specs.declared.Geometry.{Geometry}
 use Rattle.geometry.specs.Geometry.{Valid, dataCapacity, entrySize, controlSize, firstEntries, laterEntries}
 use Rattle.rules.specs.declared.Entry.{Entry}
 use Rattle.rules.specs.Names.{entryBytes}
-use Rattle.rules.specs.Tree.{Label, width, Items, end, page, file, dir, fileEntry, directoryEntry, tokens, tokenBytes}
-use Rattle.rules.specs.EditLaws.{width-one}
+use Rattle.rules.specs.Tree.{Label, width, Items, end, page, file, dir, fileEntry, directoryEntry, Token, entry, stampTokens, tokens, tokenBytes}
+use Rattle.rules.specs.EditLaws.{width-is}
 use Rattle.reading_theorems.specs.EntryLaws.{entry-size, length-entry}
+use Rattle.reading_theorems.specs.TokenLaws.{length-stamps}
 use Rattle.reading_theorems.specs.ControlLaws.{control-size}
 
 pub capacity-is : (g : Geometry) → dataCapacity g ≡ g .size - 3 - g .width
@@ -65,14 +67,20 @@ PagesHold next later (page p t) = (slotsHere t ≤ next) × PagesHold later late
 PagesHold next later (file l ls t) = PagesHold next later t
 PagesHold next later (dir l d t) = PagesHold next later t
 
--- an entry's bytes fill its slots
-pub length-slots : (g : Geometry) (l : Label) (e : Entry) → length (entryBytes (g .width) e) ≡ width l * entrySize g
-length-slots g l e = length-entry g e ∙ rw (width-one l) (omega arith)
+-- an entry's bytes, with its stamps', fill its slots
+pub length-slots : (g : Geometry) (l : Label) (e : Entry) (ts : List Token)
+    → length (tokenBytes (g .width) (stampTokens (l .stamps) (entry e ∷ ts))) ≡ width l * entrySize g + length (tokenBytes (g .width) ts)
+length-slots g l e ts = omega (
+  arith,
+  length-stamps g (l .stamps) (entry e ∷ ts),
+  length-append (entryBytes (g .width) e) (tokenBytes (g .width) ts),
+  length-entry g e,
+  suc-mul (length (l .stamps)) (entrySize g),
+  ap (λ (k : ℕ). k * entrySize g) (width-is l),
+)
 
 pub length-here : (g : Geometry) (t : Items) → length (tokenBytes (g .width) (tokens t)) ≡ slotsHere t * entrySize g
 length-here g end = omega arith
 length-here g (page p t) = omega arith
-length-here g (file l ls t) =
-    length-append (entryBytes (g .width) (fileEntry l ls)) (tokenBytes (g .width) (tokens t)) ∙ omega (arith, length-slots g l (fileEntry l ls), length-here g t)
-length-here g (dir l d t) =
-    length-append (entryBytes (g .width) (directoryEntry l d)) (tokenBytes (g .width) (tokens t)) ∙ omega (arith, length-slots g l (directoryEntry l d), length-here g t)
+length-here g (file l ls t) = length-slots g l (fileEntry l ls) (tokens t) ∙ omega (arith, length-here g t, add-mul (width l) (slotsHere t) (entrySize g))
+length-here g (dir l d t) = length-slots g l (directoryEntry l d) (tokens t) ∙ omega (arith, length-here g t, add-mul (width l) (slotsHere t) (entrySize g))

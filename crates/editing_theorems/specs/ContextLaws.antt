@@ -8,7 +8,7 @@ use Rattle.packet.specs.Packet.{View, Write}
 use Rattle.rules.specs.PageSets.{count, Once}
 use Rattle.rules.specs.PageSetLaws.{count-append}
 use Rattle.rules.specs.Chain.{Views, oneView, pages, linked}
-use Rattle.rules.specs.Tree.{keyOf, Items, startOf, fileEntry, directoryEntry, Token, newPage, entry, tokens, tokenLinks, directoryLinks, ownPages, allPages, keys, Map}
+use Rattle.rules.specs.Tree.{keyOf, Items, startOf, fileEntry, directoryEntry, Token, newPage, entry, tokens, stampTokens, tokenLinks, directoryLinks, ownPages, allPages, keys, Map}
 use Rattle.rules.specs.Control.{Parent, subControl}
 use Rattle.rules.specs.WellFormed.{HasPackets, HasBelow, IsDirectory, Under, Entries}
 use Rattle.rules.specs.Paths.{Site, below}
@@ -20,10 +20,10 @@ use Rattle.editing_theorems.specs.Contexts.{own-around, start-filled-all
 
 -- ---- a directory's entries do not tell what is below a subdirectory but its start page
 pub tokens-filled : (c : Context) (d e : Items) → startOf e ≡ startOf d → tokens (filled c e) ≡ tokens (filled c d)
-tokens-filled (gap l t) d e h = ap (λ (s : ℕ). entry (record { name = l .name; extension = l .extension; start = s; pages = 0 }) ∷ tokens t) h
+tokens-filled (gap l t) d e h = ap (λ (s : ℕ). stampTokens (l .stamps) (entry (record { name = l .name; extension = l .extension; start = s; pages = 0 }) ∷ tokens t)) h
 tokens-filled (afterPage p c) d e h = ap (λ (ts : List Token). newPage p ∷ ts) (tokens-filled c d e h)
-tokens-filled (afterFile l ls c) d e h = ap (λ (ts : List Token). entry (fileEntry l ls) ∷ ts) (tokens-filled c d e h)
-tokens-filled (afterDirectory l b c) d e h = ap (λ (ts : List Token). entry (directoryEntry l b) ∷ ts) (tokens-filled c d e h)
+tokens-filled (afterFile l ls c) d e h = ap (λ (ts : List Token). stampTokens (l .stamps) (entry (fileEntry l ls) ∷ ts)) (tokens-filled c d e h)
+tokens-filled (afterDirectory l b c) d e h = ap (λ (ts : List Token). stampTokens (l .stamps) (entry (directoryEntry l b) ∷ ts)) (tokens-filled c d e h)
 
 pub keys-filled : (c : Context) (d e : Items) → keys (filled c e) ≡ keys (filled c d)
 keys-filled (gap l t) d e = refl
@@ -113,47 +113,47 @@ module _ (g : Geometry) where
         }
 
 -- ---- names and nesting
-pub record Shaped (levels : ℕ) (t : Items) : Type 0 where
+pub record Shaped (n levels : ℕ) (t : Items) : Type 0 where
   pub isDirectory : IsDirectory t
   pub names : Once (keys t)
-  pub entries : Entries levels t
+  pub entries : Entries n levels t
 
-abbrev SubShaped : ℕ → Items → Type 0
-SubShaped levels d = IsDirectory d × Once (keys d) × Under levels (λ m. Entries m d)
+abbrev SubShaped : ℕ → ℕ → Items → Type 0
+SubShaped n levels d = IsDirectory d × Once (keys d) × Under levels (λ m. Entries n m d)
 
-entries-get : (levels : ℕ) (c : Context) (d : Items) → Entries levels (filled c d) → SubShaped levels d
-entries-get levels (gap l t) d w = (w .2, w .3, w .4)
-entries-get levels (afterPage p c) d w = entries-get levels c d w
-entries-get levels (afterFile l ls c) d w = entries-get levels c d (w .3)
-entries-get levels (afterDirectory l b c) d w = entries-get levels c d (w .5)
+entries-get : (n levels : ℕ) (c : Context) (d : Items) → Entries n levels (filled c d) → SubShaped n levels d
+entries-get n levels (gap l t) d w = (w .2, w .3, w .4)
+entries-get n levels (afterPage p c) d w = entries-get n levels c d w
+entries-get n levels (afterFile l ls c) d w = entries-get n levels c d (w .3)
+entries-get n levels (afterDirectory l b c) d w = entries-get n levels c d (w .5)
 
-entries-set : (levels : ℕ) (c : Context) (d e : Items) → Entries levels (filled c d) → SubShaped levels e → Entries levels (filled c e)
-entries-set levels (gap l t) d e w s = (w .0, w .1, s .0, s .1, s .2, w .5)
-entries-set levels (afterPage p c) d e w s = entries-set levels c d e w s
-entries-set levels (afterFile l ls c) d e w s = (w .0, w .1, w .2, entries-set levels c d e (w .3) s)
-entries-set levels (afterDirectory l b c) d e w s = (w .0, w .1, w .2, w .3, w .4, entries-set levels c d e (w .5) s)
+entries-set : (n levels : ℕ) (c : Context) (d e : Items) → Entries n levels (filled c d) → SubShaped n levels e → Entries n levels (filled c e)
+entries-set n levels (gap l t) d e w s = (w .0, w .1, s .0, s .1, s .2, w .5)
+entries-set n levels (afterPage p c) d e w s = entries-set n levels c d e w s
+entries-set n levels (afterFile l ls c) d e w s = (w .0, w .1, w .2, entries-set n levels c d e (w .3) s)
+entries-set n levels (afterDirectory l b c) d e w s = (w .0, w .1, w .2, w .3, w .4, entries-set n levels c d e (w .5) s)
 
 -- one step down
-pub shaped-in : (levels : ℕ) (c : Context) (d : Items) → Shaped levels (filled c d) → Under levels (λ m. Shaped m d)
-shaped-in zero c d i = absurd (entries-get zero c d (i .entries) .2)
-shaped-in (suc levels) c d i = let r = entries-get (suc levels) c d (i .entries) in record { isDirectory = r .0; names = r .1; entries = r .2 }
+pub shaped-in : {n : ℕ} (levels : ℕ) (c : Context) (d : Items) → Shaped n levels (filled c d) → Under levels (λ m. Shaped n m d)
+shaped-in {n = n} zero c d i = absurd (entries-get n zero c d (i .entries) .2)
+shaped-in {n = n} (suc levels) c d i = let r = entries-get n (suc levels) c d (i .entries) in record { isDirectory = r .0; names = r .1; entries = r .2 }
 
-pub shaped-at : (cs : List Context) (levels : ℕ) (d : Items) → Shaped levels (filledAll cs d) → Shaped (levelsAt cs levels) d
+pub shaped-at : {n : ℕ} (cs : List Context) (levels : ℕ) (d : Items) → Shaped n levels (filledAll cs d) → Shaped n (levelsAt cs levels) d
 shaped-at [] levels d i = i
 shaped-at (c ∷ cs) zero d i = absurd (shaped-in zero c (filledAll cs d) i)
 shaped-at (c ∷ cs) (suc levels) d i = shaped-at cs levels d (shaped-in (suc levels) c (filledAll cs d) i)
 
 -- a change that keeps the rules at its own level keeps them all the way up
-pub shaped-changed : (d e : Items) (cs : List Context) (levels : ℕ) → (Shaped (levelsAt cs levels) d → Shaped (levelsAt cs levels) e)
-    → Shaped levels (filledAll cs d) → Shaped levels (filledAll cs e)
+pub shaped-changed : {n : ℕ} (d e : Items) (cs : List Context) (levels : ℕ) → (Shaped n (levelsAt cs levels) d → Shaped n (levelsAt cs levels) e)
+    → Shaped n levels (filledAll cs d) → Shaped n levels (filledAll cs e)
 shaped-changed d e [] levels f i = f i
 shaped-changed d e (c ∷ cs) zero f i = absurd (shaped-in zero c (filledAll cs d) i)
-shaped-changed d e (c ∷ cs) (suc levels) f i =
+shaped-changed {n = n} d e (c ∷ cs) (suc levels) f i =
     let D = filledAll cs d in
     let E = filledAll cs e in
     let j = shaped-changed d e cs levels f (shaped-in (suc levels) c D i) in
     record {
       isDirectory = directory-filled c D E (i .isDirectory);
       names = rw (keys-filled c D E) (i .names);
-      entries = entries-set (suc levels) c D E (i .entries) (j .isDirectory, j .names, j .entries);
+      entries = entries-set n (suc levels) c D E (i .entries) (j .isDirectory, j .names, j .entries);
     }

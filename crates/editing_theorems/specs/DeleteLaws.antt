@@ -43,16 +43,16 @@ remove-directory k (page p t) i = (tt, refl)
 remove-directory k (file l ls t) i = absurd i
 remove-directory k (dir l d t) i = absurd i
 
-pub remove-entries : (levels k : ℕ) (t : Items) → Entries levels t → Entries levels (remove k t)
-remove-entries levels k end w = tt
-remove-entries levels k (page p t) w = remove-entries levels k t w
-remove-entries levels k (file l ls t) w = elim (hits k (keyOf l)) [
+pub remove-entries : (n levels k : ℕ) (t : Items) → Entries n levels t → Entries n levels (remove k t)
+remove-entries n levels k end w = tt
+remove-entries n levels k (page p t) w = remove-entries n levels k t w
+remove-entries n levels k (file l ls t) w = elim (hits k (keyOf l)) [
   | same e i ↦ simp (eq-eqb k (keyOf l) e, choose-true) (w .3)
-  | other e i ↦ simp (ne-eqb k (keyOf l) e, choose-false) (w .0, w .1, w .2, remove-entries levels k t (w .3))
+  | other e i ↦ simp (ne-eqb k (keyOf l) e, choose-false) (w .0, w .1, w .2, remove-entries n levels k t (w .3))
 ]
-remove-entries levels k (dir l d t) w = elim (hits k (keyOf l)) [
+remove-entries n levels k (dir l d t) w = elim (hits k (keyOf l)) [
   | same e i ↦ simp (eq-eqb k (keyOf l) e, choose-true) (w .5)
-  | other e i ↦ simp (ne-eqb k (keyOf l) e, choose-false) (w .0, w .1, w .2, w .3, w .4, remove-entries levels k t (w .5))
+  | other e i ↦ simp (ne-eqb k (keyOf l) e, choose-false) (w .0, w .1, w .2, w .3, w .4, remove-entries n levels k t (w .5))
 ]
 
 pub remove-holds : (next later k : ℕ) (t : Items) → PagesHold next later t → (slotsHere (remove k t) ≤ slotsHere t) × PagesHold next later (remove k t)
@@ -86,7 +86,7 @@ remove-edit g levels here k d i = record {
   shaped = λ s. record {
     isDirectory = remove-directory k d i .0;
     names = λ x. omega (arith, s .names x, remove-fewer x k d);
-    entries = remove-entries levels k d (s .entries);
+    entries = remove-entries (g .width) levels k d (s .entries);
   };
   holds = λ h. remove-holds (firstEntries g) (laterEntries g) k d h .1;
   own = λ x. omega (arith, ap (count x) (remove-own k d));
@@ -126,7 +126,7 @@ module _ (g : Geometry) (image : List ℕ) (bytes : Bytes image) (i : Image) (we
   abbrev pub directory : DirectoryOf g image (bitmapOf g (used i) (i .map))
   directory = directory-of g image i well bytes names place (locate names (rootPlace (i .tree)) place there)
 
-  shape-here : Shaped levels (place .items)
+  shape-here : Shaped (g .width) levels (place .items)
   shape-here = place-shaped directory
 
   pub the-edit : DirectoryEdit g levels here (place .items) (remove k (place .items)) [] (innerPages (remove k (place .items)))
@@ -160,7 +160,7 @@ module _ (g : Geometry) (image : List ℕ) (bytes : Bytes image) (i : Image) (we
   changed : NothingBelow (find k (place .items)) → PathsChanged g (contextPath (located .contexts)) k d e i j
   changed none =
       let cs = located .contexts in
-      let s : Shaped 8 (filledAll cs d) = rw (located .whole) (record { isDirectory = well .holds .isDirectory; names = well .holds .names; entries = well .holds .entries }) in
+      let s : Shaped (g .width) 8 (filledAll cs d) = rw (located .whole) (record { isDirectory = well .holds .isDirectory; names = well .holds .names; entries = well .holds .entries }) in
       paths-changed g 8 cs d e k s (shaped-changed d e cs 8 (the-edit .shaped) s) none (λ x ks. ap (lookUp (x ∷ ks)) gone-there) (λ x m. find-beside-removed x k m d)
       i j (sym (located .whole)) (tree-edited g names (removeEdit k place) i ∙ located .change (λ _. e))
 

@@ -89,7 +89,7 @@ module _ (P N : ℕ) (image table path bytes : List ℕ) (o : OnlyRoom P N image
       subst (λ (q : Path). Candidate g image (targetPath q) (filePath q) (PutFile bytes) after) (ok-inj (sym (p .at .formed) ∙ o .formed)) (put-candidate g path bytes image after p)
 
   all-old : allFound (find (fileKey (o .to)) (o .place .items)) ≡ old
-  all-old = found-chain (levels g image path bytes asked) (fileKey (o .to)) (o .place .items) (here-shaped g image path bytes asked .entries) (key-file g image path bytes asked)
+  all-old = found-chain (g .width) (levels g image path bytes asked) (fileKey (o .to)) (o .place .items) (here-shaped g image path bytes asked .entries) (key-file g image path bytes asked)
 
   abbrev needs : Needs g (PutFile bytes) (wanted g image path bytes asked)
   needs = file-needs g (asked .well .fits .valid) bytes

@@ -18,8 +18,9 @@ use Rattle.rules.specs.PageSets.{count, Once, Within}
 use Rattle.rules.specs.PageSetLaws.{hit-same, same, other, hits, range-of}
 use Rattle.rules.specs.Chain.{first, linked}
 use Rattle.rules.specs.Names.{entryBytes}
-use Rattle.rules.specs.Tree.{Items, end, page, file, dir, fileEntry, directoryEntry, tokens, tokenBytes, tokenLinks, directoryLinks, ownPages}
-use Rattle.rules.specs.WellFormed.{HasPackets, Entries}
+use Rattle.rules.specs.Tree.{Label, Items, end, page, file, dir, fileEntry, directoryEntry, Token, entry, stampTokens, tokens, tokenBytes, tokenLinks, directoryLinks, ownPages}
+use Rattle.rules.specs.WellFormed.{HasPackets, Stamps, Named, Entries}
+use Rattle.rules.specs.StampLaws.{stamps-links, group-links}
 use Rattle.rules.specs.Writes.{sameWrite, changes, backwards}
 use Rattle.geometry.specs.BoolLaws.{both}
 use Rattle.reading_theorems.specs.PacketLaws.{ByteView, packets-left, packets-right}
@@ -36,19 +37,26 @@ bytes-entry n e h =
     bytes-append (numberBytes 4 (e .name)) (e .extension ∷ (s ++ c)) (number-bytes 4 (e .name))
     (h, bytes-append s c (number-bytes n (e .start)) (number-bytes n (e .pages)))
 
-bytes-here : (n levels : ℕ) (t : Items) → Entries levels t → Bytes (tokenBytes n (tokens t))
+bytes-stamps : (n : ℕ) (ss : List Entry) (ts : List Token) → Stamps n ss → Bytes (tokenBytes n ts) → Bytes (tokenBytes n (stampTokens ss ts))
+bytes-stamps n [] ts h b = b
+bytes-stamps n (s ∷ ss) ts h b = bytes-append (entryBytes n s) (tokenBytes n (stampTokens ss ts)) (bytes-entry n s (h .1 .byte)) (bytes-stamps n ss ts (h .2) b)
+
+-- an entry with its stamps, and what stands after it
+bytes-next : (n : ℕ) (l : Label) (e : Entry) (ts : List Token) → Named n l → e .extension < 256 → Bytes (tokenBytes n ts)
+    → Bytes (tokenBytes n (stampTokens (l .stamps) (entry e ∷ ts)))
+bytes-next n l e ts h k b = bytes-stamps n (l .stamps) (entry e ∷ ts) (h .stamps) (bytes-append (entryBytes n e) (tokenBytes n ts) (bytes-entry n e k) b)
+
+bytes-here : (n levels : ℕ) (t : Items) → Entries n levels t → Bytes (tokenBytes n (tokens t))
 bytes-here n levels end w = tt
 bytes-here n levels (page p t) w = tt
-bytes-here n levels (file l ls t) w =
-    bytes-append (entryBytes n (fileEntry l ls)) (tokenBytes n (tokens t)) (bytes-entry n (fileEntry l ls) (w .0 .byte)) (bytes-here n levels t (w .3))
-bytes-here n levels (dir l d t) w =
-    bytes-append (entryBytes n (directoryEntry l d)) (tokenBytes n (tokens t)) (bytes-entry n (directoryEntry l d) (w .0 .byte)) (bytes-here n levels t (w .5))
+bytes-here n levels (file l ls t) w = bytes-next n l (fileEntry l ls) (tokens t) (w .0) (w .0 .byte) (bytes-here n levels t (w .3))
+bytes-here n levels (dir l d t) w = bytes-next n l (directoryEntry l d) (tokens t) (w .0) (w .0 .byte) (bytes-here n levels t (w .5))
 
 first-page : (g : Geometry) (control : List ℕ) (t : Items) → 0 < g .pages → Within (g .pages) (ownPages t) → first (directoryLinks g control t) < g .pages
 first-page g control end h k = h
 first-page g control (page p t) h k = range-of p (g .pages) (omega (arith, k p, hit-same p))
-first-page g control (file l ls t) h k = first-page g control t h k
-first-page g control (dir l d t) h k = first-page g control t h k
+first-page g control (file l ls t) h k = rw (group-links (g .width) control l (fileEntry l ls) (tokens t)) (first-page g control t h k)
+first-page g control (dir l d t) h k = rw (group-links (g .width) control l (directoryEntry l d) (tokens t)) (first-page g control t h k)
 
 module _ (g : Geometry) (valid : Valid g) where
   -- a directory that stands has no more slots taken on a page than fit
@@ -60,12 +68,12 @@ module _ (g : Geometry) (valid : Valid g) where
         h (slotsHere t) (omega (arith, bv .room p (control ++ b) (first (tokenLinks (g .width) [] (tokens t))) (s .0), length-append control b, length-here g t)),
         packets-hold v bv [] (laterEntries g) (later-holds g valid) t (s .1),
       )
-  packets-hold v bv control next h (file l ls t) s = packets-hold v bv control next h t s
-  packets-hold v bv control next h (dir l d t) s = packets-hold v bv control next h t s
+  packets-hold v bv control next h (file l ls t) s = packets-hold v bv control next h t (rw (group-links (g .width) control l (fileEntry l ls) (tokens t)) at s)
+  packets-hold v bv control next h (dir l d t) s = packets-hold v bv control next h t (rw (group-links (g .width) control l (directoryEntry l d) (tokens t)) at s)
 
   -- and its pages can be written
   pub directory-fits : (levels : ℕ) (control : List ℕ) (next : ℕ) → Bytes control → ((k : ℕ) → k ≤ next → length control + k * entrySize g ≤ dataCapacity g)
-      → (t : Items) → Entries levels t → PagesHold next (laterEntries g) t → Within (g .pages) (ownPages t) → WritesFit g (linked (directoryLinks g control t))
+      → (t : Items) → Entries (g .width) levels t → PagesHold next (laterEntries g) t → Within (g .pages) (ownPages t) → WritesFit g (linked (directoryLinks g control t))
   directory-fits levels control next c h end w k f = tt
   directory-fits levels control next c h (page p t) w k f =
       let b = tokenBytes (g .width) (tokens t) in
@@ -78,8 +86,8 @@ module _ (g : Geometry) (valid : Valid g) where
         },
         directory-fits levels [] (laterEntries g) tt (holds-later g valid) t w (k .1) f′,
       )
-  directory-fits levels control next c h (file l ls t) w k f = directory-fits levels control next c h t (w .3) k f
-  directory-fits levels control next c h (dir l d t) w k f = directory-fits levels control next c h t (w .5) k f
+  directory-fits levels control next c h (file l ls t) w k f = rw (group-links (g .width) control l (fileEntry l ls) (tokens t)) (directory-fits levels control next c h t (w .3) k f)
+  directory-fits levels control next c h (dir l d t) w k f = rw (group-links (g .width) control l (directoryEntry l d) (tokens t)) (directory-fits levels control next c h t (w .5) k f)
 
 -- ---- the packets of a chain that differ from those before
 pub same-list : (a b : List ℕ) → sameList a b ≡ true → a ≡ b

@@ -34,7 +34,7 @@ use Rattle.editing_theorems.specs.ContextLaws.{DirectoryIn, place-stands
 -- and `kept` are the pages below the directory that stay in use
 pub record DirectoryEdit (g : Geometry) (levels : ℕ) (here : Parent) (d e : Items) (chain : List Link) (kept : List ℕ) : Type 0 where
   pub start : startOf e ≡ startOf d
-  pub shaped : Shaped levels d → Shaped levels e
+  pub shaped : Shaped (g .width) levels d → Shaped (g .width) levels e
   -- no page gets more slots taken than it holds
   pub holds : PagesHold (firstEntries g) (laterEntries g) d → PagesHold (firstEntries g) (laterEntries g) e
   -- the directory keeps its pages
@@ -93,14 +93,14 @@ module _ {g : Geometry} {image marks : List ℕ} (D : DirectoryOf g image marks)
   pub rootStands : DirectoryIn g marks (D .tree .map) (viewsOf g image) atRoot theRoot (filledAll (D .located .contexts) (D .place .items))
   rootStands = rw (located .whole) (record { own = parts .own; below = parts .below })
 
-  pub rootShaped : Shaped 8 (filledAll (D .located .contexts) (D .place .items))
+  pub rootShaped : Shaped (g .width) 8 (filledAll (D .located .contexts) (D .place .items))
   rootShaped = rw (located .whole) (record { isDirectory = stands .isDirectory; names = stands .names; entries = stands .entries })
 
   pub hereStands : DirectoryIn g marks (D .tree .map) (viewsOf g image) (D .place .site) (D .place .here) (D .place .items)
   hereStands = rw (located .site-is, located .here-is) (place-stands g marks (tree .map) (viewsOf g image) cs atRoot theRoot d rootStands)
 
   -- the directory at the place has names and nesting as it must, and no page of it is too full
-  pub place-shaped : Shaped levels (D .place .items)
+  pub place-shaped : Shaped (g .width) levels (D .place .items)
   place-shaped = shaped-at cs 8 d rootShaped
 
   pub place-holds : PagesHold (firstEntries g) (laterEntries g) (D .place .items)
@@ -251,7 +251,7 @@ module _ {g : Geometry} {image marks : List ℕ} {D : DirectoryOf g image marks}
   abbrev pub bits : List ℕ
   bits = bitmapOf g (allPages whole ++ mapPages (D .tree .map)) (D .tree .map)
 
-  pub shaped : Shaped 8 whole
+  pub shaped : Shaped (g .width) 8 whole
   shaped = shaped-changed (place .items) after (located .contexts) 8 (edit .shaped) (rootShaped D)
 
   pub start-is : startOf whole ≡ 0

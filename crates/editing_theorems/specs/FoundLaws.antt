@@ -3,17 +3,17 @@ use mathlib.Core.Path.{_≡_, refl, ap, sym, _∙_, subst}
 use mathlib.Core.Logic.{inl, inr}
 use mathlib.Core.List.{List, [], _∷_, _++_}
 use Prim.Native.Nat.{ℕ, _*_, _/_, _≤_, _<_}
-use native.Mathlib.Nat.{eq-zero-or-pos, mul-div-cancel}
+use native.Mathlib.Nat.{eq-zero-or-pos, suc-mul, mul-div-cancel}
 use native.Mathlib.Omega.{arith}
 use lib.ListN.{length}
 use Rattle.geometry.specs.declared.Geometry.{Geometry}
 use Rattle.geometry.specs.Geometry.{entrySize}
 use Rattle.rules.specs.PageSets.{count}
-use Rattle.rules.specs.Tree.{Label, Items, fileEntry, directoryEntry, keys, Map, inRoot, inFile, mapPages}
+use Rattle.rules.specs.Tree.{Label, width, Items, fileEntry, directoryEntry, keys, Map, inRoot, inFile, mapPages}
 use Rattle.rules.specs.Paths.{Found, nothing, aFile, aDirectory, find}
-use Rattle.rules.specs.EditLaws.{find-none, none-found}
+use Rattle.rules.specs.EditLaws.{width-is, find-none, none-found}
 use Rattle.rules.specs.Candidate.{lookUp, chainPages, foundEntry, Exists, SameMap}
-use Rattle.reading_theorems.specs.EntryLaws.{entry-size, length-entry}
+use Rattle.reading_theorems.specs.EntryLaws.{entry-size}
 use Rattle.editing_theorems.specs.Capacity.{length-slots}
 use Rattle.editing_theorems.specs.FullPages.{widthFound}
 use Rattle.editing_theorems.specs.PathLaws.{path-append}
@@ -34,16 +34,19 @@ exists-key k t h = go (find k t) refl
 pub key-exists : (k : ℕ) (t : Items) → Exists (find k t) → 1 ≤ count k (keys t)
 key-exists k t h = elim (eq-zero-or-pos (count k (keys t))) [ inr z ↦ z | inl z ↦ absurd (subst Exists (find-none k t z) h) ]
 
--- an entry has bytes, as many as its slots
-pub entry-some : (g : Geometry) (f : Found) → Exists f → 1 ≤ length (foundEntry g f)
-entry-some g nothing h = absurd h
-entry-some g (aFile l ls) h = omega (arith, length-entry g (fileEntry l ls), entry-size g)
-entry-some g (aDirectory l d) h = omega (arith, length-entry g (directoryEntry l d), entry-size g)
-
+-- an entry with its stamps has bytes, as many as its slots
 pub length-found : (g : Geometry) (f : Found) → length (foundEntry g f) ≡ widthFound f * entrySize g
 length-found g nothing = omega arith
-length-found g (aFile l ls) = length-slots g l (fileEntry l ls)
-length-found g (aDirectory l d) = length-slots g l (directoryEntry l d)
+length-found g (aFile l ls) = omega (arith, length-slots g l (fileEntry l ls) [])
+length-found g (aDirectory l d) = omega (arith, length-slots g l (directoryEntry l d) [])
+
+slots-some : (g : Geometry) (l : Label) → 1 ≤ width l * entrySize g
+slots-some g l = omega (arith, ap (λ (k : ℕ). k * entrySize g) (width-is l), suc-mul (length (l .stamps)) (entrySize g), entry-size g)
+
+pub entry-some : (g : Geometry) (f : Found) → Exists f → 1 ≤ length (foundEntry g f)
+entry-some g nothing h = absurd h
+entry-some g (aFile l ls) h = omega (arith, length-found g (aFile l ls), slots-some g l)
+entry-some g (aDirectory l d) h = omega (arith, length-found g (aDirectory l d), slots-some g l)
 
 -- so entries with the same bytes take as many slots
 pub same-width : (g : Geometry) (f h : Found) → foundEntry g f ≡ foundEntry g h → widthFound f ≡ widthFound h

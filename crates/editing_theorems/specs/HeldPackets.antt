@@ -61,7 +61,7 @@ fits-join g [] us f h = h
 fits-join g (write p b n ∷ ws) us f h = (f .0, fits-join g ws us (f .1) h)
 
 -- ---- an image in which every packet of a tree stands, with the bitmap of its pages, is well formed
-pub image-stands : (g : Geometry) (image : List ℕ) (i : Image) → Fit g image → IsDirectory (i .tree) → startOf (i .tree) ≡ 0 → Once (keys (i .tree)) → Entries 8 (i .tree)
+pub image-stands : (g : Geometry) (image : List ℕ) (i : Image) → Fit g image → IsDirectory (i .tree) → startOf (i .tree) ≡ 0 → Once (keys (i .tree)) → Entries (g .width) 8 (i .tree)
     → MapHolds g (bitmapOf g (used i) (i .map)) (i .map) → Within (g .pages) (used i) → HasParts g (viewsOf g image) (bitmapOf g (used i) (i .map)) (i .tree) (i .map) → WellFormed g image i
 image-stands g image i fit d z o w m f s = record {
   fits = fit;

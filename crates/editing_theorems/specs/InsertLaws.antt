@@ -28,10 +28,10 @@ use Rattle.editing_theorems.specs.EditedImage.{DirectoryEdit}
 pub record NewEntry (g : Geometry) (levels : ℕ) (here : Parent) (new : Items → Items) (chain : List Link) : Type 0 where
   pub one-more : (t : Items) → slotsHere (new t) ≡ suc (slotsHere t)
   pub holds : (next later : ℕ) (t : Items) → PagesHold next later t → PagesHold next later (new t)
-  pub entries : (t : Items) → Entries levels t → Entries levels (new t)
+  pub entries : (t : Items) → Entries (g .width) levels t → Entries (g .width) levels (new t)
   pub stands : (w : View) (t : Items) → HasPackets w (linked chain) → HasBelow g (oneView w) here t → HasBelow g (oneView w) here (new t)
 
-module _ (g : Geometry) (levels : ℕ) (here : Parent) (l : Label) (named : Named l) (one : width l ≡ 1) where
+module _ (g : Geometry) (levels : ℕ) (here : Parent) (l : Label) (named : Named (g .width) l) (one : width l ≡ 1) where
   -- a file's entry, with its chain
   pub new-file : (chain : List Link) → fileNumber (l .extension) ≡ true → 0 < length chain → NewEntry g levels here (file l chain) chain
   new-file chain e h = record {
@@ -60,7 +60,7 @@ module _ (g : Geometry) (levels : ℕ) (here : Parent) (new : Items → Items) (
   insert-holds next h r (file l ls t) k m = let i = insert-holds next h (r - width l) t k (omega arith) in (omega (arith, i .0), i .1)
   insert-holds next h r (dir l d t) k m = let i = insert-holds next h (r - width l) t k (omega arith) in (omega (arith, i .0), i .1)
 
-  insert-entries : (next r : ℕ) (t : Items) → Entries levels t → Entries levels (insert new later q next r t)
+  insert-entries : (next r : ℕ) (t : Items) → Entries (g .width) levels t → Entries (g .width) levels (insert new later q next r t)
   insert-entries next zero end w = is .entries end w
   insert-entries next (suc r) end w = is .entries end w
   insert-entries next zero (page p t) w = insert-entries later next t w
@@ -117,7 +117,7 @@ insert-edit g valid levels here new chain k found is at q d i z =
     }
 
 -- of a new directory's
-pub directory-edit : (g : Geometry) → Valid g → (levels : ℕ) (here : Parent) (l : Label) → Named l → width l ≡ 1 → directoryNumber (l .extension) ≡ true → (p q : ℕ) (d : Items) → IsDirectory d
+pub directory-edit : (g : Geometry) → Valid g → (levels : ℕ) (here : Parent) (l : Label) → Named (g .width) l → width l ≡ 1 → directoryNumber (l .extension) ≡ true → (p q : ℕ) (d : Items) → IsDirectory d
     → count (keyOf l) (keys d) ≡ 0
     → DirectoryEdit g (suc levels) here d (insert (dir l (page p end)) (laterEntries g) q (firstEntries g) 0 d) (link p (subControl (g .width) here) ∷ []) (innerPages d)
 directory-edit g valid levels here l named one e p q d i z =
@@ -131,14 +131,14 @@ replace-directory k new (page p t) i = (tt, refl)
 replace-directory k new (file l ls t) i = absurd i
 replace-directory k new (dir l d t) i = absurd i
 
-replace-entries : (levels k : ℕ) (new : List Link) → 0 < length new → (t : Items) → Entries levels t → Entries levels (replace k new t)
-replace-entries levels k new h end w = tt
-replace-entries levels k new h (page p t) w = replace-entries levels k new h t w
-replace-entries levels k new h (file l ls t) w = elim (hits k (keyOf l)) [
+replace-entries : (n levels k : ℕ) (new : List Link) → 0 < length new → (t : Items) → Entries n levels t → Entries n levels (replace k new t)
+replace-entries n levels k new h end w = tt
+replace-entries n levels k new h (page p t) w = replace-entries n levels k new h t w
+replace-entries n levels k new h (file l ls t) w = elim (hits k (keyOf l)) [
   | same e i ↦ simp (eq-eqb k (keyOf l) e, choose-true) (w .0, w .1, h, w .3)
-  | other e i ↦ simp (ne-eqb k (keyOf l) e, choose-false) (w .0, w .1, w .2, replace-entries levels k new h t (w .3))
+  | other e i ↦ simp (ne-eqb k (keyOf l) e, choose-false) (w .0, w .1, w .2, replace-entries n levels k new h t (w .3))
 ]
-replace-entries levels k new h (dir l d t) w = (w .0, w .1, w .2, w .3, w .4, replace-entries levels k new h t (w .5))
+replace-entries n levels k new h (dir l d t) w = (w .0, w .1, w .2, w .3, w .4, replace-entries n levels k new h t (w .5))
 
 replace-holds : (next later k : ℕ) (new : List Link) (t : Items) → PagesHold next later t → (slotsHere (replace k new t) ≡ slotsHere t) × PagesHold next later (replace k new t)
 replace-holds next later k new end h = (refl, tt)
@@ -181,7 +181,7 @@ replace-edit g levels here k chain l old d i e h = record {
   shaped = λ s. record {
     isDirectory = replace-directory k chain d i .0;
     names = rw (replace-keys k chain d) (s .names);
-    entries = replace-entries levels k chain h d (s .entries);
+    entries = replace-entries (g .width) levels k chain h d (s .entries);
   };
   holds = λ m. replace-holds (firstEntries g) (laterEntries g) k chain d m .1;
   own = λ x. omega (arith, ap (count x) (replace-own k chain d));

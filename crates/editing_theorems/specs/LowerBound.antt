@@ -149,10 +149,10 @@ module _ (g : Geometry) (image : List ℕ) (i : Image) (oldWell : WellFormed g i
   enough = needs .pages view bv (find k goal) (path-stands g (viewsOf g new) (k ∷ []) (aDirectory (above .label) goal) goal-there) asked-there
 
   -- ---- the old image
-  root-shaped : Shaped 8 (filledAll way d)
+  root-shaped : Shaped (g .width) 8 (filledAll way d)
   root-shaped = rw (located .whole) (record { isDirectory = oldWell .holds .isDirectory; names = oldWell .holds .names; entries = oldWell .holds .entries })
 
-  here-shaped : Shaped (levelsAt way 8) d
+  here-shaped : Shaped (g .width) (levelsAt way 8) d
   here-shaped = shaped-at way 8 d root-shaped
 
   target-path : target ≡ contextPath way
@@ -200,7 +200,7 @@ module _ (g : Geometry) (image : List ℕ) (i : Image) (oldWell : WellFormed g i
   owner : (x : ℕ) → 1 ≤ count x (allPages (i .tree)) → (ks : List ℕ) × (1 ≤ count x (chainPages (lookUp ks old)))
   owner x h = elim (eq-zero-or-pos (count x (innerPages (i .tree)))) [
     | inl z ↦ ([], omega (arith, all-split x (i .tree)))
-    | inr z ↦ let o = owned x 8 (i .tree) (oldWell .holds .names) (oldWell .holds .entries) z in (o .head ∷ o .path, o .has)
+    | inr z ↦ let o = owned (g .width) x 8 (i .tree) (oldWell .holds .names) (oldWell .holds .entries) z in (o .head ∷ o .path, o .has)
   ]
 
   apart-owned : (x : ℕ) → 1 ≤ count x (aroundAll way) + count x stay → (ks : List ℕ) × (1 ≤ count x (chainPages (lookUp ks old))) → Apart x

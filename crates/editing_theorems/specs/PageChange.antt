@@ -9,8 +9,7 @@ use Rattle.packet.specs.Packet.{Write, write, sameList}
 use Rattle.rules.specs.declared.Entry.{Entry}
 use Rattle.rules.specs.Chain.{first, linked}
 use Rattle.rules.specs.Names.{entryBytes}
-use Rattle.rules.specs.Tree.{Token, newPage, entry, tokenBytes, tokenLinks}
-use Rattle.rules.specs.TreeLaws.{entryTokens}
+use Rattle.rules.specs.Tree.{Token, newPage, entry, entryTokens, tokenBytes, tokenLinks}
 use Rattle.rules.specs.Writes.{sameWrite, changes}
 
 -- ---- two chains of packets that differ in one

@@ -11,8 +11,7 @@ use Rattle.geometry.specs.Choose.{choose}
 use Rattle.geometry.specs.ChooseLaws.{choose-true, choose-false}
 use Rattle.rules.specs.PageSets.{count, Once}
 use Rattle.rules.specs.PageSetLaws.{hit-same, same, other, hits}
-use Rattle.rules.specs.Names.{entryBytes}
-use Rattle.rules.specs.Tree.{Label, keyOf, Items, startOf, ownPages, keys, Image}
+use Rattle.rules.specs.Tree.{Label, keyOf, Items, startOf, entry, stampTokens, tokenBytes, ownPages, keys, Image}
 use Rattle.rules.specs.Paths.{Found, nothing, aFile, aDirectory, find}
 use Rattle.rules.specs.Candidate.{lookUp, rootLabel, atPath, foundEntry}
 use Rattle.rules.specs.Result.{err}
@@ -56,7 +55,7 @@ placeLabel l [] = l
 placeLabel l (c ∷ cs) = placeLabel (gapLabel c) cs
 
 -- the directory at a place stands at the place's path
-pub at-place : (levels : ℕ) (cs : List Context) (l : Label) (d : Items) → Shaped levels (filledAll cs d)
+pub at-place : {n : ℕ} (levels : ℕ) (cs : List Context) (l : Label) (d : Items) → Shaped n levels (filledAll cs d)
     → lookUp (contextPath cs) (aDirectory l (filledAll cs d)) ≡ aDirectory (placeLabel l cs) d
 at-place levels [] l d s = refl
 at-place zero (c ∷ cs) l d s = absurd (shaped-in zero c (filledAll cs d) s)
@@ -67,7 +66,7 @@ at-place (suc levels) (c ∷ cs) l d s =
 module _ {A : Type 0} (f : Found → A) (blind : (l : Label) (c : Context) (d e : Items) → f (aDirectory l (filled c e)) ≡ f (aDirectory l (filled c d)))
     (k : ℕ) (d e : Items) (looks : (j : ℕ) → (j ≡ k → ⊥) → find j e ≡ find j d)
     (noneD : NothingBelow (find k d)) (noneE : NothingBelow (find k e)) where
-  pub same-elsewhere : (cs : List Context) (levels : ℕ) (l : Label) → Shaped levels (filledAll cs d) → (ks : List ℕ)
+  pub same-elsewhere : {w : ℕ} (cs : List Context) (levels : ℕ) (l : Label) → Shaped w levels (filledAll cs d) → (ks : List ℕ)
       → (ks ≡ contextPath cs → ⊥) → (ks ≡ contextPath cs ++ (k ∷ []) → ⊥) → f (lookUp ks (aDirectory l (filledAll cs e))) ≡ f (lookUp ks (aDirectory l (filledAll cs d)))
   same-elsewhere [] levels l s [] n m = absurd (n refl)
   same-elsewhere [] levels l s (j ∷ []) n m = ap f (looks j (λ q. m (ap (λ (x : ℕ). x ∷ []) q)))
@@ -99,14 +98,17 @@ same-path {C = C} ks js f n = go (sameList ks js) refl
     go false e = n (λ q. false≢true (sym e ∙ subst (λ (z : List ℕ). sameList ks z ≡ true) q (list-refl ks)))
 
 -- ---- what a path shows
--- of a directory: its label, its start page, its pages
+-- the bytes of a subdirectory's entry, with its stamps
+abbrev directoryBytes : Geometry → Label → ℕ → List ℕ
+directoryBytes g l s = tokenBytes (g .width) (stampTokens (l .stamps) (entry (record { name = l .name; extension = l .extension; start = s; pages = 0 }) ∷ []))
+
 pub start-entry : (g : Geometry) (l : Label) (d e : Items) → startOf e ≡ startOf d → foundEntry g (aDirectory l e) ≡ foundEntry g (aDirectory l d)
-start-entry g l d e h = ap (λ (s : ℕ). entryBytes (g .width) (record { name = l .name; extension = l .extension; start = s; pages = 0 })) h
+start-entry g l d e h = ap (directoryBytes g l) h
 
 pub shown-directory : (g : Geometry) (l : Label) (d e : Items) → startOf e ≡ startOf d → ownPages e ≡ ownPages d → shown g (aDirectory l e) ≡ shown g (aDirectory l d)
 unfolding bytesOf
 shown-directory g l d e h k =
-    ap₂ (λ (s : ℕ) (ps : List ℕ). record { entry = entryBytes (g .width) (record { name = l .name; extension = l .extension; start = s; pages = 0 }); pages = ps; bytes = []; answer = err 15 0 }) h k
+    ap₂ (λ (s : ℕ) (ps : List ℕ). record { entry = directoryBytes g l s; pages = ps; bytes = []; answer = err 15 0 }) h k
 
 pub shown-blind : (g : Geometry) (l : Label) (c : Context) (d e : Items) → shown g (aDirectory l (filled c e)) ≡ shown g (aDirectory l (filled c d))
 shown-blind g l c d e =
@@ -121,7 +123,7 @@ pub record PathsChanged (g : Geometry) (target : List ℕ) (k : ℕ) (d e : Item
   pub after : atPath (target ++ (k ∷ [])) j ≡ find k e
   pub others : (ks : List ℕ) → (ks ≡ target → ⊥) → (ks ≡ target ++ (k ∷ []) → ⊥) → shown g (atPath ks j) ≡ shown g (atPath ks i)
 
-pub paths-changed : (g : Geometry) (levels : ℕ) (cs : List Context) (d e : Items) (k : ℕ) → Shaped levels (filledAll cs d) → Shaped levels (filledAll cs e)
+pub paths-changed : (g : Geometry) (levels : ℕ) (cs : List Context) (d e : Items) (k : ℕ) → Shaped (g .width) levels (filledAll cs d) → Shaped (g .width) levels (filledAll cs e)
     → NothingBelow (find k d) → NothingBelow (find k e) → ((j : ℕ) → (j ≡ k → ⊥) → find j e ≡ find j d) → (i j : Image) → i .tree ≡ filledAll cs d → j .tree ≡ filledAll cs e → PathsChanged g (contextPath cs) k d e i j
 unfolding atPath
 paths-changed g levels cs d e k s u noneD noneE looks i j p q =

@@ -26,7 +26,7 @@ use Rattle.editing_theorems.specs.ContextLaws.{Shaped}
 
 pub record DirectoryThere (g : Geometry) (vs : Views) (t : Items) : Type 0 where
   pub levels : ℕ
-  pub shaped : Shaped levels t
+  pub shaped : Shaped (g .width) levels t
   pub control : List ℕ
   pub size : length control ≡ controlSize g
   pub own : HasPackets (vs .pages) (linked (directoryLinks g control t))
@@ -39,7 +39,7 @@ FoundIn g vs nothing = Unit {0}
 FoundIn g vs (aFile l ls) = (0 < length ls) × HasPackets (vs .file (l .extension)) (linked ls)
 FoundIn g vs (aDirectory l d) = DirectoryThere g vs d
 
-pub find-stands : (g : Geometry) (vs : Views) (levels : ℕ) (here : Parent) (k : ℕ) (t : Items) → Entries levels t → HasBelow g vs here t → FoundIn g vs (find k t)
+pub find-stands : (g : Geometry) (vs : Views) (levels : ℕ) (here : Parent) (k : ℕ) (t : Items) → Entries (g .width) levels t → HasBelow g vs here t → FoundIn g vs (find k t)
 find-stands g vs levels here k end w s = tt
 find-stands g vs levels here k (page p t) w s = find-stands g vs levels here k t w s
 find-stands g vs levels here k (file l ls t) w s = elim (hits k (keyOf l)) [

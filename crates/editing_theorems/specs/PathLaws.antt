@@ -100,16 +100,16 @@ past-directory x l d t o r = elim (hits (r .head) (keyOf l)) [
   | other e i ↦ record { head = r .head; path = r .path; named = omega (arith, r .named); has = simp (ne-eqb (r .head) (keyOf l) e, choose-false) (r .has) }
 ]
 
-pub owned : (x levels : ℕ) (t : Items) → Once (keys t) → Entries levels t → 1 ≤ count x (innerPages t) → Owned x t
-owned x levels end o w h = absurd (omega arith)
-owned x levels (page p t) o w h = let r = owned x levels t o w h in record { head = r .head; path = r .path; named = r .named; has = r .has }
-owned x levels (file l ls t) o w h = elim (eq-zero-or-pos (count x (pages ls))) [
+pub owned : (n x levels : ℕ) (t : Items) → Once (keys t) → Entries n levels t → 1 ≤ count x (innerPages t) → Owned x t
+owned n x levels end o w h = absurd (omega arith)
+owned n x levels (page p t) o w h = let r = owned n x levels t o w h in record { head = r .head; path = r .path; named = r .named; has = r .has }
+owned n x levels (file l ls t) o w h = elim (eq-zero-or-pos (count x (pages ls))) [
   | inr z ↦ record { head = keyOf l; path = []; named = omega (arith, hit-same (keyOf l)); has = simp (eq-eqb (keyOf l) (keyOf l) refl, choose-true) z }
-  | inl z ↦ past-file x l ls t o (owned x levels t (λ y. omega (arith, o y)) (w .3) (omega (arith, count-append x (pages ls) (innerPages t))))
+  | inl z ↦ past-file x l ls t o (owned n x levels t (λ y. omega (arith, o y)) (w .3) (omega (arith, count-append x (pages ls) (innerPages t))))
 ]
-owned x zero (dir l d t) o w h = absurd (w .4)
-owned x (suc levels) (dir l d t) o w h = elim (eq-zero-or-pos (count x (allPages d))) [
-  | inl z ↦ past-directory x l d t o (owned x (suc levels) t (λ y. omega (arith, o y)) (w .5) (omega (arith, simp count-append at h, all-split x d)))
+owned n x zero (dir l d t) o w h = absurd (w .4)
+owned n x (suc levels) (dir l d t) o w h = elim (eq-zero-or-pos (count x (allPages d))) [
+  | inl z ↦ past-directory x l d t o (owned n x (suc levels) t (λ y. omega (arith, o y)) (w .5) (omega (arith, simp count-append at h, all-split x d)))
   | inr z ↦ elim (eq-zero-or-pos (count x (innerPages d))) [
     | inl y ↦ record {
       head = keyOf l;
@@ -117,7 +117,7 @@ owned x (suc levels) (dir l d t) o w h = elim (eq-zero-or-pos (count x (allPages
       named = omega (arith, hit-same (keyOf l));
       has = simp (eq-eqb (keyOf l) (keyOf l) refl, choose-true) (omega (arith, all-split x d));
     }
-    | inr y ↦ let r = owned x levels d (w .3) (w .4) y in record {
+    | inr y ↦ let r = owned n x levels d (w .3) (w .4) y in record {
       head = keyOf l;
       path = r .head ∷ r .path;
       named = omega (arith, hit-same (keyOf l));
@@ -135,13 +135,13 @@ directory-extension x e = eqb-true (x % 128) 127 e
 abbrev pub FileKey : ℕ → Type 0
 FileKey k = k % 128 < 127
 
-pub no-directory : (levels k : ℕ) (t : Items) → Entries levels t → FileKey k → (l : Label) (d : Items) → find k t ≡ aDirectory l d → ⊥
-no-directory levels k end w h l d e = nothing-no-directory e
-no-directory levels k (page p t) w h l d e = no-directory levels k t w h l d e
-no-directory levels k (file m c t) w h l d e = on-choose _ _ _ _ e (λ q z. file-no-directory z) (λ q z. no-directory levels k t (w .3) h l d z)
-no-directory levels k (dir m b t) w h l d e = on-choose _ _ _ _ e
+pub no-directory : (n levels k : ℕ) (t : Items) → Entries n levels t → FileKey k → (l : Label) (d : Items) → find k t ≡ aDirectory l d → ⊥
+no-directory n levels k end w h l d e = nothing-no-directory e
+no-directory n levels k (page p t) w h l d e = no-directory n levels k t w h l d e
+no-directory n levels k (file m c t) w h l d e = on-choose _ _ _ _ e (λ q z. file-no-directory z) (λ q z. no-directory n levels k t (w .3) h l d z)
+no-directory n levels k (dir m b t) w h l d e = on-choose _ _ _ _ e
     (λ q z. omega (arith, eqb-true k (keyOf m) q, directory-extension (m .extension) (w .1)))
-    (λ q z. no-directory levels k t (w .5) h l d z)
+    (λ q z. no-directory n levels k t (w .5) h l d z)
 
 -- nothing stands below what is found
 abbrev pub NothingBelow : Found → Type 0
@@ -152,13 +152,13 @@ nothing-below [] = refl
 nothing-below (k ∷ ks) = refl
 
 -- below a file's key
-pub no-below : (levels k : ℕ) (t : Items) → Entries levels t → FileKey k → NothingBelow (find k t)
-no-below levels k t w h j ks = go (find k t) refl
+pub no-below : (n levels k : ℕ) (t : Items) → Entries n levels t → FileKey k → NothingBelow (find k t)
+no-below n levels k t w h j ks = go (find k t) refl
   where
     go : (f : Found) → find k t ≡ f → lookUp (j ∷ ks) f ≡ nothing
     go nothing e = refl
     go (aFile l ls) e = refl
-    go (aDirectory l d) e = absurd (no-directory levels k t w h l d e)
+    go (aDirectory l d) e = absurd (no-directory n levels k t w h l d e)
 
 -- below a directory without entries
 pub empty-below : (l : Label) (d : Items) → keys d ≡ [] → NothingBelow (aDirectory l d)

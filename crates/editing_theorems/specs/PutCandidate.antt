@@ -11,7 +11,7 @@ use Rattle.rules.specs.Tree.{Map, inRoot, inFile, Image}
 use Rattle.rules.specs.Bitmap.{remap}
 use Rattle.rules.specs.BitmapLaws.{pages-refill}
 use Rattle.rules.specs.Writes.{Edit, edited}
-use Rattle.rules.specs.Candidate.{atPath, Exists, reads, SameMap, targetPath, filePath, PutFile, Candidate}
+use Rattle.rules.specs.Candidate.{atPath, Exists, stampsOf, reads, SameMap, targetPath, filePath, PutFile, Candidate}
 use Rattle.rules.specs.Demand2.{Shown, PutDone}
 use Rattle.reading_theorems.specs.Accepted.{accepted}
 use Rattle.editing_theorems.specs.PathChanges.{same-path}
@@ -34,6 +34,7 @@ put-candidate g path bytes image now p = record {
   was = accepted g image (p .at .before) (p .at .accepted);
   after = p .tree;
   accepted = accepted g now (p .tree) (p .done .wellFormed);
+  stamped = λ h. ap stampsOf (p .shows .file) ∙ p .shows .stamps-are;
   stands = subst (PutFile bytes) (sym (p .shows .file)) (p .shows .reads);
   kept = λ k ks n h. same-path (k ∷ ks) (targetPath (p .at .to)) (λ e. rw e (p .shows .target-entry)) (λ m. ap (λ (s : Shown). s .entry) (p .shows .others (k ∷ ks) n m));
   pages = λ ks n m h x. ap (λ (s : Shown). count x (s .pages)) (p .shows .others ks n m);

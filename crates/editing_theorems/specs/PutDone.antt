@@ -22,7 +22,7 @@ use Rattle.rules.specs.TargetLaws.{reached, target-is, put-target-is, on-put-ta
 use Rattle.rules.specs.Paths.{fileKey, Found, nothing, aFile, aDirectory, find, Target}
 use Rattle.rules.specs.Writes.{Edit}
 use Rattle.rules.specs.Put.{writable, putTarget, putEdit, plainEdit, put}
-use Rattle.rules.specs.Candidate.{targetPath, foundEntry, chainPages}
+use Rattle.rules.specs.Candidate.{targetPath, foundEntry, stampsOf, chainPages}
 use Rattle.rules.specs.Demand2.{PathIn, PutShows, PutDone}
 use Rattle.reading_theorems.specs.Accepted.{accepted, accepted-iff}
 use Rattle.editing_theorems.specs.Contexts.{contextPath}
@@ -66,6 +66,7 @@ module _ (g : Geometry) (image path bytes : List ℕ) (a : Asked g image path by
         file = rw t (c .after ∙ into g image path bytes a spare clear room .finds);
         name-is = into g image path bytes a spare clear room .named .name-is;
         extension-is = into g image path bytes a spare clear room .named .extension-is;
+        stamps-are = rw t (into g image path bytes a spare clear room .stamped ∙ sym (ap stampsOf (c .before)));
         reads = chain-reads g image path bytes a spare clear room;
         others = λ ks m n. c .others ks (λ q. n (q ∙ sym t)) (λ q. m (q ∙ ap (λ (ts : List ℕ). ts ++ (fileKey (a .to) ∷ [])) (sym t)));
         target-label = c .label;

@@ -98,7 +98,7 @@ module _ (g : Geometry) (image path bytes : List ℕ) (a : Asked g image path by
   pub key-file : FileKey (fileKey (a .to))
   key-file = omega (arith, well-path .extension)
 
-  pub root-shaped : Shaped 8 (filledAll cs (a .place .items))
+  pub root-shaped : Shaped (g .width) 8 (filledAll cs (a .place .items))
   root-shaped = rw (located .whole) (record { isDirectory = a .well .holds .isDirectory; names = a .well .holds .names; entries = a .well .holds .entries })
 
   -- the levels left in the directory, and how it is known to those below it
@@ -111,7 +111,7 @@ module _ (g : Geometry) (image path bytes : List ℕ) (a : Asked g image path by
   abbrev pub directory : DirectoryOf g image (bitmapOf g (used (a .tree)) (a .tree .map))
   directory = directory-of g image (a .tree) (a .well) (a .imageBytes) (a .to .directories) (a .place) located
 
-  pub here-shaped : Shaped levels (a .place .items)
+  pub here-shaped : Shaped (g .width) levels (a .place .items)
   here-shaped = place-shaped directory
 
   -- ---- pages
@@ -134,7 +134,7 @@ module _ (g : Geometry) (image path bytes : List ℕ) (a : Asked g image path by
 
   -- the replaced chain is free, all else in use is kept
   pub kept-old : (x : ℕ) → count x kept + count x (chainPages (find (fileKey (a .to)) (a .place .items))) ≡ count x (used (a .tree))
-  kept-old x = omega (arith, kept-is x, used-is x, replaced-exact levels x (fileKey (a .to)) d (here-shaped .entries) key-file)
+  kept-old x = omega (arith, kept-is x, used-is x, replaced-exact (g .width) levels x (fileKey (a .to)) d (here-shaped .entries) key-file)
 
   pub kept-within : Within (g .pages) kept
   kept-within x = omega (arith, kept-old x, a .well .holds .apart x)
@@ -184,11 +184,11 @@ module _ (g : Geometry) (image path bytes : List ℕ) (a : Asked g image path by
     pub chain-fits : WritesFit g (linked (chain spare))
     chain-fits = chain-of-fits g valid (take wanted (drop extra spare)) bytes (λ x. omega (arith, taken x, ap (count x) pages-chain, clear x)) (a .areBytes)
 
-    named : Named label
-    named = record { four = well-path .four (a .pathBytes); valid = well-path .valid; byte = omega (arith, well-path .extension) }
+    named : Named (g .width) label
+    named = record { four = well-path .four (a .pathBytes); valid = well-path .valid; byte = omega (arith, well-path .extension); stamps = tt }
 
     pub into : PutIn g levels here label (getD spare 0 0) (chain spare) extra (a .place .items) (after spare)
-    into = put-in g valid label named (file-number (a .to .extension) (well-path .extension)) (omega (arith, well-path .extension)) key-file (getD spare 0 0) (chain spare)
+    into = put-in g valid label named refl (file-number (a .to .extension) (well-path .extension)) (omega (arith, well-path .extension)) key-file (getD spare 0 0) (chain spare)
         (omega (arith, length-chain)) levels here d here-shaped (a .writable)
 
     pub own-then : (x : ℕ) → count x (ownPages (after spare)) ≡ count x (ownPages (a .place .items)) + count x (take extra spare)
@@ -225,7 +225,7 @@ module _ (g : Geometry) (image path bytes : List ℕ) (a : Asked g image path by
 
     pub put-paths : PathsChanged g (contextPath cs) (fileKey (a .to)) (a .place .items) (after spare) (a .tree) result
     put-paths = paths-changed g 8 cs d (after spare) (fileKey (a .to)) root-shaped (shaped-changed d (after spare) cs 8 (into .edit .shaped) root-shaped)
-        (no-below levels (fileKey (a .to)) d (here-shaped .entries) key-file) (no-below levels (fileKey (a .to)) (after spare) (into .edit .shaped here-shaped .entries) key-file) (into .elsewhere) i result
+        (no-below (g .width) levels (fileKey (a .to)) d (here-shaped .entries) key-file) (no-below (g .width) levels (fileKey (a .to)) (after spare) (into .edit .shaped here-shaped .entries) key-file) (into .elsewhere) i result
         (sym (located .whole)) (tree-edited g (a .to .directories) (theEdit spare) i ∙ located .change (λ _. after spare))
 
     -- pages in use then, and the chain replaced: as many as before, with those that the directory and the file take

@@ -2,22 +2,32 @@
 use mathlib.Core.Path.{_≡_, refl, ap, ap₂, sym, _∙_}
 use mathlib.Core.Bool.{Bool, true, false}
 use mathlib.Core.List.{List, _∷_}
-use Prim.Native.Nat.{ℕ, zero, suc, _+_, _-_, _*_, _≤_, _<_, min}
+use Prim.Native.Nat.{ℕ, zero, suc, _+_, _-_, _*_, _%_, _≤_, _<_, min}
 use native.Mathlib.Decide.{decLe}
 use native.Mathlib.Nat.{mul-le-mul-left}
 use native.Mathlib.Omega.{arith}
 use lib.Dec.{ltb, eqb}
 use lib.ListN.{length, take, drop}
 use lib.Seq.{drop-drop, take-take, getD-take, take-add}
-use borrow.Author.Tests.{lt-ltb, le-ltb, ltb-true, ltb-false, eqb-true, eqb-false}
+use borrow.Author.Tests.{lt-ltb, le-ltb, ltb-true, ltb-false, eqb-true, eqb-false, ne-eqb}
 use Rattle.geometry.specs.declared.Geometry.{Geometry}
 use Rattle.geometry.specs.Geometry.{entrySize, Valid}
 use Rattle.geometry.specs.ListLaws.{drop-of-take}
 use Rattle.geometry.specs.Number.{number}
 use Rattle.rules.specs.PageSets.{hit, count, mem}
 use Rattle.rules.specs.PageSetLaws.{hits, same, other, hit-same, count-append, mem-true}
-use Rattle.rules.specs.Names.{key}
-use Rattle.entries.specs.EntrySlots.{entryKey, keysFrom}
+use Rattle.rules.specs.declared.Entry.{Entry}
+use Rattle.rules.specs.Names.{key, extended}
+use Rattle.entries.specs.EntrySlots.{PlainKey, entryKey, keysFrom}
+
+-- an extended entry does not have the key of a plain one
+pub extended-key : (e : Entry) (k : ℕ) → extended e ≡ true → PlainKey k → eqb (key (e .name) (e .extension)) k ≡ false
+unfolding extended
+extended-key e k x h = ne-eqb (key (e .name) (e .extension)) k (λ q. omega (arith, ltb-true 127 (e .name % 256) x))
+
+pub plain-key : (e : Entry) (k : ℕ) → extended e ≡ false → k ≡ key (e .name) (e .extension) → PlainKey k
+unfolding extended
+plain-key e k x q = omega (arith, ltb-false 127 (e .name % 256) x)
 
 pub length-keys : (g : Geometry) (m : ℕ) (b : List ℕ) → length (keysFrom g m b) ≡ m
 length-keys g zero b = refl

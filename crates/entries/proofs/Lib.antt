@@ -5,5 +5,6 @@ pub mod AtSlot
 pub mod Places
 pub mod TokenLaws
 pub mod Stepping
+pub mod ItemLaws
 pub mod Looking
 pub mod Counting

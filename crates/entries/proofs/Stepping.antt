@@ -8,15 +8,15 @@ use Rattle.geometry.specs.declared.Geometry.{Geometry}
 use Rattle.geometry.specs.Geometry.{Fit}
 use Rattle.packet.specs.Packet.{View, viewOf}
 use Rattle.rules.specs.declared.Entry.{Entry}
-use Rattle.rules.specs.Tree.{Token, newPage, entry, linkTokens}
-use Rattle.rules.specs.TreeLaws.{entryTokens, pageTokens, lastPage}
+use Rattle.rules.specs.Tree.{Token, newPage, entry, entryTokens, linkTokens}
+use Rattle.rules.specs.TreeLaws.{pageTokens, lastPage}
 use Rattle.chain.specs.Claims.{IsGood, Counted}
 use Rattle.chain.proofs.Following.{page-known}
 use Rattle.entries.specs.declared.Slot.{Slot}
 use Rattle.entries.specs.declared.Next.{Next}
 use Rattle.entries.specs.declared.Next.the-variants.{At, End}
 use Rattle.entries.specs.EntrySlots.{openOf, advanced}
-use Rattle.entries.specs.TokensAt.{TokensAt, InDirectory, PageAt, IsEntry, entriesAhead, PageRest, LastPage, NextPage, IsNextPage, Reached, NextEntry, NoEntry, IsNextEntry}
+use Rattle.entries.specs.TokensAt.{TokensAt, InDirectory, PageAt, IsEntry, entriesAhead, PageRest, LastPage, NextPage, IsNextPage, Reached, EntryAt, EntryAhead, NextEntry, NoEntry, IsNextEntry}
 use Rattle.entries.proofs.AtSlot.{no-pages, following, page-less}
 use Rattle.entries.proofs.TokenLaws.{restEntries, page-rest, page-opened}
 
@@ -134,22 +134,22 @@ pub record ReadAhead (g : Geometry) (v : View) (s : Slot) (ts : List Token) (at 
   pub reached : Reached s pages at
   pub ahead : TokensAt g v (advanced at) later
 
+pub read-on : {g : Geometry} {v : View} {s at : Slot} {ts : List Token} {e : Entry} (a : EntryAhead g v s ts at) → EntryAt g v at (a .after) e → ReadAhead g v s ts at e
+read-on a b = record {
+  pages = a .pages;
+  later = b .later;
+  split = a .split ∙ ap (λ (y : List Token). pageTokens (a .pages) ++ y) (b .split);
+  page-is = a .page-is;
+  reached = a .reached;
+  ahead = b .ahead;
+}
+
 module _ {g : Geometry} {v : View} {s at : Slot} (n : NextEntry g v s at) where
   pub entry-in : InDirectory g v s → InDirectory g v at
   entry-in D = let a = n .ahead (D .ts) (D .ahead) in record { ts = a .after; ahead = a .ahead }
 
   pub read-ahead : {e : Entry} → IsEntry g v at e → (ts : List Token) → TokensAt g v s ts → ReadAhead g v s ts at e
-  read-ahead r ts A =
-      let a = n .ahead ts A in
-      let b = r (a .after) (a .ahead) in
-      record {
-        pages = a .pages;
-        later = b .later;
-        split = a .split ∙ ap (λ (y : List Token). pageTokens (a .pages) ++ y) (b .split);
-        page-is = a .page-is;
-        reached = a .reached;
-        ahead = b .ahead;
-      }
+  read-ahead r ts A = let a = n .ahead ts A in read-on a (r (a .after) (a .ahead))
 
   -- past it there is less to go
   pub past-less : (s′ : Slot) → s′ ≡ advanced at → entriesAhead g s′ < entriesAhead g s

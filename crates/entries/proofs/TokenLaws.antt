@@ -12,8 +12,8 @@ use Rattle.packet.specs.Packet.{good, View, viewOf}
 use Rattle.rules.specs.declared.Entry.{Entry}
 use Rattle.rules.specs.Chain.{Link, link, first, linked}
 use Rattle.rules.specs.Names.{key, entryOf}
-use Rattle.rules.specs.Tree.{Token, newPage, entry, entriesIn, linkTokens}
-use Rattle.rules.specs.TreeLaws.{entryTokens, pageTokens}
+use Rattle.rules.specs.Tree.{Token, newPage, entry, entryTokens, entriesIn, linkTokens}
+use Rattle.rules.specs.TreeLaws.{pageTokens}
 use Rattle.rules.specs.WellFormed.{HasPackets}
 use Rattle.chain.specs.declared.Cursor.{Cursor}
 use Rattle.chain.specs.Steps.{firstStep}

@@ -2,7 +2,7 @@
 use mathlib.Core.Path.{_≡_}
 use mathlib.Core.Bool.{Bool}
 use mathlib.Core.List.{List, [], _∷_, _++_}
-use Prim.Native.Nat.{ℕ, zero, suc, _+_, _*_, _/_, _≤_, _<_}
+use Prim.Native.Nat.{ℕ, zero, suc, _+_, _*_, _/_, _%_, _≤_, _<_}
 use lib.ListN.{length, getD, take, drop}
 use Rattle.geometry.specs.declared.Geometry.{Geometry}
 use Rattle.geometry.specs.Geometry.{entrySize, controlSize}
@@ -19,6 +19,10 @@ use Rattle.entries.specs.declared.Slot.{Slot}
 -- the key of the entry in front of bytes
 abbrev pub entryKey : List ℕ → ℕ
 entryKey b = key (number (take 4 b)) (getD b 4 0)
+
+-- a plain entry's key: the first byte of its name is at most 127, so no extended entry has it
+abbrev pub PlainKey : ℕ → Type 0
+PlainKey k = k / 128 % 256 ≤ 127
 
 -- the keys of the first m entries in bytes
 abbrev pub keysFrom : Geometry → ℕ → List ℕ → List ℕ

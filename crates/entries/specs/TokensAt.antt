@@ -1,5 +1,6 @@
 -- For contracts: a place in a directory whose chain stands, the tokens from it on, and the step to the next page and to the next entry.
 use mathlib.Core.Path.{_≡_}
+use mathlib.Core.Bool.{true, false}
 use mathlib.Core.List.{List, [], _∷_, _++_}
 use Prim.Native.Nat.{ℕ, _+_, _-_, _*_, _/_, _≤_, _<_}
 use lib.ListN.{length, drop}
@@ -9,9 +10,12 @@ use Rattle.packet.specs.Packet.{good, View}
 use Rattle.rules.specs.declared.Entry.{Entry}
 use Rattle.rules.specs.PageSets.{count}
 use Rattle.rules.specs.Chain.{Link, pages, first, linked}
-use Rattle.rules.specs.Tree.{Token, newPage, entry, entriesIn, linkTokens}
-use Rattle.rules.specs.TreeLaws.{entryTokens, pageTokens, lastPage}
+use Rattle.rules.specs.Names.{extended}
+use Rattle.rules.specs.Tree.{Token, newPage, entry, entryTokens, entriesIn, linkTokens}
+use Rattle.rules.specs.TreeLaws.{pageTokens, lastPage}
 use Rattle.rules.specs.WellFormed.{HasPackets}
+use Rattle.directory.specs.declared.entries.Item.{Item}
+use Rattle.directory.specs.declared.entries.Item.the-variants.{Plain, Extended}
 use Rattle.chain.specs.Claims.{Counted}
 use Rattle.chain.specs.KnownChain.{ChainAt}
 use Rattle.entries.specs.declared.Slot.{Slot}
@@ -68,6 +72,17 @@ pub record EntryAt (g : Geometry) (v : View) (s : Slot) (ts : List Token) (e : E
 
 abbrev pub IsEntry : Geometry → View → Slot → Entry → Type 0
 IsEntry g v s e = (ts : List Token) → TokensAt g v s ts → EntryAt g v s ts e
+
+-- an extended entry at a place
+pub record StampAt (g : Geometry) (v : View) (s : Slot) (ts : List Token) : Type 0 where
+  pub stamp : Entry
+  pub is-extended : extended stamp ≡ true
+  pub at : EntryAt g v s ts stamp
+
+-- what stands at a place: this plain entry, or an extended one
+unfoldable pub IsItemAt : Geometry → View → Slot → Item → Type 0
+IsItemAt g v s (Plain e) = IsEntry g v s e × (extended e ≡ false)
+IsItemAt g v s Extended = (ts : List Token) → TokensAt g v s ts → StampAt g v s ts
 
 -- numbers that fall: with each page passed; and with each entry
 abbrev pub pagesAhead : Geometry → Slot → ℕ

@@ -1,13 +1,13 @@
 // The entries of a directory: the step to the next of them, and to the next page; their number, and the search for a second entry of one name.
 use chain::Cursor;
 use chain::Step;
+use directory::entries::Item;
 use directory::entries::after_entry;
-use directory::entries::read_entry;
+use directory::entries::read_slot;
 use directory::extensions::extension_of;
 use geometry::ATTRIBUTE;
 use geometry::Geometry;
 use geometry::LENGTH_BYTES;
-use rules::Entry;
 ghost use mathlib.Core.Path.{_≡_};
 ghost use Prim.Native.Nat.{_+_, _*_, _≤_, _<_, min};
 ghost use lib.Dec.{eqb};
@@ -19,8 +19,8 @@ ghost use Rattle.rules.specs.Names.{key};
 ghost use Rattle.directory.specs.EntryPlaces.{HasEntry};
 ghost use Rattle.chain.specs.Claims.{Counted, IsGood};
 ghost use Rattle.chain.specs.KnownChain.{KnownChain};
-ghost use Rattle.entries.specs.EntrySlots.{entryKey, keysFrom, openOf, advanced, HasEntries, CountsEntries, Repeats};
-ghost use Rattle.entries.specs.TokensAt.{InDirectory, Begins, IsEntry, IsNextPage, IsNextEntry};
+ghost use Rattle.entries.specs.EntrySlots.{PlainKey, entryKey, keysFrom, openOf, advanced, HasEntries, CountsEntries, Repeats};
+ghost use Rattle.entries.specs.TokensAt.{InDirectory, Begins, IsItemAt, IsNextPage, IsNextEntry};
 
 // A place in a directory: a page, the bytes before its entries, how many it has and the next of them; the position of the page after it.
 pub struct Slot {
@@ -102,14 +102,14 @@ impl Slot {
         }
     }
 
-    // The entry at a place.
-    pub fn entry(self, image: &[u8], g: Geometry) -> Entry
+    // What stands at a place: a plain entry, or an extended one.
+    pub fn item(self, image: &[u8], g: Geometry) -> Item
         requires { ⌜ Fit g (now image) ⌝ }
         requires { ⌜ InDirectory g (viewOf g (now image)) self × (self .at < self .count) ⌝ }
-        ensures { λ r. ⌜ IsEntry g (viewOf g (now (image .entry))) self r ⌝ }
+        ensures { λ r. ⌜ IsItemAt g (viewOf g (now (image .entry))) self r ⌝ }
     {
         let at = LENGTH_BYTES + self.skip + g.entry_size() * self.at;
-        read_entry(geometry::page_of(image, g, self.page), at, g.width)
+        read_slot(geometry::page_of(image, g, self.page), at, g.width)
     }
 
     // The first entry of the next page, past the entries that are left on this one.
@@ -144,19 +144,21 @@ impl Slot {
     }
 }
 
-// Whether the entry at a place of a page has this key.
+// Whether the entry at a place of a page has this key, that of a plain entry; an extended one has none.
 fn has_key(page: &[u8], at: usize, n: usize, wanted: u64) -> bool
-    requires { ⌜ HasEntry n (now page) at ⌝ }
+    requires { ⌜ HasEntry n (now page) at × PlainKey wanted ⌝ }
     ensures { λ r. ⌜ r ≡ eqb (entryKey (drop at (now (page .entry)))) wanted ⌝ }
 {
-    let e = read_entry(page, at, n);
-    key_of(e.name, e.extension) == wanted
+    match read_slot(page, at, n) {
+        Item::Extended => false,
+        Item::Plain(e) => key_of(e.name, e.extension) == wanted,
+    }
 }
 
-// Whether one of the first m entries that stand from a place of a page on has this key.
+// Whether one of the first m entries, of both kinds, that stand from a place of a page on has this key.
 fn page_has(page: &[u8], from: usize, m: usize, key: u64, g: Geometry) -> bool
     requires { ⌜ Valid g ⌝ }
-    requires { ⌜ (from + entrySize g * m ≤ length (now page)) × (length (now page) ≤ 256) ⌝ }
+    requires { ⌜ (from + entrySize g * m ≤ length (now page)) × (length (now page) ≤ 256) × PlainKey key ⌝ }
     ensures { λ r. ⌜ r ≡ mem key (keysFrom g m (drop from (now (page .entry)))) ⌝ }
 {
     let mut at = from;
@@ -181,7 +183,7 @@ fn least(a: usize, b: usize) -> usize
     b
 }
 
-// How many entries a directory has.
+// How many entries of both kinds a directory has.
 pub fn count_of(image: &[u8], g: Geometry, start: usize) -> usize
     requires { ⌜ Fit g (now image) ⌝ }
     requires { ⌜ KnownChain g (viewOf g (now image)) start ⌝ }
@@ -198,10 +200,10 @@ pub fn count_of(image: &[u8], g: Geometry, start: usize) -> usize
     }
 }
 
-// Whether one of the first m entries of a directory has this key.
+// Whether one of the first m entries of a directory, of both kinds, has this key, that of a plain entry.
 pub fn is_repeated(image: &[u8], g: Geometry, start: usize, m: usize, key: u64) -> bool
     requires { ⌜ Fit g (now image) ⌝ }
-    requires { ⌜ HasEntries g (viewOf g (now image)) start m ⌝ }
+    requires { ⌜ HasEntries g (viewOf g (now image)) start m × PlainKey key ⌝ }
     ensures { λ r. ⌜ Repeats g (viewOf g (now (image .entry))) start m key r ⌝ }
 {
     let mut slot = Slot::first(image, g, start);

@@ -1,11 +1,11 @@
 -- What an accepted image has: the chain of every directory and file stands, level by level.
 use mathlib.Core.Path.{_≡_, refl, ap, ap₂, sym, _∙_, subst}
-use mathlib.Core.Bool.{false}
+use mathlib.Core.Bool.{true, false}
 use mathlib.Core.List.{List, [], _∷_, _++_}
-use Prim.Native.Nat.{ℕ, zero, suc}
+use Prim.Native.Nat.{ℕ, zero, suc, _%_, _≤_}
 use native.Mathlib.Omega.{arith}
 use lib.ListN.{length}
-use borrow.Author.Tests.{eqb-true}
+use borrow.Author.Tests.{eqb-true, ltb-false}
 use Rattle.geometry.specs.declared.Geometry.{Geometry}
 use Rattle.geometry.specs.ChooseLaws.{on-choose}
 use Rattle.geometry.specs.Geometry.{controlSize}
@@ -16,12 +16,13 @@ use Rattle.rules.specs.PageSets.{Within}
 use Rattle.rules.specs.PageSetLaws.{count-append}
 use Rattle.rules.specs.Chain.{Views, Link, link, pages, first, Test, anyPage}
 use Rattle.rules.specs.ChainLaws.{walk-sound}
-use Rattle.rules.specs.Names.{key, directoryNumber}
-use Rattle.rules.specs.Tree.{Items, startOf, Token, newPage, entry, tokens, linkTokens, mapPages, Image}
+use Rattle.rules.specs.Names.{key, directoryNumber, extended}
+use Rattle.rules.specs.Tree.{Items, end, page, file, dir, startOf, Token, newPage, entry, tokens, linkTokens, mapPages, Image}
 use Rattle.rules.specs.TreeLaws.{page-first}
 use Rattle.rules.specs.Control.{Parent, theRoot, rootPage, subPage}
 use Rattle.rules.specs.WellFormed.{Under}
-use Rattle.rules.specs.Check.{Part, chain, directory, partPages, add, Judge, Scan, judgeFile, judgeEntry, judgeEntries, judgeDirectory, judgeSub, scan, check, scanWith}
+use Rattle.rules.specs.Check.{Part, chain, directory, partPages, add, stamp, followed, Judge, Scan, judgeFile, judgeEntry, judgeEntries, judgeDirectory, judgeSub, scan, check, scanWith}
+use Rattle.rules.specs.StampLaws.{stamp-tokens}
 use Rattle.rules.specs.Soundness.{JudgeSound, entry-sound, sub-sound, map-sound}
 use Rattle.listing.specs.KnownTree.{Chained, Below, DirectoryAt, PartAt}
 use Rattle.chain.specs.KnownChain.{ChainAt}
@@ -30,6 +31,11 @@ use Rattle.chain.proofs.Following.{chain-at}
 -- a directory begins at its start page
 start-page : (t : Items) (p : ℕ) (ts : List Token) → newPage p ∷ ts ≡ tokens t → startOf t ≡ p
 start-page t p ts q = ap startOf (page-first p ts t (sym q) .is)
+
+-- a plain entry's first byte
+low-name : (e : Entry) → extended e ≡ false → e .name % 256 ≤ 127
+unfolding extended
+low-name e k = ltb-false 127 (e .name % 256) k
 
 module _ (g : Geometry) (vs : Views) where
   starts : (start : ℕ) (t : Items) → Chained g (vs .pages) start t → startOf t ≡ start
@@ -71,16 +77,23 @@ module _ (g : Geometry) (vs : Views) where
   under-below zero start d h = h
   under-below (suc levels) start d h = h .below
 
-  add-stands : (levels : ℕ) (e : Entry) (x : Part) (ts : List Token) (t : Items) → PartAt g vs levels e x → tokens t ≡ ts → Below g vs levels t
+  add-stands : (levels : ℕ) (e : Entry) (x : Part) (ts : List Token) (t : Items) → extended e ≡ false → PartAt g vs levels e x → tokens t ≡ ts → Below g vs levels t
       → (tokens (add e x t) ≡ entry e ∷ ts) × Below g vs levels (add e x t)
-  add-stands levels e (chain ls) ts t h q b = (
+  add-stands levels e (chain ls) ts t k h q b = (
     ap₂ (λ (y : Entry) (l : List Token). entry y ∷ l) (same-entry e (first ls) (length ls) (h .0 .begins) (sym (h .1))) q,
-    (subst (λ (p : ℕ). ChainAt g (vs .file (e .extension)) p ls) (sym (h .0 .begins)) (h .0), h .2, b),
+    (subst (λ (p : ℕ). ChainAt g (vs .file (e .extension)) p ls) (sym (h .0 .begins)) (h .0), h .2, b, (tt, low-name e k)),
   )
-  add-stands levels e (directory d) ts t h q b = (
+  add-stands levels e (directory d) ts t k h q b = (
     ap₂ (λ (y : Entry) (l : List Token). entry y ∷ l) (same-entry e (startOf d) 0 (h .0) (sym (h .1))) q,
-    (subst (λ (p : ℕ). Chained g (vs .pages) p d) (sym (h .0)) (under-chained levels (e .start) d (h .3)), h .2, under-below levels (e .start) d (h .3), b),
+    (subst (λ (p : ℕ). Chained g (vs .pages) p d) (sym (h .0)) (under-chained levels (e .start) d (h .3)), h .2, under-below levels (e .start) d (h .3), b, (tt, low-name e k)),
   )
+
+  -- one stamp more before the first entry
+  stamp-stands : (levels : ℕ) (e : Entry) (t : Items) → extended e ≡ true → followed (tokens t) ≡ true → Below g vs levels t → Below g vs levels (stamp e t)
+  stamp-stands levels e end x f b = b
+  stamp-stands levels e (page p t) x f b = b
+  stamp-stands levels e (file l ls t) x f b = (b .0, b .1, b .2, ((x, b .3 .0), b .3 .1))
+  stamp-stands levels e (dir l d t) x f b = (b .0, b .1, b .2, b .3, ((x, b .4 .0), b .4 .1))
 
   -- ---- a directory's entries, a directory, a subdirectory
   module _ (levels : ℕ) (sub : Judge) (s : JudgeSound g sub) (h : SubdirectoriesAt levels sub) (here : Parent) where
@@ -91,11 +104,17 @@ module _ (g : Geometry) (vs : Views) where
     entries-stand (newPage p′ ∷ ts) claimed p seen t fit q = on-then _ _ _ q λ u d q.
         let i = entries-stand ts claimed p′ seen u fit d in
         subst (λ (t : Items). (tokens t ≡ newPage p′ ∷ ts) × Below g vs levels t) (ok-inj q) (ap (λ (l : List Token). newPage p′ ∷ l) (i .0), i .1)
-    entries-stand (entry e ∷ ts) claimed p seen t fit q = on-then _ _ _ q λ x d q. on-then _ _ _ q λ u w q.
+    entries-stand (entry e ∷ ts) claimed p seen t fit q = on-choose _ _ _ _ q
+        (λ x q. on-refuse _ _ _ _ _ q λ f q. on-then _ _ _ q λ u w q.
+        let i = entries-stand ts claimed p seen u fit w in
+        let f′ : followed (tokens u) ≡ true = ap followed (i .0) ∙ f in
+        subst (λ (t : Items). (tokens t ≡ entry e ∷ ts) × Below g vs levels t) (ok-inj q)
+        (stamp-tokens e u f′ ∙ ap (λ (l : List Token). entry e ∷ l) (i .0), stamp-stands levels e u x f′ (i .1)))
+        (λ y q. on-then _ _ _ q λ x d q. on-then _ _ _ q λ u w q.
         let k = entry-sound g vs sub s here claimed p seen e x fit d in
         let j = entry-stands levels e sub h here claimed p seen x fit d in
         let i = entries-stand ts (partPages x ++ claimed) p (key (e .name) (e .extension) ∷ seen) u (λ z. simp count-append (k .clear z)) w in
-        subst (λ (t : Items). (tokens t ≡ entry e ∷ ts) × Below g vs levels t) (ok-inj q) (add-stands levels e x ts u j (i .0) (i .1))
+        subst (λ (t : Items). (tokens t ≡ entry e ∷ ts) × Below g vs levels t) (ok-inj q) (add-stands levels e x ts u y j (i .0) (i .1)))
 
     directory-stands : (test : Test) (claimed : List ℕ) (p : ℕ) (t : Items) → Within (g .pages) claimed → judgeDirectory g vs (suc (g .pages)) sub test here claimed p ≡ ok t → DirectoryAt g vs levels (here .start) t
     unfolding judgeDirectory

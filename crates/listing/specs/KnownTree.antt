@@ -2,7 +2,7 @@
 use mathlib.Core.Path.{_≡_}
 use mathlib.Core.Bool.{true, false}
 use mathlib.Core.List.{List, [], _∷_}
-use Prim.Native.Nat.{ℕ, suc, _+_}
+use Prim.Native.Nat.{ℕ, suc, _+_, _%_, _≤_}
 use lib.ListN.{length}
 use Rattle.geometry.specs.declared.Geometry.{Geometry}
 use Rattle.geometry.specs.Geometry.{controlSize}
@@ -11,14 +11,22 @@ use Rattle.rules.specs.declared.Entry.{Entry}
 use Rattle.rules.specs.declared.Line.{Line}
 use Rattle.rules.specs.Result.{ok, err}
 use Rattle.rules.specs.Chain.{Views, Link, first}
-use Rattle.rules.specs.Names.{extensionNumber, attribute, directoryNumber}
-use Rattle.rules.specs.Tree.{labelOf, Items, end, page, file, dir, startOf, tokens, linkTokens, Image}
+use Rattle.rules.specs.Names.{extensionNumber, attribute, directoryNumber, extended}
+use Rattle.rules.specs.Tree.{Label, labelOf, Items, end, page, file, dir, startOf, tokens, linkTokens, Image}
 use Rattle.rules.specs.WellFormed.{Under}
 use Rattle.rules.specs.Listing.{fileLine, directoryLine, linesOf, lineAt}
 use Rattle.rules.specs.Check.{Part, chain, directory, check}
 use Rattle.listing.specs.declared.LineSearch.{LineSearch}
 use Rattle.listing.specs.declared.LineSearch.the-variants as look
 use Rattle.chain.specs.KnownChain.{ChainAt}
+
+-- stamps are extended; the entry that they belong to is plain
+abbrev pub AreExtended : List Entry → Type 0
+AreExtended [] = Unit {0}
+AreExtended (s ∷ ss) = (extended s ≡ true) × AreExtended ss
+
+abbrev pub Kinds : Label → Type 0
+Kinds l = AreExtended (l .stamps) × (l .name % 256 ≤ 127)
 
 -- a directory's chain from its start page on, and its entries in the pages
 pub record Chained (g : Geometry) (v : View) (start : ℕ) (t : Items) : Type 0 where
@@ -27,12 +35,12 @@ pub record Chained (g : Geometry) (v : View) (start : ℕ) (t : Items) : Type 0 
   pub shape : linkTokens g (controlSize g) links ≡ tokens t
 
 module _ (g : Geometry) (vs : Views) where
-  -- the chains of the entries from here on and of all below them, with so many levels left
+  -- the chains of the entries from here on and of all below them, with so many levels left; the kinds of the entries
   abbrev pub Below : ℕ → Items → Type 0
   Below levels end = Unit {0}
   Below levels (page p t) = Below levels t
-  Below levels (file l ls t) = ChainAt g (vs .file (l .extension)) (first ls) ls × (directoryNumber (l .extension) ≡ false) × Below levels t
-  Below levels (dir l d t) = Chained g (vs .pages) (startOf d) d × (directoryNumber (l .extension) ≡ true) × Under levels (λ less. Below less d) × Below levels t
+  Below levels (file l ls t) = ChainAt g (vs .file (l .extension)) (first ls) ls × (directoryNumber (l .extension) ≡ false) × Below levels t × Kinds l
+  Below levels (dir l d t) = Chained g (vs .pages) (startOf d) d × (directoryNumber (l .extension) ≡ true) × Under levels (λ less. Below less d) × Below levels t × Kinds l
 
   -- a directory from a start page on
   pub record DirectoryAt (levels start : ℕ) (t : Items) : Type 0 where

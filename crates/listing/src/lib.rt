@@ -1,4 +1,5 @@
 // The entry at a walk position of an image that is known to be accepted, found in the image alone.
+use directory::entries::Item;
 use directory::extensions::extension_of;
 use directory::extensions::is_directory;
 use entries::Next;
@@ -88,12 +89,15 @@ fn look_directory(
         let Next::At(at) = slot.next_entry(image, g) else {
             return LineSearch::Left(left);
         };
-        let e = at.entry(image, g);
+        slot = at.past();
+        let Item::Plain(e) = at.item(image, g) else {
+            // a stamp has no line
+            continue;
+        };
         match look_entry(image, g, levels, level, e, left) {
             LineSearch::Found(x) => return LineSearch::Found(x),
             LineSearch::Left(j) => left = j,
         }
-        slot = at.past();
     }
 }
 

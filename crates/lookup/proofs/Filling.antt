@@ -10,11 +10,12 @@ use Rattle.geometry.specs.Geometry.{firstEntries, laterEntries}
 use Rattle.packet.specs.Packet.{View}
 use Rattle.rules.specs.declared.Entry.{Entry}
 use Rattle.rules.specs.Chain.{Views, Link, link}
-use Rattle.rules.specs.Tree.{labelOf, Items, end, page, Token, newPage, entry, tokens, linkTokens}
-use Rattle.rules.specs.TreeLaws.{entryTokens, no-tokens, page-first, entry-first, tokens-add}
-use Rattle.rules.specs.Check.{Part, chain, directory, add}
+use Rattle.rules.specs.Tree.{Label, labelOf, width, Items, end, page, file, dir, Token, newPage, entry, entryTokens, tokens, linkTokens}
+use Rattle.rules.specs.TreeLaws.{no-tokens, page-first, EntryFirst, stamped, plain, entry-first, tokens-add}
+use Rattle.rules.specs.StampLaws.{stamp-tokens}
+use Rattle.rules.specs.Check.{Part, chain, directory, add, stampLabel, stamp, followed}
 use Rattle.rules.specs.Put.{insert, isFull}
-use Rattle.rules.specs.EditLaws.{width-one}
+use Rattle.rules.specs.EditLaws.{width-is}
 use Rattle.entries.specs.declared.Slot.{Slot}
 use Rattle.entries.specs.EntrySlots.{atEntry}
 use Rattle.entries.specs.TokensAt.{TokensAt, InDirectory, Begins, PageRest, PageAhead, LastPage}
@@ -53,23 +54,52 @@ module _ (later next : ℕ) where
 
   -- entries: each takes one of the free
   full-add : (r : ℕ) (e : Entry) (x : Part) (t : Items) → isFull later next r (add e x t) ≡ isFull later next (r - 1) t
-  full-add r e (chain ls) t = ap (λ (n : ℕ). isFull later next (r - n) t) (width-one (labelOf e))
-  full-add r e (directory d) t = ap (λ (n : ℕ). isFull later next (r - n) t) (width-one (labelOf e))
+  full-add r e (chain ls) t = ap (λ (n : ℕ). isFull later next (r - n) t) (width-is (labelOf e))
+  full-add r e (directory d) t = ap (λ (n : ℕ). isFull later next (r - n) t) (width-is (labelOf e))
 
   insert-add : (new : Items → Items) (q r : ℕ) (e : Entry) (x : Part) (t : Items) → insert new later q next r (add e x t) ≡ add e x (insert new later q next (r - 1) t)
-  insert-add new q r e (chain ls) t = rw (width-one (labelOf e)) refl
-  insert-add new q r e (directory d) t = rw (width-one (labelOf e)) refl
+  insert-add new q r e (chain ls) t = rw (width-is (labelOf e)) refl
+  insert-add new q r e (directory d) t = rw (width-is (labelOf e)) refl
+
+  -- and so does each stamp
+  stamp-free : (r : ℕ) (e : Entry) (l : Label) → r - width (stampLabel e l) ≡ r - 1 - width l
+  stamp-free r e l = omega (arith, width-is l, width-is (stampLabel e l))
+
+  full-stamp : (r : ℕ) (e : Entry) (t : Items) → followed (tokens t) ≡ true → isFull later next r (stamp e t) ≡ isFull later next (r - 1) t
+  unfolding followed
+  full-stamp r e end f = absurd (let z : _≡_ {A = ℕ} 0 1 = cc in omega arith)
+  full-stamp r e (page p t) f = absurd (let z : _≡_ {A = ℕ} 0 1 = cc in omega arith)
+  full-stamp r e (file l ls t) f = ap (λ (n : ℕ). isFull later next n t) (stamp-free r e l)
+  full-stamp r e (dir l d t) f = ap (λ (n : ℕ). isFull later next n t) (stamp-free r e l)
+
+  insert-stamp : (new : Items → Items) (q r : ℕ) (e : Entry) (t : Items) → followed (tokens t) ≡ true
+      → tokens (insert new later q next r (stamp e t)) ≡ entry e ∷ tokens (insert new later q next (r - 1) t)
+  unfolding followed
+  insert-stamp new q r e end f = absurd (let z : _≡_ {A = ℕ} 0 1 = cc in omega arith)
+  insert-stamp new q r e (page p t) f = absurd (let z : _≡_ {A = ℕ} 0 1 = cc in omega arith)
+  insert-stamp new q r e (file l ls t) f = ap (λ (n : ℕ). tokens (file (stampLabel e l) ls (insert new later q next n t))) (stamp-free r e l)
+  insert-stamp new q r e (dir l d t) f = ap (λ (n : ℕ). tokens (dir (stampLabel e l) d (insert new later q next n t))) (stamp-free r e l)
 
   past-entry : (r : ℕ) (e : Entry) (t : Items) (us : List Token) → tokens t ≡ entry e ∷ us → Past later next r t (entry e ∷ []) next (r - 1) us
-  past-entry r e t us z =
-      let o = entry-first e us t z in
-      subst (λ (x : Items). Past later next r x (entry e ∷ []) next (r - 1) us) (sym (o .is)) (record {
-        rest = o .rest;
-        left = o .left;
-        whole = tokens-add e (o .part) (o .rest) (o .entry-is) ∙ ap (λ (x : List Token). entry e ∷ x) (o .left);
-        full = full-add r e (o .part) (o .rest);
-        inserted = λ new q. ap tokens (insert-add new q r e (o .part) (o .rest)) ∙ tokens-add e (o .part) (insert new later q next (r - 1) (o .rest)) (o .entry-is);
+  past-entry r e t us z = go (entry-first e us t z)
+    where
+      go : EntryFirst e us t → Past later next r t (entry e ∷ []) next (r - 1) us
+      go (plain part rest is entry-is left) = subst (λ (x : Items). Past later next r x (entry e ∷ []) next (r - 1) us) (sym is) (record {
+        rest = rest;
+        left = left;
+        whole = tokens-add e part rest entry-is ∙ ap (λ (x : List Token). entry e ∷ x) left;
+        full = full-add r e part rest;
+        inserted = λ new q. ap tokens (insert-add new q r e part rest) ∙ tokens-add e part (insert new later q next (r - 1) rest) entry-is;
       })
+      go (stamped rest is f left) =
+          let f′ : followed (tokens rest) ≡ true = ap followed left ∙ f in
+          subst (λ (x : Items). Past later next r x (entry e ∷ []) next (r - 1) us) (sym is) (record {
+            rest = rest;
+            left = left;
+            whole = stamp-tokens e rest f′ ∙ ap (λ (x : List Token). entry e ∷ x) left;
+            full = full-stamp r e rest f′;
+            inserted = λ new q. insert-stamp new q r e rest f′;
+          })
 
   past-entries : (r n : ℕ) (es : List Entry) (t : Items) (us : List Token) → n ≡ r - length es → tokens t ≡ entryTokens es ++ us → Past later next r t (entryTokens es) next n us
   past-entries r n [] t us h e =

@@ -8,13 +8,12 @@ use Rattle.geometry.specs.declared.Geometry.{Geometry}
 use Rattle.geometry.specs.Geometry.{controlSize}
 use Rattle.packet.specs.Packet.{View}
 use Rattle.rules.specs.declared.Entry.{Entry}
-use Rattle.rules.specs.Tree.{Token, newPage, entry}
-use Rattle.rules.specs.TreeLaws.{entryTokens, pageTokens, lastPage}
+use Rattle.rules.specs.Tree.{Token, newPage, entry, entryTokens}
+use Rattle.rules.specs.TreeLaws.{pageTokens, lastPage, entries-append}
 use Rattle.editing_theorems.specs.PageChange.{controlOn}
 use Rattle.entries.specs.declared.Slot.{Slot}
 use Rattle.entries.specs.EntrySlots.{atEntry}
 use Rattle.entries.specs.TokensAt.{PageAt, Reached}
-use Rattle.entries.proofs.Stepping.{ReadAhead}
 
 pub record Passed (g : Geometry) (s : Slot) (ts : List Token) : Type 0 where
   pub before : List Token
@@ -53,14 +52,10 @@ module _ {g : Geometry} {s : Slot} {ts : List Token} (P : Passed g s ts) where
   passed-entries es n h = record {
     before = before;
     entries = entries ++ es;
-    split = passed-on (entryTokens es) ∙ ap (λ (x : List Token). before ++ (newPage (s .page) ∷ x)) (sym (entries-append entries es));
+    split = passed-on (entryTokens es) ∙ ap (λ (x : List Token). before ++ (newPage (s .page) ∷ x)) (entries-append entries es);
     at-is = omega (arith, length-append entries es, at-is);
     skip-is = skip-is;
   }
-    where
-      entries-append : (xs ys : List Entry) → entryTokens (xs ++ ys) ≡ entryTokens xs ++ entryTokens ys
-      entries-append [] ys = refl
-      entries-append (e ∷ xs) ys = ap (λ (x : List Token). entry e ∷ x) (entries-append xs ys)
 
   -- past pages
   last-of : (more : List Token) (p : ℕ) (ps : List ℕ) (at : Slot) → at .page ≡ lastPage p ps → at .skip ≡ 0 → at .at ≡ 0 → Passed g at ((ts ++ more) ++ (newPage p ∷ pageTokens ps))
@@ -78,9 +73,6 @@ module _ {g : Geometry} {s : Slot} {ts : List Token} (P : Passed g s ts) where
   pub passed-page : {v : View} {s′ : Slot} {us : List Token} (es : List Entry) → PageAt g v 0 s′ us → Passed g s′ ((ts ++ entryTokens es) ++ (newPage (s′ .page) ∷ []))
   passed-page {s′ = s′} es p = last-of (entryTokens es) (s′ .page) [] s′ refl (p .skip-is) (p .at-start)
 
-  pub passed-pages : {v : View} {us : List Token} {at : Slot} {e : Entry} (a : ReadAhead g v s us at e) → Passed g at (ts ++ pageTokens (a .pages))
-  passed-pages {at = at} a = go (a .pages) (a .page-is) (a .reached)
-    where
-      go : (ps : List ℕ) → at .page ≡ lastPage (s .page) ps → Reached s ps at → Passed g at (ts ++ pageTokens ps)
-      go [] e r = subst (λ (x : Slot). Passed g x (ts ++ [])) (sym r) (subst (Passed g s) (sym (append-nil ts)) P)
-      go (p ∷ ps) e r = subst (λ (x : List Token). Passed g at (x ++ (newPage p ∷ pageTokens ps))) (append-nil ts) (last-of [] p ps at e (r .0) (r .1))
+  pub passed-pages : {at : Slot} (ps : List ℕ) → at .page ≡ lastPage (s .page) ps → Reached s ps at → Passed g at (ts ++ pageTokens ps)
+  passed-pages [] e r = subst (λ (x : Slot). Passed g x (ts ++ [])) (sym r) (subst (Passed g s) (sym (append-nil ts)) P)
+  passed-pages {at = at} (p ∷ ps) e r = subst (λ (x : List Token). Passed g at (x ++ (newPage p ∷ pageTokens ps))) (append-nil ts) (last-of [] p ps at e (r .0) (r .1))

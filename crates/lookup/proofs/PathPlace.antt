@@ -99,9 +99,9 @@ module _ (g : Geometry) (vs : Views) (path : List ℕ) (i : Image) (names name e
         go (aFile l ls) e z = absurd (let z : _≡_ {A = ℕ} 0 1 = cc in omega arith)
         go (aDirectory l d) e z = absurd (let z : _≡_ {A = ℕ} 0 1 = cc in omega arith)
 
-    pub file-at : (p : Slot) (e : Entry) → s ≡ spot.At p e → FileAt g vs path i p e
-    file-at p e q =
-        let at : PlaceOf g (vs .pages) k (there .place .items) p e = subst (IsPlace g (vs .pages) k (there .place .items)) q (f (there .place .items) (there .tree)) in
+    pub file-at : (p : Slot) (m : ℕ) (e : Entry) → s ≡ spot.At p m e → FileAt g vs path i p m e
+    file-at p m e q =
+        let at : PlaceOf g (vs .pages) k (there .place .items) p m e = subst (IsPlace g (vs .pages) k (there .place .items)) q (f (there .place .items) (there .tree)) in
         let x = found-file g vs start (there .place .items) (there .tree) k name extension k-is (P .low) e (at .found) in
         record {
           target = record { to = P .path; place = there .place };
@@ -111,5 +111,5 @@ module _ (g : Geometry) (vs : Views) (path : List ℕ) (i : Image) (names name e
           found = ap (λ (n : ℕ). find n (there .place .items)) (sym same-key) ∙ x .is;
           entry-is = x .entry-is;
           chain = x .chain;
-          at = subst (λ (n : ℕ). PlaceOf g (vs .pages) n (there .place .items) p e) same-key at;
+          at = subst (λ (n : ℕ). PlaceOf g (vs .pages) n (there .place .items) p m e) same-key at;
         }

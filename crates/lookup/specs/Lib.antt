@@ -1,4 +1,5 @@
 pub mod Searches
+pub mod PlaceLaws
 pub mod Targets
 pub mod TargetLaws
 pub mod ParsedPath

@@ -1,7 +1,7 @@
 -- For contracts: what stands under a key in a directory, and where the names of a path lead.
 use mathlib.Core.Path.{_≡_}
 use mathlib.Core.List.{List, _∷_, _++_}
-use Prim.Native.Nat.{ℕ, _<_}
+use Prim.Native.Nat.{ℕ, _+_, _<_}
 use lib.ListN.{length, drop}
 use Rattle.geometry.specs.declared.Geometry.{Geometry}
 use Rattle.geometry.specs.Geometry.{controlSize}
@@ -9,8 +9,7 @@ use Rattle.packet.specs.Packet.{good, View}
 use Rattle.rules.specs.declared.Entry.{Entry}
 use Rattle.rules.specs.Result.{Res, ok, err}
 use Rattle.rules.specs.Chain.{Views, Link}
-use Rattle.rules.specs.Tree.{Label, Items, fileEntry, directoryEntry, Token, newPage, entry, tokens}
-use Rattle.rules.specs.TreeLaws.{entryTokens}
+use Rattle.rules.specs.Tree.{Label, Items, fileEntry, directoryEntry, Token, newPage, entry, entryTokens, tokens}
 use Rattle.rules.specs.Paths.{namesIn, Found, nothing, aFile, aDirectory, find, Place, directoryAt}
 use Rattle.rules.specs.Put.{replace}
 use Rattle.rules.specs.Delete.{remove}
@@ -42,24 +41,27 @@ module _ (g : Geometry) (vs : Views) where
     pub at : TreeAt start tree
 
 module _ (g : Geometry) (v : View) where
-  -- the place s of the entry e under a key in the directory t: the tokens before its page, the entries before it, what comes after; and the directory with the entry removed, or with the file replaced
-  pub record PlaceOf (k : ℕ) (t : Items) (s : Slot) (e : Entry) : Type 0 where
+  -- the place s of the entry e under a key in the directory t, so many stamps right before it: the tokens before its page, the entries before its stamps, what comes after;
+  -- and the directory with the entry removed, its stamps too, or with the file replaced, which keeps them
+  pub record PlaceOf (k : ℕ) (t : Items) (s : Slot) (stamped : ℕ) (e : Entry) : Type 0 where
     pub found : search.Found e ≡ entryOf (find k t)
     pub before : List Token
     pub entries : List Entry
+    pub stamps : List Entry
     pub later : List Token
-    pub shape : tokens t ≡ before ++ (newPage (s .page) ∷ (entryTokens entries ++ (entry e ∷ later)))
+    pub shape : tokens t ≡ before ++ (newPage (s .page) ∷ (entryTokens entries ++ (entryTokens stamps ++ (entry e ∷ later))))
     pub removed : tokens (remove k t) ≡ before ++ (newPage (s .page) ∷ (entryTokens entries ++ later))
     pub replaced : (l : Label) (ls new : List Link) → find k t ≡ aFile l ls
-        → tokens (replace k new t) ≡ before ++ (newPage (s .page) ∷ (entryTokens entries ++ (entry (fileEntry l new) ∷ later)))
-    pub at-is : length entries ≡ s .at
+        → tokens (replace k new t) ≡ before ++ (newPage (s .page) ∷ (entryTokens entries ++ (entryTokens stamps ++ (entry (fileEntry l new) ∷ later))))
+    pub stamped-is : length stamps ≡ stamped
+    pub at-is : length entries + stamped ≡ s .at
     pub under : s .at < s .count
     pub fits : Fits g s
     pub skip-is : (control : List ℕ) → length control ≡ controlSize g → length (controlOn (g .width) control before) ≡ s .skip
     pub next-is : (b : List ℕ) (n : ℕ) → v (s .page) ≡ good b n → s .next .page ≡ n
 
   abbrev pub IsPlace : ℕ → Items → Spot → Type 0
-  IsPlace k t (spot.At s e) = PlaceOf k t s e
+  IsPlace k t (spot.At s m e) = PlaceOf k t s m e
   IsPlace k t spot.Absent = search.Absent ≡ entryOf (find k t)
 
 module _ (g : Geometry) (vs : Views) where

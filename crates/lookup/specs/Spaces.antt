@@ -9,8 +9,7 @@ use Rattle.geometry.specs.Geometry.{controlSize, firstEntries, laterEntries}
 use Rattle.packet.specs.Packet.{good, View}
 use Rattle.rules.specs.declared.Entry.{Entry}
 use Rattle.rules.specs.Chain.{Views}
-use Rattle.rules.specs.Tree.{Items, Token, newPage, entry, tokens}
-use Rattle.rules.specs.TreeLaws.{entryTokens}
+use Rattle.rules.specs.Tree.{Items, Token, newPage, entry, entryTokens, tokens}
 use Rattle.rules.specs.Put.{insert, isFull}
 use Rattle.editing_theorems.specs.PageChange.{controlOn}
 use Rattle.entries.specs.declared.Slot.{Slot}

@@ -21,7 +21,7 @@ use Rattle.lookup.specs.Targets.{FileAt, AtPath, Looks}
 pub looks-as : (g : Geometry) (vs : Views) (path : List ℕ) (i : Image) (r : PathLookup) → Looks g vs path r → check g vs ≡ ok i → (x : PathLookup) → r ≡ x → AtPath g vs path i x
 looks-as g vs path i r h accepted x e = subst (AtPath g vs path i) e (h i accepted)
 
-module _ {g : Geometry} {vs : Views} {path : List ℕ} {i : Image} {s : Slot} {e : Entry} (there : FileAt g vs path i s e) where
+module _ {g : Geometry} {vs : Views} {path : List ℕ} {i : Image} {s : Slot} {m : ℕ} {e : Entry} (there : FileAt g vs path i s m e) where
   pub same-extension : e .extension ≡ there .label .extension
   same-extension = ap (λ (x : Entry). x .extension) (there .entry-is)
 

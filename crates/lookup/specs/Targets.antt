@@ -25,8 +25,8 @@ module _ (g : Geometry) (vs : Views) (path : List ℕ) (i : Image) where
     pub tree : TreeAt g vs start (target .place .items)
     pub absent : find (fileKey (target .to)) (target .place .items) ≡ nothing
 
-  -- the file's entry e at the place s, and its chain
-  pub record FileAt (s : Slot) (e : Entry) : Type 0 where
+  -- the file's entry e at the place s, so many stamps right before it, and its chain
+  pub record FileAt (s : Slot) (stamped : ℕ) (e : Entry) : Type 0 where
     pub target : Target
     pub reached : targetOf path (i .tree) ≡ ok target
     pub label : Label
@@ -34,14 +34,14 @@ module _ (g : Geometry) (vs : Views) (path : List ℕ) (i : Image) where
     pub found : find (fileKey (target .to)) (target .place .items) ≡ aFile label links
     pub entry-is : e ≡ fileEntry label links
     pub chain : ChainAt g (vs .file (e .extension)) (e .start) links
-    pub at : PlaceOf g (vs .pages) (fileKey (target .to)) (target .place .items) s e
+    pub at : PlaceOf g (vs .pages) (fileKey (target .to)) (target .place .items) s stamped e
 
   -- document 01's numbers: a malformed path is 14, a directory that is absent 15
   abbrev pub AtPath : PathLookup → Type 0
   AtPath lookup.Malformed = targetOf path (i .tree) ≡ err 14 0
   AtPath lookup.Nowhere = targetOf path (i .tree) ≡ err 15 0
   AtPath (lookup.Absent start name extension) = FileAbsent start name extension
-  AtPath (lookup.At s e) = FileAt s e
+  AtPath (lookup.At s m e) = FileAt s m e
 
 -- for whatever reading is accepted
 abbrev pub Looks : Geometry → Views → List ℕ → PathLookup → Type 0

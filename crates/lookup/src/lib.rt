@@ -3,6 +3,7 @@ pub mod path;
 pub mod space;
 
 use crate::path::Parsed;
+use directory::entries::Item;
 use entries::Next;
 use entries::Slot;
 use geometry::DIRECTORY;
@@ -17,9 +18,9 @@ ghost use Rattle.listing.specs.KnownTree.{HasImage};
 ghost use Rattle.lookup.specs.Searches.{HasTree, Places, Finds, Resolves};
 ghost use Rattle.lookup.specs.Targets.{Looks};
 
-// The entry that was looked for and its place.
+// The entry that was looked for: its place, how many stamps stand right before it, and itself.
 pub enum Spot {
-    At(Slot, Entry),
+    At(Slot, usize, Entry),
     Absent,
 }
 
@@ -43,8 +44,8 @@ pub enum PathLookup {
     Nowhere,
     // the file is absent: its directory's start page, its name and extension
     Absent(usize, u32, u8),
-    // the place of the file's entry
-    At(Slot, Entry),
+    // the place of the file's entry, how many stamps stand right before it, and itself
+    At(Slot, usize, Entry),
 }
 
 // The place of a directory's entry with this key.
@@ -54,15 +55,20 @@ pub fn find_place(image: &[u8], g: Geometry, start: usize, key: u64) -> Spot
     ensures { λ r. ⌜ Places g (viewsOf g (now (image .entry))) start key r ⌝ }
 {
     let mut slot = Slot::first(image, g, start);
+    let mut stamps = 0;
     loop {
         let Next::At(at) = slot.next_entry(image, g) else {
             return Spot::Absent;
         };
-        let e = at.entry(image, g);
-        if entries::key_of(e.name, e.extension) == key {
-            return Spot::At(at, e);
-        }
         slot = at.past();
+        let Item::Plain(e) = at.item(image, g) else {
+            stamps += 1;
+            continue;
+        };
+        if entries::key_of(e.name, e.extension) == key {
+            return Spot::At(at, stamps, e);
+        }
+        stamps = 0;
     }
 }
 
@@ -73,7 +79,7 @@ pub fn find_entry(image: &[u8], g: Geometry, start: usize, key: u64) -> Search
     ensures { λ r. ⌜ Finds g (viewsOf g (now (image .entry))) start key r ⌝ }
 {
     match find_place(image, g, start, key) {
-        Spot::At(_, e) => Search::Found(e),
+        Spot::At(_, _, e) => Search::Found(e),
         Spot::Absent => Search::Absent,
     }
 }
@@ -115,7 +121,7 @@ pub fn find_file(image: &[u8], g: Geometry, path: &[u8]) -> PathLookup
                 let key = entries::key_of(name, extension);
                 match find_place(image, g, start, key) {
                     Spot::Absent => PathLookup::Absent(start, name, extension),
-                    Spot::At(slot, e) => PathLookup::At(slot, e),
+                    Spot::At(slot, stamps, e) => PathLookup::At(slot, stamps, e),
                 }
             }
         },

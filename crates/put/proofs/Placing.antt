@@ -11,14 +11,13 @@ use Rattle.rules.specs.Result.{ok, err}
 use Rattle.rules.specs.PageSets.{bit, count}
 use Rattle.rules.specs.PageSetLaws.{hit-same}
 use Rattle.rules.specs.Chain.{Views, viewsOf, Link, link, first}
-use Rattle.rules.specs.Tree.{Label, keyOf, Items, file, newPage, entry, tokens, fileEntry, keys, Image}
+use Rattle.rules.specs.Tree.{Label, keyOf, Items, file, newPage, entry, entryTokens, tokens, fileEntry, keys, Image}
 use Rattle.rules.specs.Check.{check}
 use Rattle.rules.specs.Paths.{Path, fileKey, fileLabel, Found, nothing, find, targetOf}
 use Rattle.rules.specs.Put.{writable, putTarget}
 use Rattle.rules.specs.Candidate.{chainPages}
 use Rattle.rules.specs.EditLaws.{none-found, found-file}
 use Rattle.rules.specs.TargetLaws.{reached, put-target-none, put-target-is, put-target-kept}
-use Rattle.rules.specs.TreeLaws.{entryTokens}
 use Rattle.editing_theorems.specs.FormedPaths.{formed}
 use Rattle.editing_theorems.specs.PutDirectory.{extra-old, extra-new, after-old, after-new, SameName, same-name}
 use Rattle.chain.specs.KnownChain.{ChainAt}
@@ -30,6 +29,7 @@ use Rattle.lookup.specs.Targets.{FileAbsent, FileAt, Looks}
 use Rattle.lookup.specs.TargetLaws.{looks-as, bit-clear, is-writable, not-writable}
 use Rattle.lookup.specs.declared.space.Space.{Space}
 use Rattle.lookup.specs.declared.space.Space.the-variants as space
+use Rattle.lookup.specs.PlaceLaws.{entry-shape, entry-replaced, entry-first}
 use Rattle.lookup.specs.Spaces.{SpaceAt, NoSpace, IsSpace, Spaces}
 use Rattle.edit.specs.declared.NewFile.{NewFile}
 use Rattle.edit.specs.Plans.{EntryPlace}
@@ -91,7 +91,7 @@ chain-inside g v start [] c = absurd (omega (arith, c .some))
 chain-inside g v start (link p b ∷ ls) c = omega (arith, c .begins, c .within p (omega (arith, hit-same p)))
 
 -- ---- a file that is there
-module _ (g : Geometry) (image path : List ℕ) (i : Image) (s : Slot) (e : Entry) (there : FileAt g (viewsOf g image) path i s e) (h : e .extension ≤ 127) where
+module _ (g : Geometry) (image path : List ℕ) (i : Image) (s : Slot) (m : ℕ) (e : Entry) (there : FileAt g (viewsOf g image) path i s m e) (h : e .extension ≤ 127) where
   open FileAt there using (target, label, links, found, entry-is, chain, at)
 
   abbrev items : Items
@@ -121,14 +121,14 @@ module _ (g : Geometry) (image path : List ℕ) (i : Image) (s : Slot) (e : Entr
       extra-is = extra-old g fresh items named;
       in-page = λ _. record {
         before = at .before;
-        entries = at .entries;
+        entries = at .entries ++ at .stamps;
         exchanged = e ∷ [];
         later = at .later;
-        shape = at .shape;
-        then = λ q new. ap tokens (after-old g fresh q new items named) ∙ at .replaced label links new found
-            ∙ ap (λ (x : Entry). at .before ++ (newPage (s .page) ∷ (entryTokens (at .entries) ++ (entry x ∷ at .later)))) (same-entry new);
-        first-is = at .at-is;
-        last-is = ap (λ (n : ℕ). n + 1) (at .at-is);
+        shape = entry-shape at;
+        then = λ q new. ap tokens (after-old g fresh q new items named) ∙ entry-replaced at label links new found
+            ∙ ap (λ (x : Entry). at .before ++ (newPage (s .page) ∷ (entryTokens (at .entries ++ at .stamps) ++ (entry x ∷ at .later)))) (same-entry new);
+        first-is = entry-first at;
+        last-is = ap (λ (n : ℕ). n + 1) (entry-first at);
         skip-is = at .skip-is;
         next-is = at .next-is;
       };
@@ -169,15 +169,15 @@ module _ (g : Geometry) (image path : List ℕ) (r : PathLookup) (look : Looks g
       pages-are = rw (gap .absent) refl;
     }
 
-  module _ (s : Slot) (e : Entry) (q : r ≡ lookup.At s e) where
-    there : FileAt g (viewsOf g image) path i s e
-    there = looks-as g vs path i r look accepted (lookup.At s e) q
+  module _ (s : Slot) (stamps : ℕ) (e : Entry) (q : r ≡ lookup.At s stamps e) where
+    there : FileAt g (viewsOf g image) path i s stamps e
+    there = looks-as g vs path i r look accepted (lookup.At s stamps e) q
 
     pub read-only : 127 < e .extension → IsPlaced g image path i (placed.Refused 16 0)
     read-only h = put-target-kept path (i .tree) (there .target) (there .reached) 16 0 (ap writable (there .found) ∙ not-writable there h)
 
     pub old-place : e .extension ≤ 127 → IsPlaced g image path i (placed.At (record { name = e .name; extension = e .extension; replaces = e .start; slot = s; first = s .at; last = s .at + 1; extra = 0 }))
-    old-place h = over g image path i s e there h
+    old-place h = over g image path i s stamps e there h
 
     pub under : s .at < s .count
     under = there .at .under

@@ -74,7 +74,7 @@ pub fn place_file(image: &[u8], g: Geometry, path: &[u8]) -> Placed
         PathLookup::Absent(directory, name, extension) => {
             Placed::At(new_entry(image, g, directory, name, extension))
         }
-        PathLookup::At(slot, e) => {
+        PathLookup::At(slot, _, e) => {
             if extension_of(e.extension).attribute != 0 {
                 return Placed::Refused(16, 0);
             }

@@ -61,9 +61,9 @@ module _ (g : Geometry) (vs : Views) (path out : List ℕ) (r : PathLookup) (h :
       gone : bytesOf nothing ≡ err 15 0
       gone = unfold bytesOf in refl
 
-  module _ (s : Slot) (e : Entry) (q : r ≡ lookup.At s e) where
-    pub there : FileAt g vs path i s e
-    there = looks-as g vs path i r h accepted (lookup.At s e) q
+  module _ (s : Slot) (stamps : ℕ) (e : Entry) (q : r ≡ lookup.At s stamps e) where
+    pub there : FileAt g vs path i s stamps e
+    there = looks-as g vs path i r h accepted (lookup.At s stamps e) q
 
     fits-file : readBytes path out i ≡ fitting out (content (there .links))
     unfolding readBytes fitting bytesOf

@@ -1,9 +1,9 @@
 -- A directory that stands in a view, with all below it, clear of other pages: what both halves of the theorem speak of.
-use mathlib.Core.Path.{_≡_, refl, ap}
+use mathlib.Core.Path.{_≡_, refl, ap, _∙_}
 use mathlib.Core.List.{List, [], _∷_, _++_}
 use Prim.Native.Nat.{ℕ, suc, _+_, _%_, _≤_, _<_}
 use native.Mathlib.Omega.{arith}
-use lib.ListN.{length, take, drop}
+use lib.ListN.{length, take, drop, length-append}
 use Rattle.geometry.specs.declared.Geometry.{Geometry}
 use Rattle.geometry.specs.Geometry.{entrySize, controlSize}
 use Rattle.geometry.specs.Number.{Bytes}
@@ -13,7 +13,11 @@ use Rattle.rules.specs.PageSets.{count, range, Once}
 use Rattle.rules.specs.PageSetLaws.{hit-same, Hit, same, other, hits, count-append}
 use Rattle.rules.specs.Chain.{Views, Link, link, pages, first, linked, Test}
 use Rattle.rules.specs.ChainLaws.{rest}
-use Rattle.rules.specs.Tree.{Items, end, page, file, dir, startOf, tokens, tokenBytes, directoryLinks, ownPages, innerPages, allPages, keys, Map, mapPages}
+use Rattle.rules.specs.Tree.{Items, end, page, file, dir, startOf, fileEntry, directoryEntry, entry, tokens, tokenBytes, directoryLinks, ownPages, innerPages, allPages, keys, Map, mapPages}
+use Rattle.rules.specs.Names.{entryBytes}
+use Rattle.rules.specs.StampLaws.{stamps-links}
+use Rattle.reading_theorems.specs.EntryLaws.{entry-size, length-entry}
+use Rattle.reading_theorems.specs.TokenLaws.{length-stamps}
 use Rattle.rules.specs.Control.{rootControl, Parent, theRoot, subControl, wholeEntries, rootPage, subPage}
 use Rattle.rules.specs.Bitmap.{mapSize}
 use Rattle.rules.specs.WellFormed.{HasPackets, HasBelow, mapPackets, IsDirectory, Under, Entries, MapHolds, WellFormedWith}
@@ -23,7 +27,7 @@ pub record DirectoryHolds (g : Geometry) (vs : Views) (levels : ℕ) (control : 
   pub isDirectory : IsDirectory t
   pub start : startOf t ≡ here .start
   pub names : Once (keys t)
-  pub entries : Under levels (λ below. Entries below t)
+  pub entries : Under levels (λ below. Entries (g .width) below t)
   pub chain : HasPackets (vs .pages) (linked (directoryLinks g control t))
   pub below : HasBelow g vs here t
   pub clear : (x : ℕ) → count x (allPages t) + count x claimed ≤ count x (range (g .pages))
@@ -59,8 +63,8 @@ FirstPasses g test control = (p : ℕ) (rest : List ℕ) → length rest % entry
 pub own-links : (g : Geometry) (control : List ℕ) (t : Items) → pages (directoryLinks g control t) ≡ ownPages t
 own-links g control end = refl
 own-links g control (page p t) = ap (λ (l : List ℕ). p ∷ l) (own-links g [] t)
-own-links g control (file l ls t) = own-links g control t
-own-links g control (dir l d t) = own-links g control t
+own-links g control (file l ls t) = ap pages (stamps-links (g .width) control (l .stamps) (entry (fileEntry l ls) ∷ tokens t)) ∙ own-links g control t
+own-links g control (dir l d t) = ap pages (stamps-links (g .width) control (l .stamps) (entry (directoryEntry l d) ∷ tokens t)) ∙ own-links g control t
 
 pub all-split : (x : ℕ) (t : Items) → count x (allPages t) ≡ count x (ownPages t) + count x (innerPages t)
 all-split x t = count-append x (ownPages t) (innerPages t)
@@ -69,8 +73,12 @@ pub directory-of : (g : Geometry) (control : List ℕ) (t : Items) → tokenByte
     → IsDirectory t
 directory-of g control end m k = absurd (omega arith)
 directory-of g control (page p t) m k = tt
-directory-of g control (file l ls t) m k = absurd (omega (arith, ap length m))
-directory-of g control (dir l d t) m k = absurd (omega (arith, ap length m))
+directory-of g control (file l ls t) m k =
+    let e = fileEntry l ls in
+    absurd (omega (arith, ap length m, length-stamps g (l .stamps) (entry e ∷ tokens t), length-append (entryBytes (g .width) e) (tokenBytes (g .width) (tokens t)), length-entry g e, entry-size g))
+directory-of g control (dir l d t) m k =
+    let e = directoryEntry l d in
+    absurd (omega (arith, ap length m, length-stamps g (l .stamps) (entry e ∷ tokens t), length-append (entryBytes (g .width) e) (tokenBytes (g .width) (tokens t)), length-entry g e, entry-size g))
 
 pub start-of : (g : Geometry) (control : List ℕ) (t : Items) → IsDirectory t → startOf t ≡ first (directoryLinks g control t)
 start-of g control end i = absurd i

@@ -18,13 +18,15 @@ use Rattle.rules.specs.Chain.{Views, Link, link, pages, first, Test, anyPage}
 use Rattle.rules.specs.ChainLaws.{Passes, IsChain, first-nonzero, length-pages, any-passes, walk-accepts}
 use Rattle.rules.specs.Names.{fileNumber, directoryNumber}
 use Rattle.rules.specs.Tree.{Label, keyOf, fileEntry, directoryEntry, Items, end, page, file, dir, startOf, ownPages, innerPages, allPages, keys}
-use Rattle.rules.specs.Tree.{Token, newPage, entry, tokens, tokenBytes, tokenLinks, directoryLinks}
+use Rattle.rules.specs.Tree.{Token, newPage, entry, tokens, tokenBytes, tokenLinks, directoryLinks, stampTokens}
 use Rattle.rules.specs.Control.{Parent, subControl, subPage}
-use Rattle.rules.specs.WellFormed.{HasBelow, IsDirectory, Named, Entries}
+use Rattle.rules.specs.WellFormed.{HasBelow, IsDirectory, Stamps, Named, Entries}
+use Rattle.rules.specs.StampLaws.{stampAll, withStamps, all-file, all-dir, stamps-followed}
+use Rattle.rules.specs.declared.Entry.{Entry}
 use Rattle.rules.specs.Check.{chain, directory, Judge, judgeFile, judgeEntry, judgeEntries, judgeDirectory, judgeSub}
-use Rattle.reading_theorems.specs.TokenLaws.{TokensFit, whole-tokens, tokens-back}
+use Rattle.reading_theorems.specs.TokenLaws.{TokensFit, whole-tokens, tokens-back, stamps-fit}
 use Rattle.geometry.specs.BoolLaws.{either-left, either-right}
-use Rattle.reading_theorems.specs.LabelLaws.{file-no-directory, label-complete}
+use Rattle.reading_theorems.specs.LabelLaws.{file-no-directory, label-complete, valid-plain}
 use Rattle.reading_theorems.specs.ControlLaws.{whole-ok}
 use Rattle.reading_theorems.specs.SubControlLaws.{AboveFits, length-sub, sub-written}
 use Rattle.reading_theorems.specs.Directory.{DirectoryHolds, SubHolds, LaterWhole, FirstPasses, own-links, all-split, start-positive, rest-zero, sub-later}
@@ -55,14 +57,15 @@ module _ (g : Geometry) (valid : Valid g) where
   number-fits : (x : ℕ) → x < g .pages → x < 256 ^ g .width
   number-fits x h = omega (arith, pages-fit g valid)
 
-  pub tokens-fit : (levels : ℕ) (t : Items) → Entries levels t → count 0 (innerPages t) ≡ 0 → Within (g .pages) (innerPages t)
+  pub tokens-fit : (levels : ℕ) (t : Items) → Entries (g .width) levels t → count 0 (innerPages t) ≡ 0 → Within (g .pages) (innerPages t)
       → TokensFit (g .width) (tokens t)
   tokens-fit levels end w z f = tt
   tokens-fit levels (page p t) w z f = tokens-fit levels t w z f
   tokens-fit levels (file l ls t) w z f =
       let c : (x : ℕ) → count x (pages ls ++ innerPages t) ≡ count x (pages ls) + count x (innerPages t) = λ x. count-append x (pages ls) (innerPages t) in
       let h : Within (g .pages) (pages ls) = λ x. omega (arith, f x, c x) in
-      let y : count 0 (pages ls) ≡ 0 = omega (arith, c 0) in (
+      let y : count 0 (pages ls) ≡ 0 = omega (arith, c 0) in
+      stamps-fit (g .width) (l .stamps) (entry (fileEntry l ls) ∷ tokens t) (w .0 .stamps) (
         record {
           four = w .0 .four;
           byte = w .0 .byte;
@@ -72,7 +75,8 @@ module _ (g : Geometry) (valid : Valid g) where
         tokens-fit levels t (w .3) (omega (arith, c 0)) (λ x. omega (arith, f x, c x)),
       )
   tokens-fit levels (dir l d t) w z f =
-      let c : (x : ℕ) → count x (innerPages (dir l d t)) ≡ count x (allPages d) + count x (innerPages t) = λ x. simp count-append (omega arith) in (
+      let c : (x : ℕ) → count x (innerPages (dir l d t)) ≡ count x (allPages d) + count x (innerPages t) = λ x. simp count-append (omega arith) in
+      stamps-fit (g .width) (l .stamps) (entry (directoryEntry l d) ∷ tokens t) (w .0 .stamps) (
         record {
           four = w .0 .four;
           byte = w .0 .byte;
@@ -101,7 +105,7 @@ module _ (g : Geometry) (valid : Valid g) where
 
     module _ (levels : ℕ) (sub : Judge) (h : SubComplete levels sub) (here : Parent) (above : AboveFits (g .width) here) where
       -- ---- one entry
-      module _ (claimed : List ℕ) (p : ℕ) (seen : List ℕ) (l : Label) (named : Named l) (unseen : count (keyOf l) seen ≡ 0) where
+      module _ (claimed : List ℕ) (p : ℕ) (seen : List ℕ) (l : Label) (named : Named (g .width) l) (unseen : count (keyOf l) seen ≡ 0) where
         file-complete : (ls : List Link) → fileNumber (l .extension) ≡ true → IsChain (g .pages) (vs .file (l .extension)) anyPage 0 claimed (first ls) ls → 0 < first ls
             → judgeEntry g vs (suc (g .pages)) sub here claimed p seen (fileEntry l ls) ≡ ok (chain ls)
         unfolding judgeEntry judgeFile
@@ -133,8 +137,17 @@ module _ (g : Geometry) (valid : Valid g) where
               then-ok,
             )
 
+      -- ---- stamps before an entry
+      stamps-complete : (ss : List Entry) → Stamps (g .width) ss → (claimed : List ℕ) (p : ℕ) (seen : List ℕ) (e : Entry) (ts : List Token) (t : Items)
+          → judgeEntries g vs (suc (g .pages)) sub here claimed p seen (entry e ∷ ts) ≡ ok t
+          → judgeEntries g vs (suc (g .pages)) sub here claimed p seen (stampTokens ss (entry e ∷ ts)) ≡ ok (stampAll ss t)
+      unfolding judgeEntries
+      stamps-complete [] k claimed p seen e ts t q = q
+      stamps-complete (s ∷ ss) k claimed p seen e ts t q =
+          simp (k .0, choose-true, stamps-followed ss e ts, refuse-true, then-ok, stamps-complete ss (k .2) claimed p seen e ts t q)
+
       -- ---- a directory's entries; page 0 is claimed, so it is no start page and no pointer
-      entries-complete : (t : Items) (claimed : List ℕ) (p : ℕ) (seen : List ℕ) → Entries levels t → ((x : ℕ) → count x (keys t) + count x seen ≤ 1)
+      entries-complete : (t : Items) (claimed : List ℕ) (p : ℕ) (seen : List ℕ) → Entries (g .width) levels t → ((x : ℕ) → count x (keys t) + count x seen ≤ 1)
           → HasBelow g vs here t → 1 ≤ count 0 claimed → ((x : ℕ) → count x (innerPages t) + count x claimed ≤ count x (range (g .pages)))
           → judgeEntries g vs (suc (g .pages)) sub here claimed p seen (tokens t) ≡ ok t
       unfolding judgeEntries
@@ -157,7 +170,10 @@ module _ (g : Geometry) (valid : Valid g) where
           let k = file-complete claimed p seen l (w .0) u ls (w .1) j (omega arith) in
           let i = entries-complete t (pages ls ++ claimed) p (keyOf l ∷ seen) (w .3) (λ x. omega (arith, o x)) (r .1)
           (omega (arith, c′ 0)) (λ x. omega (arith, f x, c x, c′ x)) in
-          simp (k, then-ok, i)
+          let e = fileEntry l ls in
+          let q : judgeEntries g vs (suc (g .pages)) sub here claimed p seen (entry e ∷ tokens t) ≡ ok (file (withStamps [] l) ls t) =
+          simp (valid-plain e (w .0 .valid), choose-false, k, then-ok, i) in
+          stamps-complete (l .stamps) (w .0 .stamps) claimed p seen e (tokens t) (file (withStamps [] l) ls t) q ∙ ap ok (all-file (l .stamps) l ls t)
       entries-complete (dir l d t) claimed p seen w o r z f =
           let c : (x : ℕ) → count x (innerPages (dir l d t)) ≡ count x (allPages d) + count x (innerPages t) = λ x. simp count-append (omega arith) in
           let c′ : (x : ℕ) → count x (allPages d ++ claimed) ≡ count x (allPages d) + count x claimed = λ x. count-append x (allPages d) claimed in
@@ -174,7 +190,10 @@ module _ (g : Geometry) (valid : Valid g) where
           let k = sub-entry-complete claimed p seen l (w .0) u d (w .1) j z in
           let i = entries-complete t (allPages d ++ claimed) p (keyOf l ∷ seen) (w .5) (λ x. omega (arith, o x)) (r .2)
           (omega (arith, c′ 0)) (λ x. omega (arith, f x, c x, c′ x)) in
-          simp (k, then-ok, i)
+          let e = directoryEntry l d in
+          let q : judgeEntries g vs (suc (g .pages)) sub here claimed p seen (entry e ∷ tokens t) ≡ ok (dir (withStamps [] l) d t) =
+          simp (valid-plain e (w .0 .valid), choose-false, k, then-ok, i) in
+          stamps-complete (l .stamps) (w .0 .stamps) claimed p seen e (tokens t) (dir (withStamps [] l) d t) q ∙ ap ok (all-dir (l .stamps) l d t)
 
       -- ---- a directory
       pub directory-complete : (test : Test) (control : List ℕ) → LaterWhole g test → FirstPasses g test control → length control ≡ controlSize g

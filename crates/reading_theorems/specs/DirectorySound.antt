@@ -17,12 +17,13 @@ use Rattle.rules.specs.PageSets.{count, range, Once, Within}
 use Rattle.rules.specs.PageSetLaws.{count-append, free-test}
 use Rattle.rules.specs.Chain.{Views, Link, link, pages, first, linked, Test, anyPage}
 use Rattle.rules.specs.ChainLaws.{Passes, IsChain, walk-sound}
-use Rattle.rules.specs.Names.{key, validName, fileNumber, directoryNumber}
-use Rattle.rules.specs.Tree.{labelOf, Items, startOf, ownPages, innerPages, allPages, keys}
+use Rattle.rules.specs.Names.{key, validName, fileNumber, directoryNumber, extended}
+use Rattle.rules.specs.Tree.{Label, labelOf, Items, end, page, file, dir, startOf, ownPages, innerPages, allPages, keys}
 use Rattle.rules.specs.Tree.{Token, newPage, entry, tokens, tokenLinks, directoryLinks, linkTokens}
 use Rattle.rules.specs.Control.{Parent, subControl, subPage}
-use Rattle.rules.specs.WellFormed.{HasPackets, HasBelow, Named, Entries}
-use Rattle.rules.specs.Check.{Part, chain, directory, partPages, add, Judge, judgeFile, judgeEntry, judgeEntries, judgeDirectory, judgeSub}
+use Rattle.rules.specs.WellFormed.{HasPackets, HasBelow, EntryFits, Named, Entries}
+use Rattle.rules.specs.Check.{Part, chain, directory, partPages, add, stampLabel, stamp, followed, Judge, judgeFile, judgeEntry, judgeEntries, judgeDirectory, judgeSub}
+use Rattle.rules.specs.StampLaws.{stamp-tokens, stamp-keys, stamp-inner}
 use Rattle.reading_theorems.specs.TokenLaws.{TokensFit, WholePages, Opens, links-begin, links-fit, links-back}
 use Rattle.reading_theorems.specs.LabelLaws.{label-sound}
 use Rattle.reading_theorems.specs.PacketLaws.{ByteView}
@@ -35,7 +36,7 @@ module _ (g : Geometry) (vs : Views) where
   pub record EntriesHold (levels : ℕ) (here : Parent) (claimed seen : List ℕ) (ts : List Token) (t : Items) : Type 0 where
     pub shape : tokens t ≡ ts
     pub names : (x : ℕ) → count x (keys t) + count x seen ≤ 1
-    pub entries : Entries levels t
+    pub entries : Entries (g .width) levels t
     pub below : HasBelow g vs here t
     pub clear : (x : ℕ) → count x (innerPages t) + count x claimed ≤ count x (range (g .pages))
 
@@ -81,7 +82,7 @@ module _ (g : Geometry) (vs : Views) where
     part-clear (directory d) h z = omega (arith, count-append z (allPages d) claimed, h .0 .clear z)
 
     -- ---- one entry more in front
-    hold-add : (seen : List ℕ) (x : Part) (ts : List Token) (t : Items) → Named (labelOf e) → PartHolds levels here claimed e x
+    hold-add : (seen : List ℕ) (x : Part) (ts : List Token) (t : Items) → Named (g .width) (labelOf e) → PartHolds levels here claimed e x
         → EntriesHold levels here (partPages x ++ claimed) (key (e .name) (e .extension) ∷ seen) ts t
         → EntriesHold levels here claimed seen (entry e ∷ ts) (add e x t)
     hold-add seen (chain ls) ts t n h i = record {
@@ -102,6 +103,33 @@ module _ (g : Geometry) (vs : Views) where
           clear = λ z. simp count-append (omega (arith, simp count-append at (i .clear z)));
         }
 
+  -- ---- one stamp more in front
+  module _ (levels : ℕ) (here : Parent) (s : Entry) where
+    stamp-named : (l : Label) → extended s ≡ true → EntryFits (g .width) s → Named (g .width) l → Named (g .width) (stampLabel s l)
+    stamp-named l x f n = record { four = n .four; valid = n .valid; byte = n .byte; stamps = (x, f, n .stamps) }
+
+    stamp-entries : (t : Items) → extended s ≡ true → EntryFits (g .width) s → Entries (g .width) levels t → Entries (g .width) levels (stamp s t)
+    stamp-entries end x f w = w
+    stamp-entries (page p t) x f w = w
+    stamp-entries (file l ls t) x f w = (stamp-named l x f (w .0), w .1, w .2, w .3)
+    stamp-entries (dir l d t) x f w = (stamp-named l x f (w .0), w .1, w .2, w .3, w .4, w .5)
+
+    stamp-below : (t : Items) → HasBelow g vs here t → HasBelow g vs here (stamp s t)
+    stamp-below end h = h
+    stamp-below (page p t) h = h
+    stamp-below (file l ls t) h = h
+    stamp-below (dir l d t) h = h
+
+    hold-stamp : (claimed seen : List ℕ) (ts : List Token) (t : Items) → extended s ≡ true → EntryFits (g .width) s → followed ts ≡ true
+        → EntriesHold levels here claimed seen ts t → EntriesHold levels here claimed seen (entry s ∷ ts) (stamp s t)
+    hold-stamp claimed seen ts t x f c i = record {
+      shape = stamp-tokens s t (rw (i .shape) c) ∙ ap (λ (l : List Token). entry s ∷ l) (i .shape);
+      names = rw (stamp-keys s t) (i .names);
+      entries = stamp-entries t x f (i .entries);
+      below = stamp-below t (i .below);
+      clear = rw (stamp-inner s t) (i .clear);
+    }
+
   module _ (levels : ℕ) (sub : Judge) (h : SubSound levels sub) (here : Parent) where
     pub entries-sound : (ts : List Token) (claimed : List ℕ) (p : ℕ) (seen : List ℕ) (t : Items) → Within (g .pages) claimed → Once seen
         → TokensFit (g .width) ts → judgeEntries g vs (suc (g .pages)) sub here claimed p seen ts ≡ ok t → EntriesHold levels here claimed seen ts t
@@ -113,13 +141,17 @@ module _ (g : Geometry) (vs : Views) where
         let s = ap (λ (l : List Token). newPage p′ ∷ l) (i .shape) in
         subst (EntriesHold levels here claimed seen (newPage p′ ∷ ts)) (ok-inj q)
         (record { shape = s; names = i .names; entries = i .entries; below = i .below; clear = i .clear })
-    entries-sound (entry e ∷ ts) claimed p seen t fit o f q = on-then _ _ _ q λ x d q. on-then _ _ _ q λ u w q.
+    entries-sound (entry e ∷ ts) claimed p seen t fit o f q = on-choose _ _ _ _ q
+        (λ b q. on-refuse _ _ _ _ _ q λ c q. on-then _ _ _ q λ u w q.
+        let i = entries-sound ts claimed p seen u fit o (f .1) w in
+        subst (EntriesHold levels here claimed seen (entry e ∷ ts)) (ok-inj q) (hold-stamp levels here e claimed seen ts u b (f .0) c i))
+        (λ b q. on-then _ _ _ q λ x d q. on-then _ _ _ q λ u w q.
         let k = key (e .name) (e .extension) in
         let j = entry-sound levels here claimed e sub h p seen x fit d in
         let c = part-clear levels here claimed e x (j .2) in
         let i = entries-sound ts (partPages x ++ claimed) p (k ∷ seen) u c (once-cons k seen (j .1) o) (f .1) w in
         subst (EntriesHold levels here claimed seen (entry e ∷ ts)) (ok-inj q)
-        (hold-add levels here claimed e seen x ts u (record { four = f .0 .four; valid = j .0; byte = f .0 .byte }) (j .2) i)
+        (hold-add levels here claimed e seen x ts u (record { four = f .0 .four; valid = j .0; byte = f .0 .byte; stamps = tt }) (j .2) i))
 
   -- ---- a directory: its pages are bytes with whole entries, and its entries hold
   module _ (bv : ByteView g (vs .pages)) where

@@ -11,14 +11,8 @@ use Rattle.geometry.specs.Number.{number, numberBytes, Bytes}
 use Rattle.geometry.specs.NumberLaws.{length-number, number-of, bytes-drop}
 use Rattle.rules.specs.declared.Entry.{Entry}
 use Rattle.rules.specs.Names.{entryOf, entryBytes}
+use Rattle.rules.specs.WellFormed.{EntryFits}
 use Rattle.reading_theorems.specs.ByteLaws.{number-back, number-front, number-fits, byte-at}
-
--- the numbers of an entry fit its fields
-pub record EntryFits (n : ℕ) (e : Entry) : Type 0 where
-  pub four : e .name < 256 ^ 4
-  pub byte : e .extension < 256
-  pub start : e .start < 256 ^ n
-  pub pages : e .pages < 256 ^ n
 
 pub entry-size : (g : Geometry) → entrySize g ≡ 5 + 2 * g .width
 unfolding entrySize

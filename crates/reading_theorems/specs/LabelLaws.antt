@@ -5,13 +5,13 @@ use mathlib.Core.List.{List, [], _∷_}
 use Prim.Native.Nat.{ℕ, _%_, _≤_}
 use native.Mathlib.Omega.{arith}
 use lib.Dec.{leb}
-use borrow.Author.Tests.{leb-true, ltb-true, le-leb, ne-eqb}
+use borrow.Author.Tests.{leb-true, ltb-true, le-ltb, ne-eqb}
 use Rattle.rules.specs.declared.Entry.{Entry}
 use Rattle.rules.specs.Result.{ok}
 use Rattle.rules.specs.ResultLaws.{on-refuse, refuse-inv, then-ok, refuse-true}
 use Rattle.rules.specs.PageSets.{count, mem}
 use Rattle.rules.specs.PageSetLaws.{same, other, hits}
-use Rattle.rules.specs.Names.{signs, nameByte, validName, fileNumber, directoryNumber}
+use Rattle.rules.specs.Names.{signs, nameByte, validName, fileNumber, directoryNumber, extended}
 use Rattle.rules.specs.Check.{judgeLabel}
 use Rattle.geometry.specs.BoolLaws.{both, on-either, right-fails}
 
@@ -32,10 +32,14 @@ name-byte c e = on-either (leb 65 c && leb c 90) ((leb 48 c && leb c 57) || mem 
     (λ r. omega (arith, leb-true c 57 (both (leb 48 c) (leb c 57) r .1)))
     (λ r. at-most 127 c signs (omega arith) (ltb-true 0 (count c signs) r)))
 
--- a valid name's first byte is no fault 10
+-- a valid name is no stamp's
 pub name-low : (name : ℕ) → validName name ≡ true → name % 256 ≤ 127
 unfolding validName
 name-low name e = name-byte (name % 256) (both _ _ e .0)
+
+pub valid-plain : (e : Entry) → validName (e .name) ≡ true → extended e ≡ false
+unfolding extended
+valid-plain e v = le-ltb 127 (e .name % 256) (name-low (e .name) v)
 
 -- ---- extension numbers
 pub file-no-directory : (x : ℕ) → fileNumber x ≡ true → directoryNumber x ≡ false
@@ -46,9 +50,9 @@ file-no-directory x e = ne-eqb (x % 128) 127 (λ q. omega (arith, leb-true (x % 
 pub label-sound : (p : ℕ) (e : Entry) → judgeLabel p e ≡ ok tt
     → (validName (e .name) ≡ true) × (directoryNumber (e .extension) ≡ false → fileNumber (e .extension) ≡ true)
 unfolding judgeLabel
-label-sound p e q = on-refuse _ _ _ _ _ q λ g₁ q. on-refuse _ _ _ _ _ q λ g₂ q. (g₂, right-fails _ _ (refuse-inv _ _ _ _ q))
+label-sound p e q = on-refuse _ _ _ _ _ q λ g₁ q. (g₁, right-fails _ _ (refuse-inv _ _ _ _ q))
 
 pub label-complete : (p : ℕ) (e : Entry) → validName (e .name) ≡ true → (fileNumber (e .extension) || directoryNumber (e .extension)) ≡ true
     → judgeLabel p e ≡ ok tt
 unfolding judgeLabel
-label-complete p e v x = simp (le-leb (e .name % 256) 127 (name-low (e .name) v), v, x, refuse-true, then-ok)
+label-complete p e v x = simp (v, x, refuse-true, then-ok)

@@ -13,14 +13,19 @@ use Rattle.geometry.specs.NumberLaws.{bytes-drop}
 use Rattle.rules.specs.declared.Entry.{Entry}
 use Rattle.rules.specs.Chain.{Link, link}
 use Rattle.rules.specs.Names.{entryBytes}
-use Rattle.rules.specs.Tree.{Token, newPage, entry, tokenBytes, tokenLinks, entriesIn, linkTokens}
-use Rattle.reading_theorems.specs.EntryLaws.{EntryFits, entry-size, length-entry, entry-back, entry-bytes, entry-fits}
+use Rattle.rules.specs.Tree.{Token, newPage, entry, stampTokens, tokenBytes, tokenLinks, entriesIn, linkTokens}
+use Rattle.rules.specs.WellFormed.{EntryFits, Stamps}
+use Rattle.reading_theorems.specs.EntryLaws.{entry-size, length-entry, entry-back, entry-bytes, entry-fits}
 
 -- the numbers of every entry fit
 abbrev pub TokensFit : ℕ → List Token → Type 0
 TokensFit n [] = Unit {0}
 TokensFit n (newPage p ∷ ts) = TokensFit n ts
 TokensFit n (entry e ∷ ts) = EntryFits n e × TokensFit n ts
+
+pub stamps-fit : (n : ℕ) (ss : List Entry) (ts : List Token) → Stamps n ss → TokensFit n ts → TokensFit n (stampTokens ss ts)
+stamps-fit n [] ts h f = f
+stamps-fit n (s ∷ ss) ts h f = (h .1, stamps-fit n ss ts (h .2) f)
 
 -- the entries before the next page, and what comes from that page on
 abbrev pub leading : List Token → List Token
@@ -46,6 +51,12 @@ module _ (g : Geometry) where
   length-tokens (entry e ∷ ts) =
       length-append (entryBytes (g .width) e) (tokenBytes (g .width) ts) ∙ ap₂ (λ (x y : ℕ). x + y) (length-entry g e) (length-tokens ts)
       ∙ add-comm (entrySize g) (length (leading ts) * entrySize g) ∙ sym (suc-mul (length (leading ts)) (entrySize g))
+
+  -- stamps take their slots
+  pub length-stamps : (ss : List Entry) (ts : List Token) → length (tokenBytes (g .width) (stampTokens ss ts)) ≡ length ss * entrySize g + length (tokenBytes (g .width) ts)
+  length-stamps [] ts = omega arith
+  length-stamps (s ∷ ss) ts = length-append (entryBytes (g .width) s) (tokenBytes (g .width) (stampTokens ss ts))
+      ∙ omega (arith, length-entry g s, length-stamps ss ts, suc-mul (length ss) (entrySize g))
 
   -- the entries of a page are whole
   pub whole-tokens : (ts : List Token) → length (tokenBytes (g .width) ts) % entrySize g ≡ 0

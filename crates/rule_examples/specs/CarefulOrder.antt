@@ -5,31 +5,20 @@ use mathlib.Core.List.{List, [], _∷_, _++_, map}
 use Prim.Native.Nat.{ℕ, zero, suc}
 use lib.ListN.{getD, take, drop, replicate}
 use native.Mathlib.Omega.{arith}
-use Rattle.crc16.specs.Crc16.{flipBit, bitStep, bitSteps, byteStep, crc16}
-use Rattle.geometry.specs.Choose.{choose}
-use Rattle.geometry.specs.Geometry.{widthFor, right, geometryOf, dataCapacity, entrySize, controlSize, firstEntries, laterEntries, bitmapSize}
-use Rattle.geometry.specs.Page.{pageOf, withPage}
-use Rattle.packet.specs.Packet.{Write, write, checkOf, pointerOf, isPacket, packetOf, viewOf, packetBytes, written, writePage, afterWrites, unchanged, made}
+use Rattle.packet.specs.Packet.{Write, write, afterWrites, made}
 use Rattle.rules.specs.declared.WriteCount.{WriteCount}
-use Rattle.rules.specs.Result.{Res, ok, err, andThen, refuse-unless}
-use Rattle.rules.specs.PageSets.{hit, bit, freePages}
-use Rattle.rules.specs.Chain.{viewsOf, packetAt, anyPage, walk}
-use Rattle.rules.specs.Names.{nameByte, validName, fileNumber, directoryNumber}
-use Rattle.rules.specs.Tree.{width}
-use Rattle.rules.specs.Control.{marker, rootControl, subControl, headOf, wholeEntries, rootPage, subPage}
-use Rattle.rules.specs.Bitmap.{bitAt, lowestDifference, bitmapFrom}
-use Rattle.rules.specs.Check.{judgeBits, judgeLabel, judgeFile, judgeEntry, judgeEntries, judgeDirectory, judgeSub, judgeMap, scan, check, scanWith, judgeMapFile}
-use Rattle.rules.specs.Paths.{pathOf, directoryAt, targetOf}
-use Rattle.rules.specs.Writes.{edited, editWrites}
-use Rattle.rules.specs.Format.{emptyImage, formatWrites, format}
-use Rattle.rules.specs.Put.{writable, putTarget, keptPages, extraPages, itemsAfter, putEdit, plainEdit, put}
-use Rattle.rules.specs.Delete.{present, deleteTarget, deleteEdit}
+use Rattle.rules.specs.Result.{Res, ok, err, andThen}
+use Rattle.rules.specs.PageSets.{bit}
+use Rattle.rules.specs.Chain.{viewsOf}
+use Rattle.rules.specs.Check.{check}
+use Rattle.rules.specs.Put.{put}
 use Rattle.rules.specs.Calls.{Effect}
-use Rattle.rules.specs.Careful.{haltedAt, bothMarked, carefulWrites, carefulPut, carefulDelete, allMendable, unowned, mendWrites, mend}
+use Rattle.rules.specs.Careful.{carefulPut, carefulDelete, mend}
 use Rattle.rules.specs.CarefulPromises.{MendDone, CarefullyPut, CarefullyDeleted}
 use Rattle.reading_theorems.specs.Accepted.{accepted}
 use Rattle.rule_examples.specs.Cases.{Case, g, DEMO, formatted, withDemo, numberOf, fileOf}
 use Rattle.rule_examples.specs.KeptBytes.{demo}
+use Rattle.rule_examples.specs.Opened.{rules}
 
 -- the bytes put in place of "TEST"
 abbrev GONE : List ℕ
@@ -89,12 +78,7 @@ orders =
     ∷ []
 
 pub all-in-order : map (λ (c : Case). c .given) orders ≡ map (λ (c : Case). c .printed) orders
-unfolding orders releasedEarly releasedFirst halfway fileOf formatted withDemo flipBit bitStep bitSteps byteStep crc16 choose widthFor right geometryOf dataCapacity entrySize controlSize firstEntries laterEntries bitmapSize
-    pageOf withPage checkOf pointerOf isPacket packetOf viewOf packetBytes written writePage afterWrites unchanged made andThen refuse-unless hit freePages packetAt anyPage walk
-    nameByte validName fileNumber directoryNumber width marker rootControl subControl headOf wholeEntries rootPage subPage bitAt lowestDifference bitmapFrom judgeBits judgeLabel
-    judgeFile judgeEntry judgeEntries judgeDirectory judgeSub judgeMap judgeMapFile scan scanWith check pathOf directoryAt targetOf edited editWrites emptyImage formatWrites format
-    writable putTarget keptPages extraPages itemsAfter putEdit plainEdit put present deleteTarget deleteEdit haltedAt bothMarked carefulWrites carefulPut carefulDelete
-    allMendable unowned mendWrites mend
+unfolding rules orders releasedEarly releasedFirst halfway fileOf formatted withDemo
 all-in-order = refl
 
 -- ---- what a careful put may leave, whatever number of writes is allowed: a new page is marked before it is written, and page 1 keeps its bytes
@@ -113,12 +97,7 @@ leftBy (err n p) = []
 
 -- marks without page 2 and bytes in page 2 do not go together
 pub marked-first : (k : ℕ) → (firstOf (leftBy (carefulPut g k DEMO GONE demo)) ≡ 0x54) × ((marksOf (leftBy (carefulPut g k DEMO GONE demo)) ≡ 3 → ⊥) ⊎ (secondOf (leftBy (carefulPut g k DEMO GONE demo)) ≡ 0xFF))
-unfolding formatted withDemo flipBit bitStep bitSteps byteStep crc16 choose widthFor right geometryOf dataCapacity entrySize controlSize firstEntries laterEntries bitmapSize
-    pageOf withPage checkOf pointerOf isPacket packetOf viewOf packetBytes written writePage afterWrites unchanged made andThen refuse-unless hit freePages packetAt anyPage walk
-    nameByte validName fileNumber directoryNumber width marker rootControl subControl headOf wholeEntries rootPage subPage bitAt lowestDifference bitmapFrom judgeBits judgeLabel
-    judgeFile judgeEntry judgeEntries judgeDirectory judgeSub judgeMap judgeMapFile scan scanWith check pathOf directoryAt targetOf edited editWrites emptyImage formatWrites format
-    writable putTarget keptPages extraPages itemsAfter putEdit plainEdit put present deleteTarget deleteEdit haltedAt bothMarked carefulWrites carefulPut carefulDelete
-    allMendable unowned mendWrites mend
+unfolding rules formatted withDemo
 marked-first zero = (refl, inr refl)
 marked-first (suc zero) = (refl, inr refl)
 marked-first (suc (suc zero)) = (refl, inl (λ e. absurd (omega arith)))

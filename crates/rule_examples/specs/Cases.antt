@@ -4,28 +4,19 @@ use mathlib.Core.Bool.{true}
 use mathlib.Core.List.{List, [], _∷_, map}
 use Prim.Native.Nat.{ℕ, _+_}
 use lib.ListN.{take, drop, replicate}
-use Rattle.crc16.specs.Crc16.{flipBit, bitStep, bitSteps, byteStep, crc16}
 use Rattle.geometry.specs.declared.Geometry.{Geometry}
-use Rattle.geometry.specs.Choose.{choose}
-use Rattle.geometry.specs.Geometry.{widthFor, right, geometryOf, dataCapacity, entrySize, controlSize, firstEntries, laterEntries, bitmapSize}
 use Rattle.geometry.specs.Number.{numberBytes}
-use Rattle.geometry.specs.Page.{pageOf, withPage}
-use Rattle.packet.specs.Packet.{checkOf, pointerOf, isPacket, packetOf, viewOf, packetBytes, written, writePage, afterWrites}
-use Rattle.rules.specs.Result.{Res, ok, err, andThen, refuse-unless}
-use Rattle.rules.specs.PageSets.{hit, freePages}
-use Rattle.rules.specs.Chain.{viewsOf, packetAt, anyPage, walk}
-use Rattle.rules.specs.Names.{nameByte, validName, fileNumber, directoryNumber}
+use Rattle.packet.specs.Packet.{checkOf}
+use Rattle.rules.specs.Result.{Res, ok, err, andThen}
+use Rattle.rules.specs.Chain.{viewsOf}
 use Rattle.rules.specs.Tree.{width}
-use Rattle.rules.specs.Control.{marker, rootControl, subControl, headOf, wholeEntries, rootPage, subPage}
-use Rattle.rules.specs.Bitmap.{bitAt, lowestDifference, bitmapFrom}
-use Rattle.rules.specs.Check.{judgeBits, judgeLabel, judgeFile, judgeEntry, judgeEntries, judgeDirectory, judgeSub, judgeMap, scan, check, scanWith, judgeMapFile}
+use Rattle.rules.specs.Check.{check}
 use Rattle.rules.specs.Owners.{totals}
 use Rattle.rules.specs.Listing.{linesOf, lineAt}
-use Rattle.rules.specs.Paths.{pathOf, directoryAt, targetOf}
-use Rattle.rules.specs.Writes.{edited, editWrites}
-use Rattle.rules.specs.Format.{emptyImage, formatWrites, format}
-use Rattle.rules.specs.Put.{writable, putTarget, keptPages, extraPages, itemsAfter, putEdit, plainEdit, put}
-use Rattle.rules.specs.Delete.{present, deleteTarget, deleteEdit, delete}
+use Rattle.rules.specs.Format.{format}
+use Rattle.rules.specs.Put.{put}
+use Rattle.rules.specs.Delete.{delete}
+use Rattle.rule_examples.specs.Opened.{rules}
 
 -- P 32 and N pages
 abbrev pub sizes : ℕ → Geometry
@@ -124,9 +115,5 @@ cases =
     ∷ []
 
 pub all-as-printed : map (λ (c : Case). c .given) cases ≡ map (λ (c : Case). c .printed) cases
-unfolding cases formatted withDemo without usedIn entryPages fileOf threeFiles fourFiles flipBit bitStep bitSteps byteStep crc16 choose widthFor right geometryOf dataCapacity
-    entrySize controlSize firstEntries laterEntries bitmapSize pageOf withPage checkOf pointerOf isPacket packetOf viewOf packetBytes written writePage afterWrites andThen
-    refuse-unless hit freePages packetAt anyPage walk nameByte validName fileNumber directoryNumber width marker rootControl subControl headOf wholeEntries rootPage subPage bitAt
-    lowestDifference bitmapFrom judgeBits judgeLabel judgeFile judgeEntry judgeEntries judgeDirectory judgeSub judgeMap judgeMapFile scan scanWith check lineAt pathOf directoryAt
-    targetOf edited editWrites emptyImage formatWrites format writable putTarget keptPages extraPages itemsAfter putEdit plainEdit put present deleteTarget deleteEdit delete
+unfolding rules cases formatted withDemo without usedIn entryPages fileOf threeFiles fourFiles
 all-as-printed = refl

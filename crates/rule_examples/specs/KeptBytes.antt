@@ -3,29 +3,22 @@ use mathlib.Core.Path.{_≡_, refl, ap, _∙_, subst}
 use mathlib.Core.List.{List, [], _∷_}
 use Prim.Native.Nat.{ℕ}
 use lib.ListN.{take, drop}
-use Rattle.crc16.specs.Crc16.{flipBit, bitStep, bitSteps, byteStep, crc16}
-use Rattle.geometry.specs.Choose.{choose}
-use Rattle.geometry.specs.Geometry.{dataCapacity, entrySize, controlSize, firstEntries, laterEntries, bitmapSize}
-use Rattle.geometry.specs.Page.{pageOf, withPage}
-use Rattle.packet.specs.Packet.{checkOf, pointerOf, isPacket, packetOf, viewOf, packetBytes, written, writePage, afterWrites, unchanged, made}
-use Rattle.rules.specs.Result.{Res, ok, andThen, refuse-unless}
+use Rattle.geometry.specs.Page.{pageOf}
+use Rattle.packet.specs.Packet.{made}
+use Rattle.rules.specs.Result.{Res, ok, andThen}
 use Rattle.rules.specs.ResultLaws.{ok-inj, then-ok}
-use Rattle.rules.specs.PageSets.{hit, freePages}
-use Rattle.rules.specs.Chain.{viewsOf, packetAt, anyPage, walk}
-use Rattle.rules.specs.Names.{nameByte, validName, fileNumber, directoryNumber}
-use Rattle.rules.specs.Tree.{width, Image, used}
-use Rattle.rules.specs.Control.{marker, rootControl, subControl, headOf, wholeEntries, rootPage, subPage}
-use Rattle.rules.specs.Bitmap.{bitAt, lowestDifference, bitmapFrom, bitmapOf}
-use Rattle.rules.specs.Check.{judgeBits, judgeLabel, judgeFile, judgeEntry, judgeEntries, judgeDirectory, judgeSub, judgeMap, judgeMapFile, scan, scanWith, check}
-use Rattle.rules.specs.Paths.{pathOf, directoryAt, Target, targetOf}
+use Rattle.rules.specs.Chain.{viewsOf}
+use Rattle.rules.specs.Tree.{Image, used}
+use Rattle.rules.specs.Bitmap.{bitmapOf}
+use Rattle.rules.specs.Check.{check}
+use Rattle.rules.specs.Paths.{Target, targetOf}
 use Rattle.rules.specs.TargetLaws.{target-is}
 use Rattle.rules.specs.Writes.{edited, editWrites}
-use Rattle.rules.specs.Format.{emptyImage, formatWrites, format}
-use Rattle.rules.specs.Put.{writable, putTarget, keptPages, extraPages, itemsAfter, putEdit, plainEdit, put}
 use Rattle.rules.specs.Delete.{deleteEdit}
 use Rattle.rules.specs.Demand2.{reach, Deleted}
 use Rattle.reading_theorems.specs.Accepted.{accepted}
 use Rattle.rule_examples.specs.Cases.{g, DEMO, formatted, withDemo, shown}
+use Rattle.rule_examples.specs.Opened.{rules}
 
 -- the image of example 3
 abbrev pub demo : List ℕ
@@ -42,11 +35,7 @@ after i x = edited g (x .to .directories) (deleteEdit (x .to) (x .place)) i
 computed : _≡_ {A = Res ℕ × List ℕ}
     (andThen (check g (viewsOf g demo)) (λ i. andThen (targetOf DEMO (i .tree)) (λ x. ok (endOf i x (after i x)))), take 7 (drop 11 (pageOf g 0 demo)))
     (ok 11, 0x4F ∷ 0x0C ∷ 0x01 ∷ 0x01 ∷ 0x00 ∷ 0x73 ∷ 0xA5 ∷ [])
-unfolding formatted withDemo flipBit bitStep bitSteps byteStep crc16 choose dataCapacity entrySize controlSize firstEntries laterEntries bitmapSize pageOf withPage checkOf
-    pointerOf isPacket packetOf viewOf packetBytes written writePage afterWrites andThen refuse-unless hit freePages packetAt anyPage walk nameByte validName fileNumber
-    directoryNumber width marker rootControl subControl headOf wholeEntries rootPage subPage bitAt lowestDifference bitmapFrom judgeBits judgeLabel judgeFile judgeEntry
-    judgeEntries judgeDirectory judgeSub judgeMap judgeMapFile scan scanWith check pathOf directoryAt targetOf unchanged made edited editWrites emptyImage formatWrites format
-    writable putTarget keptPages extraPages itemsAfter putEdit plainEdit put deleteEdit
+unfolding rules formatted withDemo
 computed = refl
 
 pub kept-bytes : (left : List ℕ) → Deleted g DEMO demo left → take 7 (drop 11 (pageOf g 0 left)) ≡ 0x4F ∷ 0x0C ∷ 0x01 ∷ 0x01 ∷ 0x00 ∷ 0x73 ∷ 0xA5 ∷ []

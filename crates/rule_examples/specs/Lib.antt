@@ -1,4 +1,6 @@
+pub mod Opened
 pub mod Cases
 pub mod KeptBytes
 pub mod CarefulOrder
 pub mod OwnerRecords
+pub mod OwnerStamps

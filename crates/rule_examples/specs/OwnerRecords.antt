@@ -3,25 +3,14 @@ use mathlib.Core.Path.{_≡_, refl}
 use mathlib.Core.List.{List, [], _∷_, _++_}
 use Prim.Native.Nat.{ℕ}
 use lib.ListN.{replicate}
-use Rattle.crc16.specs.Crc16.{flipBit, bitStep, bitSteps, byteStep, crc16}
-use Rattle.geometry.specs.Choose.{choose}
-use Rattle.geometry.specs.Geometry.{widthFor, right, geometryOf, dataCapacity, entrySize, controlSize, firstEntries, laterEntries, bitmapSize}
-use Rattle.geometry.specs.Page.{pageOf, withPage}
-use Rattle.packet.specs.Packet.{write, checkOf, pointerOf, isPacket, packetOf, viewOf, packetBytes, written, writePage, afterWrites}
-use Rattle.rules.specs.Result.{Res, ok, err, andThen, refuse-unless}
-use Rattle.rules.specs.PageSets.{hit, freePages}
-use Rattle.rules.specs.Chain.{viewsOf, packetAt, anyPage, walk}
-use Rattle.rules.specs.Names.{nameByte, validName, fileNumber, directoryNumber}
-use Rattle.rules.specs.Tree.{width}
-use Rattle.rules.specs.Control.{marker, rootControl, subControl, headOf, wholeEntries, rootPage, subPage}
-use Rattle.rules.specs.Bitmap.{bitAt, lowestDifference, bitmapFrom}
-use Rattle.rules.specs.Check.{judgeBits, judgeLabel, judgeFile, judgeEntry, judgeEntries, judgeDirectory, judgeSub, judgeMap, scan, check, scanWith, judgeMapFile}
-use Rattle.rules.specs.Owners.{recordBytes, tableWith, tableAfter}
-use Rattle.rules.specs.Paths.{pathOf, directoryAt, targetOf}
-use Rattle.rules.specs.Writes.{edited, editWrites}
-use Rattle.rules.specs.Format.{emptyImage, formatWrites, format}
-use Rattle.rules.specs.Put.{writable, putTarget, keptPages, extraPages, itemsAfter, putEdit, plainEdit, put}
+use Rattle.packet.specs.Packet.{write, afterWrites}
+use Rattle.rules.specs.Result.{Res, ok, err, andThen}
+use Rattle.rules.specs.Chain.{viewsOf}
+use Rattle.rules.specs.Check.{check}
+use Rattle.rules.specs.Owners.{tableAfter}
+use Rattle.rules.specs.Put.{put}
 use Rattle.rule_examples.specs.Cases.{g, formatted, withDemo}
+use Rattle.rule_examples.specs.Opened.{rules}
 
 -- A.00 with 30 bytes, two pages, beside DEMO.12 in page 1
 unfoldable pub twoFiles : Res (List ℕ)
@@ -34,11 +23,7 @@ tableOf (err n p) = []
 
 -- page 0 the root's, page 1 of the first entry, pages 2 and 3 of the second, the others free; the byte past the table stays
 pub two-files : tableOf twoFiles ≡ (1 ∷ 0 ∷ 0 ∷ 0 ∷ 3 ∷ 0 ∷ 0 ∷ 0 ∷ 4 ∷ 0 ∷ 0 ∷ 0 ∷ 4 ∷ 0 ∷ 1 ∷ 0 ∷ []) ++ (replicate 48 0 ++ (9 ∷ []))
-unfolding twoFiles formatted withDemo flipBit bitStep bitSteps byteStep crc16 choose widthFor right geometryOf dataCapacity entrySize controlSize firstEntries laterEntries bitmapSize
-    pageOf withPage checkOf pointerOf isPacket packetOf viewOf packetBytes written writePage afterWrites andThen refuse-unless hit freePages packetAt anyPage walk nameByte validName
-    fileNumber directoryNumber width marker rootControl subControl headOf wholeEntries rootPage subPage bitAt lowestDifference bitmapFrom judgeBits judgeLabel judgeFile judgeEntry
-    judgeEntries judgeDirectory judgeSub judgeMap judgeMapFile scan scanWith check recordBytes tableWith tableAfter pathOf directoryAt targetOf edited editWrites emptyImage
-    formatWrites format writable putTarget keptPages extraPages itemsAfter putEdit plainEdit put
+unfolding rules twoFiles formatted withDemo
 two-files = refl
 
 -- a bitmap file on pages 9 and 2; F.00 on 5, 4 and 7; a directory D on 3 and 6 with G.00 on page 1
@@ -54,18 +39,10 @@ nested = afterWrites g (
 pub each-chain : tableOf (ok nested)
     ≡ (1 ∷ 0 ∷ 0 ∷ 0 ∷ 5 ∷ 0 ∷ 0 ∷ 0 ∷ 2 ∷ 0 ∷ 1 ∷ 0 ∷ 4 ∷ 0 ∷ 0 ∷ 0 ∷ 3 ∷ 0 ∷ 1 ∷ 0 ∷ 3 ∷ 0 ∷ 0 ∷ 0 ∷ 4 ∷ 0 ∷ 1 ∷ 0 ∷ 3 ∷ 0 ∷ 2 ∷ 0 ∷ 0 ∷ 0 ∷ 0 ∷ 0 ∷ 2 ∷ 0 ∷ 0 ∷ 0 ∷ [])
     ++ (replicate 24 0 ++ (9 ∷ []))
-unfolding nested formatted withDemo flipBit bitStep bitSteps byteStep crc16 choose widthFor right geometryOf dataCapacity entrySize controlSize firstEntries laterEntries bitmapSize
-    pageOf withPage checkOf pointerOf isPacket packetOf viewOf packetBytes written writePage afterWrites andThen refuse-unless hit freePages packetAt anyPage walk nameByte validName
-    fileNumber directoryNumber width marker rootControl subControl headOf wholeEntries rootPage subPage bitAt lowestDifference bitmapFrom judgeBits judgeLabel judgeFile judgeEntry
-    judgeEntries judgeDirectory judgeSub judgeMap judgeMapFile scan scanWith check recordBytes tableWith tableAfter pathOf directoryAt targetOf edited editWrites emptyImage
-    formatWrites format writable putTarget keptPages extraPages itemsAfter putEdit plainEdit put
+unfolding rules nested formatted withDemo
 each-chain = refl
 
 -- an image that is not accepted: all 0
 pub not-accepted : tableOf (ok (replicate 512 0)) ≡ replicate 64 0 ++ (9 ∷ [])
-unfolding formatted withDemo flipBit bitStep bitSteps byteStep crc16 choose widthFor right geometryOf dataCapacity entrySize controlSize firstEntries laterEntries bitmapSize
-    pageOf withPage checkOf pointerOf isPacket packetOf viewOf packetBytes written writePage afterWrites andThen refuse-unless hit freePages packetAt anyPage walk nameByte validName
-    fileNumber directoryNumber width marker rootControl subControl headOf wholeEntries rootPage subPage bitAt lowestDifference bitmapFrom judgeBits judgeLabel judgeFile judgeEntry
-    judgeEntries judgeDirectory judgeSub judgeMap judgeMapFile scan scanWith check recordBytes tableWith tableAfter pathOf directoryAt targetOf edited editWrites emptyImage
-    formatWrites format writable putTarget keptPages extraPages itemsAfter putEdit plainEdit put
+unfolding rules formatted withDemo
 not-accepted = refl

@@ -8,11 +8,12 @@ use Rattle.geometry.specs.declared.Geometry.{Geometry}
 use Rattle.geometry.specs.declared.Shape.the-variants.{Fits}
 use Rattle.geometry.specs.Geometry.{geometryOf}
 use Rattle.geometry.specs.Number.{Bytes}
+use Rattle.rules.specs.declared.Entry.{Entry}
 use Rattle.rules.specs.Result.{Res, ok}
 use Rattle.rules.specs.PageSets.{count}
 use Rattle.rules.specs.Chain.{viewsOf, Link, pages, content}
-use Rattle.rules.specs.Names.{attribute, entryBytes}
-use Rattle.rules.specs.Tree.{Label, fileEntry, directoryEntry, ownPages, Map, inRoot, inFile, Image, used}
+use Rattle.rules.specs.Names.{attribute}
+use Rattle.rules.specs.Tree.{Label, entry, stampTokens, tokenBytes, fileEntry, directoryEntry, ownPages, Map, inRoot, inFile, Image, used}
 use Rattle.rules.specs.Check.{check}
 use Rattle.rules.specs.Paths.{Path, fileKey, directoryKey, Found, nothing, aFile, aDirectory, find, Place, rootPlace, directoryAt}
 
@@ -46,7 +47,7 @@ lookUp (k ∷ ks) (aDirectory l d) = lookUp ks (find k d)
 
 -- the root as what no key leads to; it has no entry
 abbrev pub rootLabel : Label
-rootLabel = record { name = 0; extension = 0 }
+rootLabel = record { name = 0; extension = 0; stamps = [] }
 
 unfoldable pub atPath : List ℕ → Image → Found
 atPath ks i = lookUp ks (aDirectory rootLabel (i .tree))
@@ -57,11 +58,17 @@ chainPages nothing = []
 chainPages (aFile l ls) = pages ls
 chainPages (aDirectory l d) = ownPages d
 
--- the bytes of its entry
+-- the bytes of its entry, with the stamps before it
 abbrev pub foundEntry : Geometry → Found → List ℕ
 foundEntry g nothing = []
-foundEntry g (aFile l ls) = entryBytes (g .width) (fileEntry l ls)
-foundEntry g (aDirectory l d) = entryBytes (g .width) (directoryEntry l d)
+foundEntry g (aFile l ls) = tokenBytes (g .width) (stampTokens (l .stamps) (entry (fileEntry l ls) ∷ []))
+foundEntry g (aDirectory l d) = tokenBytes (g .width) (stampTokens (l .stamps) (entry (directoryEntry l d) ∷ []))
+
+-- its stamps
+abbrev pub stampsOf : Found → List Entry
+stampsOf nothing = []
+stampsOf (aFile l ls) = l .stamps
+stampsOf (aDirectory l d) = l .stamps
 
 -- there is a file or directory
 abbrev pub Exists : Found → Type 0
@@ -102,7 +109,7 @@ targetPath q = directoryKeys (q .directories)
 abbrev pub filePath : Path → List ℕ
 filePath q = targetPath q ++ (fileKey q ∷ [])
 
--- an entry is kept if it stands in the same directory with the same bytes, in any order
+-- an entry is kept if it stands in the same directory with the same bytes and the same stamps before it, in any order
 abbrev pub Kept : Geometry → List ℕ → Image → Image → Type 0
 Kept g ks old new = foundEntry g (atPath ks new) ≡ foundEntry g (atPath ks old)
 
@@ -120,8 +127,9 @@ pub record Candidate (g : Geometry) (old target path : List ℕ) (Asked : Found 
   pub was : Accepted g old before
   pub after : Image
   pub accepted : Accepted g new after
-  -- what is asked for stands at the path
+  -- what is asked for stands at the path; if something stood there, with its stamps
   pub stands : Asked (atPath path after)
+  pub stamped : Exists (atPath path before) → stampsOf (atPath path after) ≡ stampsOf (atPath path before)
   -- every other entry is kept: the entries are those with a path of at least one key
   pub kept : (k : ℕ) (ks : List ℕ) → (k ∷ ks ≡ path → ⊥) → Exists (atPath (k ∷ ks) before) → Kept g (k ∷ ks) before after
   -- every file and directory of the old image but the one at the path and the target has the pages it had, the target at least these

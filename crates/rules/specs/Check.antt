@@ -1,8 +1,8 @@
 -- Document 01, "Order of the check". The first fault met is the answer.
-use mathlib.Core.Bool.{not, _||_}
+use mathlib.Core.Bool.{Bool, true, false, not, _||_}
 use mathlib.Core.List.{List, [], _∷_, _++_}
-use Prim.Native.Nat.{ℕ, zero, suc, _*_, _%_}
-use lib.Dec.{leb, ltb, eqb}
+use Prim.Native.Nat.{ℕ, zero, suc, _*_}
+use lib.Dec.{ltb, eqb}
 use lib.ListN.{length}
 use Rattle.geometry.specs.declared.Geometry.{Geometry}
 use Rattle.geometry.specs.Choose.{choose}
@@ -11,8 +11,8 @@ use Rattle.rules.specs.declared.Entry.{Entry}
 use Rattle.rules.specs.Result.{Res, ok, err, andThen as _>>=_, andAfter as _>>_, refuse-unless}
 use Rattle.rules.specs.PageSets.{mem}
 use Rattle.rules.specs.Chain.{Views, Link, pages, content, packetAt, Test, anyPage, walk}
-use Rattle.rules.specs.Names.{validName, fileNumber, directoryNumber, key}
-use Rattle.rules.specs.Tree.{labelOf, Items, end, page, file, dir, Token, newPage, entry, linkTokens, allPages, Map, inRoot, inFile, mapPages, Image, used}
+use Rattle.rules.specs.Names.{validName, fileNumber, directoryNumber, key, extended}
+use Rattle.rules.specs.Tree.{Label, labelOf, Items, end, page, file, dir, Token, newPage, entry, linkTokens, allPages, Map, inRoot, inFile, mapPages, Image, used}
 use Rattle.rules.specs.Control.{Parent, theRoot, Head, headOf, mapStart, mapCount, rootPage, subPage}
 use Rattle.rules.specs.Bitmap.{lowestDifference}
 
@@ -29,6 +29,22 @@ abbrev pub add : Entry → Part → Items → Items
 add e (chain ls) t = file (labelOf e) ls t
 add e (directory d) t = dir (labelOf e) d t
 
+-- one stamp more, in front of the stamps of the entry that comes first
+abbrev pub stampLabel : Entry → Label → Label
+stampLabel s l = record { name = l .name; extension = l .extension; stamps = s ∷ l .stamps }
+
+abbrev pub stamp : Entry → Items → Items
+stamp s end = end
+stamp s (page p t) = page p t
+stamp s (file l ls t) = file (stampLabel s l) ls t
+stamp s (dir l d t) = dir (stampLabel s l) d t
+
+-- an entry comes next, in the same page
+unfoldable pub followed : List Token → Bool
+followed [] = false
+followed (newPage p ∷ ts) = false
+followed (entry e ∷ ts) = true
+
 -- how a subdirectory is judged: the directory that holds its entry, the claimed pages, the page of the entry, the entry
 abbrev pub Judge : Type 0
 Judge = Parent → List ℕ → ℕ → Entry → Res Items
@@ -42,10 +58,9 @@ rawBits h (inFile ls) = content ls
 unfoldable pub judgeBits : List ℕ → List ℕ → Res (Unit {0})
 judgeBits raw inUse = let d = lowestDifference raw inUse 0 (8 * length raw) in refuse-unless (eqb d (8 * length raw)) 13 d
 
--- an entry's first byte above 127 (10), name (9), extension number (10)
+-- a plain entry's name (9), extension number (10)
 unfoldable pub judgeLabel : ℕ → Entry → Res (Unit {0})
 judgeLabel p e = do
-  refuse-unless (leb (e .name % 256) 127) 10 p
   refuse-unless (validName (e .name)) 9 p
   refuse-unless (fileNumber (e .extension) || directoryNumber (e .extension)) 10 p
 
@@ -72,16 +87,19 @@ module _ (g : Geometry) (vs : Views) (fuel : ℕ) where
       d ← sub here claimed p e
       ok (directory d)) (judgeFile claimed p e)
 
-  -- a directory's entries in chain order
+  -- a directory's entries in chain order. An extended entry is the stamp of the entry after it in its page: with none there it is 10
   unfoldable pub judgeEntries : Judge → Parent → List ℕ → ℕ → List ℕ → List Token → Res Items
   judgeEntries sub here claimed p seen [] = ok end
   judgeEntries sub here claimed p seen (newPage q ∷ ts) = do
     t ← judgeEntries sub here claimed q seen ts
     ok (page q t)
-  judgeEntries sub here claimed p seen (entry e ∷ ts) = do
-    x ← judgeEntry sub here claimed p seen e
-    t ← judgeEntries sub here (partPages x ++ claimed) p (key (e .name) (e .extension) ∷ seen) ts
-    ok (add e x t)
+  judgeEntries sub here claimed p seen (entry e ∷ ts) = choose (extended e) (do
+    refuse-unless (followed ts) 10 p
+    t ← judgeEntries sub here claimed p seen ts
+    ok (stamp e t)) (do
+      x ← judgeEntry sub here claimed p seen e
+      t ← judgeEntries sub here (partPages x ++ claimed) p (key (e .name) (e .extension) ∷ seen) ts
+      ok (add e x t))
 
   -- a directory: its whole chain first, then its entries
   unfoldable pub judgeDirectory : Judge → Test → Parent → List ℕ → ℕ → Res Items

@@ -12,7 +12,7 @@ use Rattle.rules.specs.Paths.{Path, fileKey, Found, nothing, aFile, aDir
 use Rattle.rules.specs.Writes.{Edit}
 use Rattle.rules.specs.Put.{writable, plainEdit}
 
--- the entry under the key goes, a file's or a directory's; later entries of its page move up, the directory keeps its pages
+-- the entry under the key goes with its stamps, a file's or a directory's; later entries of its page move up, the directory keeps its pages
 abbrev pub remove : ℕ → Items → Items
 remove k end = end
 remove k (page p t) = page p (remove k t)

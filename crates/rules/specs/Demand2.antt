@@ -24,7 +24,7 @@ use Rattle.rules.specs.Format.{emptyImage, formatWrites}
 use Rattle.rules.specs.Put.{keptPages, extraPages, putEdit}
 use Rattle.rules.specs.Delete.{deleteEdit}
 use Rattle.rules.specs.Calls.{bytesOf}
-use Rattle.rules.specs.Candidate.{atPath, chainPages, foundEntry, reads, targetPath, filePath}
+use Rattle.rules.specs.Candidate.{atPath, chainPages, foundEntry, stampsOf, reads, targetPath, filePath}
 
 -- the image is well formed in the geometry that the sizes give
 pub record WellFormedAt (P N : ℕ) (image table : List ℕ) : Type 0 where
@@ -33,7 +33,7 @@ pub record WellFormedAt (P N : ℕ) (image table : List ℕ) : Type 0 where
   pub reading : Image
   pub formed : WellFormed geometry image reading
 
--- what a path shows: the bytes of its entry, the pages of its chain, what it reads, and what a read of it answers
+-- what a path shows: the bytes of its entry with its stamps, the pages of its chain, what it reads, and what a read of it answers
 pub record Shown : Type 0 where
   pub entry : List ℕ
   pub pages : List ℕ
@@ -83,7 +83,7 @@ pub record DeleteShows {g : Geometry} {path image : List ℕ} (at : PathIn g pat
   pub links : List Link
   pub was : atPath (filePath (at .to)) (at .before) ≡ aFile label links
   pub gone : atPath (filePath (at .to)) tree ≡ nothing
-  -- every other path shows what it showed: entry, pages, bytes
+  -- every other path shows what it showed: entry with its stamps, pages, bytes
   pub others : (ks : List ℕ) → (ks ≡ filePath (at .to) → ⊥) → shown g (atPath ks tree) ≡ shown g (atPath ks (at .before))
   -- the pages of its chain are free
   pub total : (x : ℕ) → count x (used tree) + count x (pages links) ≡ count x (used (at .before))
@@ -99,14 +99,15 @@ pub record Deleted (g : Geometry) (path image after : List ℕ) : Type 0 where
 
 -- what paths show in the tree after a put of bytes by an edit
 pub record PutShows {g : Geometry} {path image : List ℕ} (at : PathIn g path image) (bytes : List ℕ) (edit : Edit) (tree : Image) : Type 0 where
-  -- the path's file has the path's name and extension byte (0 to 99, so top bit clear), and reads the bytes
+  -- the path's file has the path's name and extension byte (0 to 99, so top bit clear), the stamps of the file that it replaces or none, and reads the bytes
   pub label : Label
   pub links : List Link
   pub file : atPath (filePath (at .to)) tree ≡ aFile label links
   pub name-is : label .name ≡ at .to .name
   pub extension-is : label .extension ≡ at .to .extension
+  pub stamps-are : label .stamps ≡ stampsOf (atPath (filePath (at .to)) (at .before))
   pub reads : content links ≡ bytes
-  -- every other path shows what it showed: entry, pages, bytes; of the target, its entry, and its pages with those that join it
+  -- every other path shows what it showed: entry with its stamps, pages, bytes; of the target, its entry, and its pages with those that join it
   pub others : (ks : List ℕ) → (ks ≡ filePath (at .to) → ⊥) → (ks ≡ targetPath (at .to) → ⊥) → shown g (atPath ks tree) ≡ shown g (atPath ks (at .before))
   pub target-label : Label
   pub target-before : atPath (targetPath (at .to)) (at .before) ≡ aDirectory target-label (at .place .items)

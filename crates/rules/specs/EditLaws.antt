@@ -4,6 +4,7 @@ use mathlib.Core.Logic.{inl, inr}
 use mathlib.Core.Bool.{Bool, true, false}
 use mathlib.Core.List.{List, [], _∷_, _++_}
 use Prim.Native.Nat.{ℕ, zero, suc, _+_, _-_, _≤_}
+use lib.ListN.{length}
 use native.Mathlib.Nat.{eq-zero-or-pos}
 use native.Mathlib.Omega.{arith}
 use lib.Dec.{eqb}
@@ -19,12 +20,12 @@ use Rattle.rules.specs.Put.{insert, isFull, replace}
 use Rattle.rules.specs.Delete.{remove}
 
 -- ---- an entry's slots
-pub width-one : (l : Label) → width l ≡ 1
+pub width-is : (l : Label) → width l ≡ suc (length (l .stamps))
 unfolding width
-width-one l = refl
+width-is l = refl
 
 pub width-some : (l : Label) → 1 ≤ width l
-width-some l = omega (arith, width-one l)
+width-some l = omega (arith, width-is l)
 
 -- ---- what stands under a key
 pub directory-no-file : {l m : Label} {d : Items} {ls : List Link} → aDirectory l d ≡ aFile m ls → ⊥

@@ -103,9 +103,10 @@ module _ (g : Geometry) (vs : Views) (fuel : ℕ) (enough : g .pages < fuel) whe
     entries-alike s here claimed p seen [] h low fit = alike refuses-ok
     entries-alike s here claimed p seen (newPage q ∷ ts) h low fit =
         alike-then _ _ _ _ (entries-alike s here claimed q seen ts (low q (omega (arith, hit-same q))) (λ z c. low z (omega (arith, c))) fit) λ t _. alike refuses-ok
-    entries-alike s here claimed p seen (entry e ∷ ts) h low fit =
-        alike-then _ _ _ _ (entry-alike here claimed p seen e h fit) λ x d.
-        alike-then _ _ _ _ (entries-alike s here (partPages x ++ claimed) p _ ts h low (λ z. simp count-append (entry-sound g vs sub′ s here claimed p seen e x fit d .clear z))) λ t _. alike refuses-ok
+    entries-alike s here claimed p seen (entry e ∷ ts) h low fit = alike-choose _ _ _ _ _
+        (alike-test _ 10 _ _ _ tt h λ _. alike-then _ _ _ _ (entries-alike s here claimed p seen ts h low fit) λ t _. alike refuses-ok)
+        (alike-then _ _ _ _ (entry-alike here claimed p seen e h fit) λ x d.
+        alike-then _ _ _ _ (entries-alike s here (partPages x ++ claimed) p _ ts h low (λ z. simp count-append (entry-sound g vs sub′ s here claimed p seen e x fit d .clear z))) λ t _. alike refuses-ok)
 
     directory-alike : JudgeSound g sub′ → (test : Test) → TestFaults N test → (here : Parent) (claimed : List ℕ) (p : ℕ) → p < N → Within N claimed
         → Alike N (judgeDirectory g vs fuel sub test here claimed p) (judgeDirectory g vs (suc N) sub′ test here claimed p)

@@ -23,6 +23,7 @@ pub mod Promises
 pub mod Careful
 pub mod CarefulPromises
 pub mod ResultLaws
+pub mod StampLaws
 pub mod PageSetLaws
 pub mod ChainLaws
 pub mod Soundness

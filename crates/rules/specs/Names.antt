@@ -2,7 +2,7 @@
 use mathlib.Core.Bool.{Bool, true, false, _&&_, _||_}
 use mathlib.Core.List.{List, [], _∷_, _++_}
 use Prim.Native.Nat.{ℕ, _+_, _*_, _/_, _%_}
-use lib.Dec.{leb, eqb}
+use lib.Dec.{leb, ltb, eqb}
 use lib.ListN.{getD, take, drop}
 use Rattle.geometry.specs.Choose.{choose}
 use Rattle.geometry.specs.Number.{number, numberBytes}
@@ -63,3 +63,7 @@ entryBytes n e = numberBytes 4 (e .name) ++ (e .extension ∷ (numberBytes n (e 
 -- ROOT, as a number
 abbrev pub ROOT : ℕ
 ROOT = number (82 ∷ 79 ∷ 79 ∷ 84 ∷ [])
+
+-- an extended entry, the stamp of an owner (document 02, A2): its first byte is above 127
+unfoldable pub extended : Entry → Bool
+extended e = ltb 127 (e .name % 256)

@@ -8,6 +8,7 @@ use Rattle.geometry.specs.Choose.{choose}
 use Rattle.geometry.specs.Number.{number}
 use Rattle.rules.specs.Result.{Res, ok, err, andThen as _>>=_, andAfter as _>>_, refuse-unless}
 use Rattle.rules.specs.Chain.{Link}
+use Rattle.rules.specs.declared.Entry.{Entry}
 use Rattle.rules.specs.Names.{validName, attribute, key}
 use Rattle.rules.specs.Tree.{Label, keyOf, Items, end, page, file, dir, startOf}
 use Rattle.rules.specs.Control.{Parent, theRoot}
@@ -45,9 +46,9 @@ directoryKey name = key name 127
 abbrev pub fileKey : Path → ℕ
 fileKey q = key (q .name) (q .extension)
 
--- its name and extension, top bit clear
+-- its name and extension, top bit clear; a new file has no stamps
 abbrev pub fileLabel : Path → Label
-fileLabel q = record { name = q .name; extension = q .extension }
+fileLabel q = record { name = q .name; extension = q .extension; stamps = [] }
 
 -- what stands in a directory under a key
 pub data Found : Type 0 where

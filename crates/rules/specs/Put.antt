@@ -37,7 +37,7 @@ isFull later next (suc r) (page p t) = false
 isFull later next r (file l ls t) = isFull later next (r - width l) t
 isFull later next r (dir l d t) = isFull later next (r - width l) t
 
--- a replaced file: its entry stays in place
+-- a replaced file: its entry stays in place with its stamps
 abbrev pub replace : ℕ → List Link → Items → Items
 replace k new end = end
 replace k new (page p t) = page p (replace k new t)

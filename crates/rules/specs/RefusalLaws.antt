@@ -112,7 +112,7 @@ head-faults g most b h =
 
 pub label-faults : (most p : ℕ) (e : Entry) → p < most → Refuses 2 12 most (judgeLabel p e)
 unfolding judgeLabel
-label-faults most p e h = refuses-test _ 10 _ _ tt h (refuses-test _ 9 _ _ tt h (refuses-unless _ 10 _ tt h))
+label-faults most p e h = refuses-test _ 9 _ _ tt h (refuses-unless _ 10 _ tt h)
 
 -- ---- paths, read-only, room, output: 14 to 18 tell page 0
 path-faults : (b : List ℕ) → Refuses 14 14 1 (pathOf b)

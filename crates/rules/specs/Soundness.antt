@@ -18,6 +18,7 @@ use Rattle.rules.specs.Names.{key}
 use Rattle.rules.specs.Tree.{Items, Token, newPage, entry, entriesIn, linkTokens, ownPages, innerPages, Map, mapPages, Image, used}
 use Rattle.rules.specs.Control.{Parent, theRoot, Head, rootPage, subPage}
 use Rattle.rules.specs.Owners.{fileCount, directoryCount}
+use Rattle.rules.specs.StampLaws.{stamp-own, stamp-inner, stamp-files, stamp-directories}
 use Rattle.rules.specs.Check.{Part, chain, directory, partPages, add, Judge, Scan, judgeFile, judgeEntry, judgeEntries, judgeDirectory, judgeSub, judgeMap, scan, check, scanWith, judgeMapFile}
 
 -- the pages that tokens begin are those of the chain
@@ -109,14 +110,22 @@ module _ (g : Geometry) (vs : Views) where
   entries-sound sub h here (newPage p′ ∷ ts) claimed p seen t fit q = on-then _ _ _ q λ u d q.
       let i = entries-sound sub h here ts claimed p′ seen u fit d in
       subst (EntriesClear g claimed (newPage p′ ∷ ts)) (ok-inj q) (record { clear = i .clear; room = i .room; own-pages = ap (λ (l : List ℕ). p′ ∷ l) (i .own-pages) })
-  entries-sound sub h here (entry e ∷ ts) claimed p seen t fit q = on-then _ _ _ q λ x d q. on-then _ _ _ q λ u w q.
+  entries-sound sub h here (entry e ∷ ts) claimed p seen t fit q = on-choose _ _ _ _ q
+      (λ k q. on-refuse _ _ _ _ _ q λ g₁ q. on-then _ _ _ q λ u w q.
+      let i = entries-sound sub h here ts claimed p seen u fit w in
+      subst (EntriesClear g claimed (entry e ∷ ts)) (ok-inj q) (record {
+        clear = λ z. rw (stamp-inner e u) (i .clear z);
+        room = omega (arith, i .room, stamp-files e u, stamp-directories e u, ap length (stamp-inner e u));
+        own-pages = stamp-own e u ∙ i .own-pages;
+      }))
+      (λ k q. on-then _ _ _ q λ x d q. on-then _ _ _ q λ u w q.
       let j = entry-sound sub h here claimed p seen e x fit d in
       let i = entries-sound sub h here ts (partPages x ++ claimed) p (key (e .name) (e .extension) ∷ seen) u (λ z. simp count-append (j .clear z)) w in
       subst (EntriesClear g claimed (entry e ∷ ts)) (ok-inj q) (record {
         clear = λ z. omega (arith, simp count-append at (i .clear z), add-clear e x u z);
         room = omega (arith, j .room, i .room, add-count e x u, add-length e x u);
         own-pages = add-own e x u ∙ i .own-pages;
-      })
+      }))
 
   pub directory-sound : (sub : Judge) → JudgeSound g sub → (test : Test) (here : Parent) (claimed : List ℕ) (p : ℕ) (t : Items)
       → Within (g .pages) claimed → judgeDirectory g vs (suc (g .pages)) sub test here claimed p ≡ ok t → DirectoryClear test claimed p (here .start) t

@@ -8,20 +8,21 @@ use Rattle.rules.specs.declared.Entry.{Entry}
 use Rattle.rules.specs.Chain.{Link, link, pages, first}
 use Rattle.rules.specs.Names.{key, entryOf, entryBytes}
 
--- name and extension byte of an entry
+-- name and extension byte of an entry, and its stamps: the extended entries right before it, in order
 pub record Label : Type 0 where
   pub name : ℕ
   pub extension : ℕ
+  pub stamps : List Entry
 
 abbrev pub labelOf : Entry → Label
-labelOf e = record { name = e .name; extension = e .extension }
+labelOf e = record { name = e .name; extension = e .extension; stamps = [] }
 
 abbrev pub keyOf : Label → ℕ
 keyOf l = key (l .name) (l .extension)
 
--- the slots that an entry takes in its directory page: one
+-- the slots that an entry takes in its directory page: one, and one for each of its stamps
 unfoldable pub width : Label → ℕ
-width l = 1
+width l = suc (length (l .stamps))
 
 -- a directory: where a page of it begins, and its entries in chain order, each with its chain or its directory
 pub data Items : Type 0 where
@@ -49,11 +50,19 @@ pub data Token : Type 0 where
   newPage : ℕ → Token
   entry : Entry → Token
 
+abbrev pub entryTokens : List Entry → List Token
+entryTokens [] = []
+entryTokens (e ∷ es) = entry e ∷ entryTokens es
+
+-- an entry's stamps stand right before it
+abbrev pub stampTokens : List Entry → List Token → List Token
+stampTokens ss ts = entryTokens ss ++ ts
+
 abbrev pub tokens : Items → List Token
 tokens end = []
 tokens (page p t) = newPage p ∷ tokens t
-tokens (file l ls t) = entry (fileEntry l ls) ∷ tokens t
-tokens (dir l d t) = entry (directoryEntry l d) ∷ tokens t
+tokens (file l ls t) = stampTokens (l .stamps) (entry (fileEntry l ls) ∷ tokens t)
+tokens (dir l d t) = stampTokens (l .stamps) (entry (directoryEntry l d) ∷ tokens t)
 
 -- the entries up to the next page, as bytes
 abbrev pub tokenBytes : ℕ → List Token → List ℕ

@@ -8,9 +8,10 @@ use Rattle.geometry.specs.declared.Geometry.{Geometry}
 use Rattle.geometry.specs.Geometry.{Fit}
 use Rattle.geometry.specs.Number.{Bytes}
 use Rattle.packet.specs.Packet.{good, View, Write, write}
+use Rattle.rules.specs.declared.Entry.{Entry}
 use Rattle.rules.specs.PageSets.{Once, Within}
 use Rattle.rules.specs.Chain.{Views, viewsOf, content, linked}
-use Rattle.rules.specs.Names.{validName, fileNumber, directoryNumber}
+use Rattle.rules.specs.Names.{validName, fileNumber, directoryNumber, extended}
 use Rattle.rules.specs.Tree.{Label, Items, end, page, file, dir, startOf, directoryLinks, keys, Map, inRoot, inFile, Image, used}
 use Rattle.rules.specs.Control.{rootControl, mostLocal, subControl, Parent, theRoot}
 use Rattle.rules.specs.Bitmap.{bitmapOf, mapSize}
@@ -46,24 +47,37 @@ IsDirectory (page p t) = Unit {0}
 IsDirectory (file l ls t) = ⊥
 IsDirectory (dir l d t) = ⊥
 
--- a four-byte name of the allowed bytes and an extension byte
-pub record Named (l : Label) : Type 0 where
+-- the numbers of an entry fit its fields, where page numbers take n bytes
+pub record EntryFits (n : ℕ) (e : Entry) : Type 0 where
+  pub four : e .name < 256 ^ 4
+  pub byte : e .extension < 256
+  pub start : e .start < 256 ^ n
+  pub pages : e .pages < 256 ^ n
+
+-- stamps: extended entries
+abbrev pub Stamps : ℕ → List Entry → Type 0
+Stamps n [] = Unit {0}
+Stamps n (s ∷ ss) = (extended s ≡ true) × EntryFits n s × Stamps n ss
+
+-- a four-byte name of the allowed bytes, an extension byte, and stamps before the entry
+pub record Named (n : ℕ) (l : Label) : Type 0 where
   pub four : l .name < 256 ^ 4
   pub valid : validName (l .name) ≡ true
   pub byte : l .extension < 256
+  pub stamps : Stamps n (l .stamps)
 
 -- with so many levels left, one less below
 abbrev pub Under : ℕ → (ℕ → Type 0) → Type 0
 Under zero P = ⊥
 Under (suc levels) P = P levels
 
--- names, extensions, nesting; a file has a page, a subdirectory a first page and no two entries that agree in name and extension number
-abbrev pub Entries : ℕ → Items → Type 0
-Entries levels end = Unit {0}
-Entries levels (page p t) = Entries levels t
-Entries levels (file l ls t) = Named l × (fileNumber (l .extension) ≡ true) × (0 < length ls) × Entries levels t
-Entries levels (dir l d t) =
-    Named l × (directoryNumber (l .extension) ≡ true) × IsDirectory d × Once (keys d) × Under levels (λ below. Entries below d) × Entries levels t
+-- names, extensions, stamps, nesting; a file has a page, a subdirectory a first page and no two entries that agree in name and extension number
+abbrev pub Entries : ℕ → ℕ → Items → Type 0
+Entries n levels end = Unit {0}
+Entries n levels (page p t) = Entries n levels t
+Entries n levels (file l ls t) = Named n l × (fileNumber (l .extension) ≡ true) × (0 < length ls) × Entries n levels t
+Entries n levels (dir l d t) =
+    Named n l × (directoryNumber (l .extension) ≡ true) × IsDirectory d × Once (keys d) × Under levels (λ below. Entries n below d) × Entries n levels t
 
 -- a local bitmap only for N up to 32; a bitmap file holds the bitmap's bytes
 abbrev pub MapHolds : Geometry → List ℕ → Map → Type 0
@@ -75,7 +89,7 @@ pub record WellFormedWith (g : Geometry) (vs : Views) (bits : List ℕ) (i : Ima
   pub isDirectory : IsDirectory (i .tree)
   pub atZero : startOf (i .tree) ≡ 0
   pub names : Once (keys (i .tree))
-  pub entries : Entries 8 (i .tree)
+  pub entries : Entries (g .width) 8 (i .tree)
   pub map : MapHolds g bits (i .map)
   pub room : length bits ≡ mapSize g (i .map)
   pub bytes : Bytes bits

@@ -1,27 +1,30 @@
 -- A directory's entries, one by one: totals, owner table and what is left of them.
 use mathlib.Core.Path.{_≡_, refl, ap, sym, _∙_}
+use mathlib.Core.Bool.{true, false}
 use mathlib.Core.List.{List, [], _∷_, _++_}
 use Prim.Native.Nat.{ℕ, suc, _+_, _≤_, _<_}
 use native.Mathlib.Omega.{arith}
 use lib.ListN.{length, length-append}
 use Rattle.geometry.specs.declared.Geometry.{Geometry}
+use Rattle.geometry.specs.ChooseLaws.{choose-true, choose-false}
 use Rattle.geometry.specs.Geometry.{controlSize}
 use Rattle.rules.specs.declared.Entry.{Entry}
 use Rattle.rules.specs.declared.Totals.{Totals}
 use Rattle.rules.specs.Result.{ok, err}
-use Rattle.rules.specs.ResultLaws.{then-ok, then-err}
+use Rattle.rules.specs.ResultLaws.{then-ok, then-err, refuse-true, refuse-false}
 use Rattle.rules.specs.PageSets.{count, range, Within}
 use Rattle.rules.specs.PageSetLaws.{count-append}
 use Rattle.rules.specs.Chain.{Views, Link, pages, Test, walk}
 use Rattle.rules.specs.ChainLaws.{length-pages}
-use Rattle.rules.specs.Names.{key}
+use Rattle.rules.specs.Names.{key, extended}
 use Rattle.rules.specs.Tree.{Items, end, page, Token, newPage, entry, linkTokens, ownPages, innerPages, allPages}
 use Rattle.rules.specs.TreeLaws.{pageTokens, lastPage}
 use Rattle.rules.specs.Control.{Parent}
 use Rattle.rules.specs.Owners.{OwnerRecord, fileCount, directoryCount, own, ownEntries}
 use Rattle.owners.specs.Owned.{Represents}
 use Rattle.owners.specs.OwnerLaws.{represents-own, represents-entries, represents-length, length-own}
-use Rattle.rules.specs.Check.{Part, chain, directory, partPages, add, Judge, judgeEntry, judgeEntries, judgeDirectory, judgeSub}
+use Rattle.rules.specs.Check.{Part, chain, directory, partPages, add, stamp, followed, Judge, judgeEntry, judgeEntries, judgeDirectory, judgeSub}
+use Rattle.rules.specs.StampLaws.{stamp-inner, stamp-files, stamp-directories, stamp-owners}
 use Rattle.rules.specs.Soundness.{PartClear, entriesOf, entries-sound, sub-sound, pages-tokens}
 use Rattle.rules.specs.declared.Checked.{Checked}
 use Rattle.rules.specs.declared.Checked.the-variants as w
@@ -108,17 +111,33 @@ module _ (g : Geometry) (vs : Views) (sub : Judge) (here : Parent) where
     rest-page q ts c t (w.Done d) u (i, a, b, k) = (page q i, simp (a, then-ok), b, k)
     rest-page q ts c t (w.Refused n f) u a = simp (a, then-err)
 
-    module _ (e : Entry) (ts : List Token) (c : Totals) (t : List OwnerRecord) where
+    -- a stamp, and an entry after it in its page; or none
+    module _ (e : Entry) (x : extended e ≡ true) (ts : List Token) (c : Totals) (t : List OwnerRecord) where
+      pub rest-stamp : followed ts ≡ true → (r : Checked) (u : List OwnerRecord) → Rest claimed p seen ts c t r u → Rest claimed p seen (entry e ∷ ts) c t r u
+      unfolding judgeEntries
+      rest-stamp f (w.Done d) u (i, a, b, k) = (
+        stamp e i,
+        simp (x, choose-true, f, refuse-true, then-ok, a),
+        b ∙ same-totals _ _ _ _ _ _ (omega (arith, ap length (stamp-inner e i))) (omega (arith, stamp-files e i)) (omega (arith, stamp-directories e i)),
+        k ∙ sym (stamp-owners e (c .files + c .directories) i t),
+      )
+      rest-stamp f (w.Refused n q) u a = simp (x, choose-true, f, refuse-true, then-ok, a, then-err)
+
+      pub rest-loose : followed ts ≡ false → (u : List OwnerRecord) → Rest claimed p seen (entry e ∷ ts) c t (w.Refused 10 p) u
+      unfolding judgeEntries
+      rest-loose f u = simp (x, choose-true, f, refuse-false, then-err)
+
+    module _ (e : Entry) (plain : extended e ≡ false) (ts : List Token) (c : Totals) (t : List OwnerRecord) where
       pub rest-refused : (n f : ℕ) (u : List OwnerRecord) → judgeEntry g vs (suc (g .pages)) sub here claimed p seen e ≡ err n f → Rest claimed p seen (entry e ∷ ts) c t (w.Refused n f) u
       unfolding judgeEntries
-      rest-refused n f u a = simp (a, then-err)
+      rest-refused n f u a = simp (plain, choose-false, a, then-err)
 
       -- an entry done
       pub rest-entry : (x : Part) → judgeEntry g vs (suc (g .pages)) sub here claimed p seen e ≡ ok x → (r : Checked) (u : List OwnerRecord)
           → Rest (partPages x ++ claimed) p (key (e .name) (e .extension) ∷ seen) ts (plusPart c x) (ownPart (c .files + c .directories) t x) r u → Rest claimed p seen (entry e ∷ ts) c t r u
       unfolding judgeEntries
-      rest-entry x q (w.Done d) u (i, a, b, k) = (add e x i, simp (q, then-ok, a), b ∙ totals-add c e x i, k ∙ table-add c e x i t)
-      rest-entry x q (w.Refused n f) u a = simp (q, then-ok, a, then-err)
+      rest-entry x q (w.Done d) u (i, a, b, k) = (add e x i, simp (plain, choose-false, q, then-ok, a), b ∙ totals-add c e x i, k ∙ table-add c e x i t)
+      rest-entry x q (w.Refused n f) u a = simp (plain, choose-false, q, then-ok, a, then-err)
 
   -- pages without entries
   pub rest-pages : (claimed : List ℕ) (p : ℕ) (seen ps : List ℕ) (ts : List Token) (c : Totals) (t : List OwnerRecord) (r : Checked) (u : List OwnerRecord) → Rest claimed (lastPage p ps) seen ts c t r u

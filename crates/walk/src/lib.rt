@@ -1,6 +1,7 @@
 // The walk over a directory and all below it: every chain is claimed in the owner table, every entry judged, in the order of the check.
 use chain::Claim;
 use directory::control::Kind;
+use directory::entries::Item;
 use directory::extensions::is_directory;
 use entries::Next;
 use entries::Slot;
@@ -10,27 +11,29 @@ use rules::Checked;
 use rules::Entry;
 use rules::Totals;
 ghost use mathlib.Core.Path.{_≡_};
+ghost use mathlib.Core.Bool.{false};
 ghost use Prim.Native.Nat.{_+_, _-_, _*_, _<_};
 ghost use lib.ListN.{length};
 ghost use Rattle.owners.specs.Records.{recordsOf};
 ghost use Rattle.geometry.specs.Geometry.{Fit};
 ghost use Rattle.packet.specs.Packet.{viewOf};
 ghost use Rattle.rules.specs.Chain.{viewsOf};
+ghost use Rattle.rules.specs.Names.{extended};
 ghost use Rattle.directory.specs.Faults.{testOf};
 ghost use Rattle.entries.specs.EntrySlots.{HasEntries};
 ghost use Rattle.walk.specs.Walks.{Good, Ready, Remaining, EntryFault, BelowFault, FileWalked, EntryWalked, DirectoryWalked};
 
-// The directory that an entry stands in: its name, its start page and how many entries it has.
+// The directory that an entry stands in: its name, its start page and how many entries of both kinds it has.
 pub struct Directory {
     pub name: u32,
     pub start: usize,
     pub count: usize,
 }
 
-// The fault of an entry's name or extension (9, 10), or that one of the m entries before it has them (11); 0 if there is none.
+// The fault of a plain entry's name or extension (9, 10), or that one of the m entries before it has them (11); 0 if there is none.
 fn entry_fault(image: &[u8], g: Geometry, start: usize, m: usize, e: Entry) -> u8
     requires { ⌜ Fit g (now image) ⌝ }
-    requires { ⌜ HasEntries g (viewOf g (now image)) start m ⌝ }
+    requires { ⌜ HasEntries g (viewOf g (now image)) start m × (extended e ≡ false) ⌝ }
     ensures { λ r. ⌜ EntryFault g (viewOf g (now (image .entry))) start m e r ⌝ }
 {
     let fault = directory::entries::label_fault(e);
@@ -91,7 +94,7 @@ fn walk_file(
     }
 }
 
-// One entry, with `left` entries to go in its directory, itself among them: a file, or a subdirectory with all below it.
+// One plain entry, with `left` entries to go in its directory, itself among them: a file, or a subdirectory with all below it.
 fn walk_entry(
     image: &[u8],
     g: Geometry,
@@ -104,7 +107,7 @@ fn walk_entry(
     table: &mut [u8],
 ) -> Checked
     requires { ⌜ Fit g (now image) ⌝ }
-    requires { ⌜ (length (now table) ≡ 4 * g .pages) × HasEntries g (viewOf g (now image)) (parent .start) (parent .count - left) × Good g totals (recordsOf (now table)) × Remaining parent left ⌝ }
+    requires { ⌜ (length (now table) ≡ 4 * g .pages) × HasEntries g (viewOf g (now image)) (parent .start) (parent .count - left) × Good g totals (recordsOf (now table)) × Remaining parent left × (extended e ≡ false) ⌝ }
     ensures { λ r. ⌜ EntryWalked g (viewsOf g (now (image .entry))) levels (parent .name) (parent .start) page (parent .count - left) e totals (recordsOf (now (table .entry))) r (recordsOf (now (table .exit))) ⌝ }
 {
     let fault = entry_fault(image, g, parent.start, parent.count - left, e);
@@ -173,13 +176,20 @@ pub fn walk_directory(
                     return Checked::Done(so_far);
                 };
                 let page = at.page;
-                let e = at.entry(image, g);
-                match walk_entry(image, g, levels, parent, page, left, e, so_far, table) {
+                let to_go = left;
+                slot = at.past();
+                left -= 1;
+                let Item::Plain(e) = at.item(image, g) else {
+                    // a stamp belongs to an entry after it in its page
+                    if slot.at == slot.count {
+                        return Checked::Refused(10, page);
+                    }
+                    continue;
+                };
+                match walk_entry(image, g, levels, parent, page, to_go, e, so_far, table) {
                     Checked::Refused(number, at) => return Checked::Refused(number, at),
                     Checked::Done(d) => so_far = d,
                 }
-                slot = at.past();
-                left -= 1;
             }
         }
     }

@@ -150,20 +150,42 @@ impl<'a> Walk<'a> {
         let mut seen = HashSet::new();
         let mut entries = Vec::new();
         for entry_page in &chain {
-            let length = self.geometry.entry_length();
-            for (slot, bytes) in entry_page.bytes.chunks_exact(length).enumerate() {
-                let fields = Fields::from_bytes(self.geometry, bytes);
-                let content = self.entry(&fields, entry_page.page, place, &mut seen)?;
-                entries.push(Entry {
-                    fields,
-                    page: entry_page.page,
-                    offset: entry_page.offset + slot * length,
-                    content,
-                });
-            }
+            self.page_entries(entry_page, place, &mut seen, &mut entries)?;
         }
         let pages = chain.iter().map(|entry_page| entry_page.page).collect();
         Ok(Directory { pages, entries })
+    }
+
+    /// Adds the plain entries of a directory page. Stamps are counted for the entry after them; if the page has none after them they are 10.
+    fn page_entries(
+        &mut self,
+        entry_page: &EntryPage,
+        place: Place,
+        seen: &mut HashSet<(Name, u8)>,
+        entries: &mut Vec<Entry>,
+    ) -> Result<(), Answer> {
+        let length = self.geometry.entry_length();
+        let mut stamps = 0;
+        for (slot, bytes) in entry_page.bytes.chunks_exact(length).enumerate() {
+            let fields = Fields::from_bytes(self.geometry, bytes);
+            if fields.is_stamp() {
+                stamps += 1;
+                continue;
+            }
+            let content = self.entry(&fields, entry_page.page, place, seen)?;
+            entries.push(Entry {
+                fields,
+                page: entry_page.page,
+                offset: entry_page.offset + slot * length,
+                stamps,
+                content,
+            });
+            stamps = 0;
+        }
+        if stamps > 0 {
+            return Err(Fault::Extension.at(entry_page.page));
+        }
+        Ok(())
     }
 
     /// Walks a directory's chain from its first page, whose packet and control field are judged already.
@@ -265,11 +287,8 @@ impl<'a> Walk<'a> {
     }
 }
 
-/// First byte above 127 (10), name (9), extension number neither a file's nor a subdirectory's (10).
+/// Name (9), extension number neither a file's nor a subdirectory's (10).
 fn judge_name_and_extension(fields: &Fields, page: usize) -> Result<(), Answer> {
-    if fields.name[0] > 127 {
-        return Err(Fault::Extension.at(page));
-    }
     if !is_name(&fields.name) {
         return Err(Fault::Name.at(page));
     }

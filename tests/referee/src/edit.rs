@@ -247,7 +247,7 @@ pub(crate) fn new_fields(path: &Path, pages: &[usize]) -> Fields {
     }
 }
 
-/// The packet of a directory page with an entry more at its end.
+/// The packet of a directory page with an entry more at its end. It has no stamps, since no accepted page ends in one.
 pub(crate) fn with_entry(
     geometry: &Geometry,
     image: &[u8],
@@ -259,7 +259,7 @@ pub(crate) fn with_entry(
     Ok(written)
 }
 
-/// The packet of an entry's page with other pages in the entry.
+/// The packet of an entry's page with other pages in the entry; its stamps stay.
 pub(crate) fn with_pages(
     geometry: &Geometry,
     image: &[u8],
@@ -277,14 +277,15 @@ pub(crate) fn with_pages(
     Ok(written)
 }
 
-/// The packet of an entry's page without the entry; later entries move up.
+/// The packet of an entry's page without the entry and its stamps; later entries move up.
 pub(crate) fn without_entry(
     geometry: &Geometry,
     image: &[u8],
     entry: &Entry,
 ) -> Result<Written, Answer> {
     let mut written = packet::copy(geometry, image, entry.page)?;
-    let range = entry.offset..entry.offset + geometry.entry_length();
+    let length = geometry.entry_length();
+    let range = entry.offset - entry.stamps * length..entry.offset + length;
     written.body.drain(range);
     Ok(written)
 }

@@ -44,6 +44,11 @@ impl Fields {
         bytes
     }
 
+    /// Whether it is an extended entry, a stamp of the entry after it: the first byte is above 127 (A2).
+    pub(crate) fn is_stamp(&self) -> bool {
+        self.name[0] > 127
+    }
+
     /// The low seven bits of the extension.
     pub(crate) fn extension_number(&self) -> u8 {
         self.extension & 0x7F

@@ -11,7 +11,7 @@ pub(crate) enum Bitmap {
     File(Vec<usize>),
 }
 
-/// A directory: the pages of its chain and its entries in chain order.
+/// A directory: the pages of its chain and its plain entries in chain order.
 #[derive(Debug)]
 pub(crate) struct Directory {
     pub(crate) pages: Vec<usize>,
@@ -31,6 +31,8 @@ pub(crate) struct Entry {
     pub(crate) fields: Fields,
     pub(crate) page: usize,
     pub(crate) offset: usize,
+    /// The number of stamps directly before it.
+    pub(crate) stamps: usize,
     pub(crate) content: Content,
 }
 

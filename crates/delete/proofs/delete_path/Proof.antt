@@ -20,7 +20,7 @@ returns c =
     let start = at-find-file .before .before .before .before .before in
     let a = start .args in
     let x = top-set _ _ (at-extension-of .extension-of .ensures) (c .if1 .taken) in
-    read-only (a .g) (a .image .now) (recordsOf (a .table .now)) (a .path .now) (start .pre .1 .1) _ (at-find-file .find-file .ensures) (a .budget) _ _ (at-slot .slot .given .1) x
+    read-only (a .g) (a .image .now) (recordsOf (a .table .now)) (a .path .now) (start .pre .1 .1) _ (at-find-file .find-file .ensures) (a .budget) _ _ _ (at-slot .slot .given .1) x
 
 unlink-requires : tie.Need-unlink-requires
 unlink-requires c κs =
@@ -29,7 +29,7 @@ unlink-requires c κs =
     let start = at-find-file .before .before .before .before .before in
     let a = start .args in
     let p = start .pre in
-    (p .0, (p .1 .0, can-delete (a .g) (a .image .now) (recordsOf (a .table .now)) (a .path .now) (p .1 .1) _ (at-find-file .find-file .ensures) (a .budget) _ _ (at-slot .slot .given .1), p .1 .2))
+    (p .0, (p .1 .0, can-delete (a .g) (a .image .now) (recordsOf (a .table .now)) (a .path .now) (p .1 .1) _ (at-find-file .find-file .ensures) (a .budget) _ _ _ (at-slot .slot .given .1), p .1 .2))
 
 returns-2 : tie.Need-returns-2
 returns-2 c =
@@ -62,7 +62,7 @@ returns-5 c =
     let start = at-find-file .before .before .before .before .before in
     let a = start .args in
     let x = top-clear _ _ (at-extension-of .extension-of .ensures) (at-if1 .if1 .left) in
-    done (a .g) (a .image .now) (recordsOf (a .table .now)) (a .path .now) (start .pre .1 .1) _ (at-find-file .find-file .ensures) (a .budget) _ _ (at-slot .slot .given .1) x _ _ (at-unlink .unlink .ensures)
+    done (a .g) (a .image .now) (recordsOf (a .table .now)) (a .path .now) (start .pre .1 .1) _ (at-find-file .find-file .ensures) (a .budget) _ _ _ (at-slot .slot .given .1) x _ _ (at-unlink .unlink .ensures)
 
 pub delete-path-spec : {M : Type 1} → statement M
 delete-path-spec =

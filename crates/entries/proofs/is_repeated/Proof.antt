@@ -23,7 +23,7 @@ abbrev μ-loop : tie.MeasureT-loop
 μ-loop image g start m key slot₀ left₀ slot left = pagesAhead g slot
 
 first-requires : tie.Need-first-requires Inv-loop μ-loop
-first-requires c κs = let s = c .before .pre in (s .0, record { links = s .1 .links; chain = s .1 .chain })
+first-requires c κs = let s = c .before .pre in (s .0, record { links = s .1 .0 .links; chain = s .1 .0 .chain })
 
 loop-holds : tie.Need-loop-holds Inv-loop μ-loop
 loop-holds c = λ ls d n. look-first _ _ ls (c .first .ensures ls d) n
@@ -32,14 +32,14 @@ page-of-requires : tie.Need-page-of-requires Inv-loop μ-loop
 page-of-requires c κs =
     let start = c .before .before .before in
     let s = start .pre in
-    (s .0, c .loop .inv _ (s .1 .chain) (s .1 .enough) .ahead .at-slot .fits .inside)
+    (s .0, c .loop .inv _ (s .1 .0 .chain) (s .1 .0 .enough) .ahead .at-slot .fits .inside)
 
 add-page-has : tie.Need-add-page-has Inv-loop μ-loop
 add-page-has c =
     let at-loop = c .before .before in
     let start = at-loop .before .before .before in
     let s = start .pre in
-    let r = at-loop .loop .inv _ (s .1 .chain) (s .1 .enough) .ahead .at-slot .fits .room in
+    let r = at-loop .loop .inv _ (s .1 .0 .chain) (s .1 .0 .enough) .ahead .at-slot .fits .room in
     let k = s .0 .valid .most in
     search needs
 
@@ -49,7 +49,8 @@ page-has-requires c κs =
     let at-loop = at-page-of .before in
     let start = at-loop .before .before .before in
     let s = start .pre in
-    (s .0 .valid, searched (s .0) (at-loop .loop .inv _ (s .1 .chain) (s .1 .enough)) _ (at-page-of .page-of .ensures) _ (c .least .ensures))
+    let r = searched (s .0) (at-loop .loop .inv _ (s .1 .0 .chain) (s .1 .0 .enough)) _ (at-page-of .page-of .ensures) _ (c .least .ensures) in
+    (s .0 .valid, (r .0, r .1, s .1 .1))
 
 returns : tie.Need-returns Inv-loop μ-loop
 returns c =
@@ -76,7 +77,7 @@ next-page-requires c κs =
     let at-loop = at-page-has .before .before .before .before in
     let start = at-loop .before .before .before in
     let s = start .pre in
-    let i = at-loop .loop .inv _ (s .1 .chain) (s .1 .enough) in
+    let i = at-loop .loop .inv _ (s .1 .0 .chain) (s .1 .0 .enough) in
     (s .0, record { ts = i .ts; ahead = i .ahead })
 
 returns-3 : tie.Need-returns-3 Inv-loop μ-loop

@@ -26,7 +26,7 @@ has-key-requires c κs =
     let start = at-loop .before .before in
     let s = start .pre in
     let k = at-entry _ _ _ _ _ _ (s .0) (s .1 .0) (c .loop-test .taken) (at-loop .loop .inv .1) in
-    (s .0 .one, s .0 .two, k .1)
+    ((s .0 .one, s .0 .two, k .1), s .1 .2)
 
 returns : tie.Need-returns Inv-loop μ-loop
 returns c =

@@ -7,9 +7,10 @@ use Rattle.rules.specs.Chain.{viewsOf}
 use Rattle.rules.specs.Tree.{Items}
 use Rattle.entries.specs.TokensAt.{entriesAhead}
 use Rattle.entries.proofs.Stepping.{entry-answer, end-answer, entry-in, past-less}
+use Rattle.entries.proofs.ItemLaws.{plain-answer}
 use Rattle.listing.specs.KnownTree.{DirectoryAt}
 use Rattle.listing.proofs.Lines.{looks-head, looks-file, some-level, has-directory, looks-below}
-use Rattle.listing.proofs.Ahead.{Ahead, ahead-first, ahead-in, ahead-part, ahead-found, ahead-past, ahead-done}
+use Rattle.listing.proofs.Ahead.{Ahead, ahead-first, ahead-in, ahead-stamp, ahead-part, ahead-found, ahead-past, ahead-done}
 use borrow.Author.Needs.{needs}
 use borrow.Fn.Kinds.{In}
 use borrow.Fn.PlainCycle.{Measures, is, falls, and}
@@ -21,7 +22,7 @@ use Rattle.listing.proofs.look_entry.Kinds as look-entry-kinds
 use Rattle.listing.proofs.+look_directory+look_entry.Lts-look_entry as look-entry-lts
 use Rattle.entries.proofs.Slot.first.Reads as first-reads
 use Rattle.entries.proofs.Slot.next_entry.Reads as next-entry-reads
-use Rattle.entries.proofs.Slot.entry.Reads as entry-reads
+use Rattle.entries.proofs.Slot.item.Reads as item-reads
 use Rattle.entries.proofs.Slot.past.Reads as past-reads
 use Rattle.directory.proofs.extensions.is_directory.Reads as is-directory-reads
 use Rattle.listing.proofs.entry_line.Reads as entry-line-reads
@@ -71,12 +72,12 @@ look-directory-calls t = (
   first-reads.Learnt,
   next-entry-reads.Asked,
   next-entry-reads.Learnt,
-  entry-reads.Asked,
-  entry-reads.Learnt,
-  look-entry-below t,
-  look-entry.Post,
   past-reads.Asked,
   past-reads.Learnt,
+  item-reads.Asked,
+  item-reads.Learnt,
+  look-entry-below t,
+  look-entry.Post,
 )
 
 abbrev look-entry-calls : ℕ → look-entry-lts.Claims
@@ -103,9 +104,15 @@ look-directory-returns t c =
     let at-loop = at-next .before in
     λ tree st. ahead-done (at-loop .loop .inv tree st) (end-answer _ _ _ _ (at-next .next-entry .ensures) (c .enum-told .given .1))
 
-look-directory-entry-requires : (t : ℕ) → look-directory-lts.Need-entry-requires (look-directory-calls t) (look-directory-at t) look-directory.Post look-directory-Inv-loop look-directory-μ-loop
-look-directory-entry-requires t c κs =
+look-directory-past-requires : (t : ℕ) → look-directory-lts.Need-past-requires (look-directory-calls t) (look-directory-at t) look-directory.Post look-directory-Inv-loop look-directory-μ-loop
+look-directory-past-requires t c κs =
     let at-at = c .before in
+    let at-next = at-at .before .before in
+    entry-answer _ _ _ _ (at-next .next-entry .ensures) _ (at-at .at .given .1) .under
+
+look-directory-item-requires : (t : ℕ) → look-directory-lts.Need-item-requires (look-directory-calls t) (look-directory-at t) look-directory.Post look-directory-Inv-loop look-directory-μ-loop
+look-directory-item-requires t c κs =
+    let at-at = c .before .before in
     let at-next = at-at .before .before in
     let at-loop = at-next .before in
     let start = at-loop .before .before .before in
@@ -113,51 +120,74 @@ look-directory-entry-requires t c κs =
     let n = entry-answer _ _ _ _ (at-next .next-entry .ensures) _ (at-at .at .given .1) in
     (s .0, (entry-in n (ahead-in (at-loop .loop .inv (s .1 .1 .tree) (s .1 .1 .stands))), n .under))
 
+look-directory-loop-less : (t : ℕ) → look-directory-lts.Need-loop-less (look-directory-calls t) (look-directory-at t) look-directory.Post look-directory-Inv-loop look-directory-μ-loop
+look-directory-loop-less t c =
+    let at-item = c .before .before in
+    let at-past = at-item .before in
+    let at-at = at-past .before .before in
+    let at-next = at-at .before .before in
+    past-less (entry-answer _ _ _ _ (at-next .next-entry .ensures) _ (at-at .at .given .1)) _ (at-past .past .ensures)
+
+look-directory-loop-again : (t : ℕ) → look-directory-lts.Need-loop-again (look-directory-calls t) (look-directory-at t) look-directory.Post look-directory-Inv-loop look-directory-μ-loop
+look-directory-loop-again t c =
+    let at-item = c .before .before in
+    let at-past = at-item .before in
+    let at-at = at-past .before .before in
+    let at-next = at-at .before .before in
+    let at-loop = at-next .before in
+    let n = entry-answer _ _ _ _ (at-next .next-entry .ensures) _ (at-at .at .given .1) in
+    λ tree st. ahead-stamp (at-loop .loop .inv tree st) n (at-item .item .result) (at-item .item .ensures) (c .enum-told2 .given .1) _ (at-past .past .ensures)
+
 look-directory-look-entry-requires : (t : ℕ) → look-directory-lts.Need-look-entry-requires (look-directory-calls t) (look-directory-at t) look-directory.Post look-directory-Inv-loop look-directory-μ-loop
 look-directory-look-entry-requires t c κs =
-    let at-at = c .before .before in
+    let at-e = c .before in
+    let at-item = at-e .before .before in
+    let at-past = at-item .before in
+    let at-at = at-past .before .before in
     let at-next = at-at .before .before in
     let at-loop = at-next .before in
     let start = at-loop .before .before .before in
     let s = start .pre .1 in
     let n = entry-answer _ _ _ _ (at-next .next-entry .ensures) _ (at-at .at .given .1) in
-    (omega (arith, start .pre .0), (s .0, (s .1 .0, ahead-part (at-loop .loop .inv (s .1 .1 .tree) (s .1 .1 .stands)) n (c .entry .ensures))))
+    let e = plain-answer _ _ _ (at-item .item .result) (at-item .item .ensures) _ (at-e .e .given .1) in
+    (omega (arith, start .pre .0), (s .0, (s .1 .0, ahead-part (at-loop .loop .inv (s .1 .1 .tree) (s .1 .1 .stands)) n (e .0) (e .1))))
 
 look-directory-returns-2 : (t : ℕ) → look-directory-lts.Need-returns-2 (look-directory-calls t) (look-directory-at t) look-directory.Post look-directory-Inv-loop look-directory-μ-loop
 look-directory-returns-2 t c =
     let at-x = c .before in
     let at-look-entry = at-x .before .before in
-    let at-entry = at-look-entry .before in
-    let at-at = at-entry .before .before in
+    let at-e = at-look-entry .before .before in
+    let at-item = at-e .before .before in
+    let at-past = at-item .before in
+    let at-at = at-past .before .before in
     let at-next = at-at .before .before in
     let at-loop = at-next .before in
     let n = entry-answer _ _ _ _ (at-next .next-entry .ensures) _ (at-at .at .given .1) in
-    λ tree st. ahead-found (at-loop .loop .inv tree st) n (at-entry .entry .ensures) _ (at-look-entry .look-entry .ensures) _ (at-x .x .given .1)
+    let e = plain-answer _ _ _ (at-item .item .result) (at-item .item .ensures) _ (at-e .e .given .1) in
+    λ tree st. ahead-found (at-loop .loop .inv tree st) n (e .0) (e .1) _ (at-look-entry .look-entry .ensures) _ (at-x .x .given .1)
 
-look-directory-past-requires : (t : ℕ) → look-directory-lts.Need-past-requires (look-directory-calls t) (look-directory-at t) look-directory.Post look-directory-Inv-loop look-directory-μ-loop
-look-directory-past-requires t c κs =
-    let at-entry = c .before .before .before .before in
-    let at-at = at-entry .before .before in
+look-directory-loop-less-2 : (t : ℕ) → look-directory-lts.Need-loop-less-2 (look-directory-calls t) (look-directory-at t) look-directory.Post look-directory-Inv-loop look-directory-μ-loop
+look-directory-loop-less-2 t c =
+    let at-e = c .before .before .before .before .before in
+    let at-item = at-e .before .before in
+    let at-past = at-item .before in
+    let at-at = at-past .before .before in
     let at-next = at-at .before .before in
-    entry-answer _ _ _ _ (at-next .next-entry .ensures) _ (at-at .at .given .1) .under
+    past-less (entry-answer _ _ _ _ (at-next .next-entry .ensures) _ (at-at .at .given .1)) _ (at-past .past .ensures)
 
-look-directory-loop-less : (t : ℕ) → look-directory-lts.Need-loop-less (look-directory-calls t) (look-directory-at t) look-directory.Post look-directory-Inv-loop look-directory-μ-loop
-look-directory-loop-less t c =
-    let at-entry = c .before .before .before .before .before in
-    let at-at = at-entry .before .before in
-    let at-next = at-at .before .before in
-    past-less (entry-answer _ _ _ _ (at-next .next-entry .ensures) _ (at-at .at .given .1)) _ (c .past .ensures)
-
-look-directory-loop-again : (t : ℕ) → look-directory-lts.Need-loop-again (look-directory-calls t) (look-directory-at t) look-directory.Post look-directory-Inv-loop look-directory-μ-loop
-look-directory-loop-again t c =
-    let at-j = c .before .before in
+look-directory-loop-again-2 : (t : ℕ) → look-directory-lts.Need-loop-again-2 (look-directory-calls t) (look-directory-at t) look-directory.Post look-directory-Inv-loop look-directory-μ-loop
+look-directory-loop-again-2 t c =
+    let at-j = c .before in
     let at-look-entry = at-j .before .before in
-    let at-entry = at-look-entry .before in
-    let at-at = at-entry .before .before in
+    let at-e = at-look-entry .before .before in
+    let at-item = at-e .before .before in
+    let at-past = at-item .before in
+    let at-at = at-past .before .before in
     let at-next = at-at .before .before in
     let at-loop = at-next .before in
     let n = entry-answer _ _ _ _ (at-next .next-entry .ensures) _ (at-at .at .given .1) in
-    λ tree st. ahead-past (at-loop .loop .inv tree st) n (at-entry .entry .ensures) _ (at-look-entry .look-entry .ensures) _ (at-j .j .given .1) _ (c .past .ensures)
+    let e = plain-answer _ _ _ (at-item .item .result) (at-item .item .ensures) _ (at-e .e .given .1) in
+    λ tree st. ahead-past (at-loop .loop .inv tree st) n (e .0) (e .1) _ (at-look-entry .look-entry .ensures) _ (at-j .j .given .1) _ (at-past .past .ensures)
 
 look-entry-entry-line-requires : (t : ℕ) → look-entry-lts.Need-entry-line-requires (look-entry-calls t) (look-entry-at t) look-entry.Post
 look-entry-entry-line-requires t c κs =
@@ -222,14 +252,18 @@ pub +look-directory+look-entry-spec : {M : Type 1} → statement M
     (λ c. search needs)
     (λ c. search needs)
     (look-directory-returns t)
-    (look-directory-entry-requires t)
+    (look-directory-past-requires t)
+    (look-directory-item-requires t)
+    (λ c. search needs)
+    (λ c. search needs)
+    (look-directory-loop-less t)
+    (look-directory-loop-again t)
     (look-directory-look-entry-requires t)
     (λ c. search needs)
     (look-directory-returns-2 t)
     (λ c. search needs)
-    (look-directory-past-requires t)
-    (look-directory-loop-less t)
-    (look-directory-loop-again t))
+    (look-directory-loop-less-2 t)
+    (look-directory-loop-again-2 t))
     λ t. look-entry-lts.spec
     (look-entry-calls t)
     (look-entry-at t)

@@ -79,7 +79,7 @@ returns-4 c =
     let P = well-formed _ _ _ _ _ (at-parse .parse .ensures) (at-names .names .given .1) in
     file-at (a .g) (viewsOf (a .g) (a .image .now)) (a .path .now) i _ _ _ P (at-resolve .resolve .result)
     (at-resolve .resolve .ensures (rootPlace (i .tree)) (root-tree _ _ i h)) _ (start .start .given .1) _ (at-key-of .key-of .ensures) (at-find-place .find-place .result)
-    (at-find-place .find-place .ensures) _ _ (at-slot .slot .given .1)
+    (at-find-place .find-place .ensures) _ _ _ (at-slot .slot .given .1)
 
 pub find-file-spec : {M : Type 1} → statement M
 find-file-spec =

@@ -19,7 +19,7 @@ returns c =
     let at-extension-of = c .before .before in
     let at-slot = at-extension-of .before .before in
     let at-find-file = at-slot .before .before in
-    λ i a. read-only _ _ _ _ (at-find-file .find-file .ensures) i a _ _ (at-slot .slot .given .1) (top-set _ _ (at-extension-of .extension-of .ensures) (c .if1 .taken))
+    λ i a. read-only _ _ _ _ (at-find-file .find-file .ensures) i a _ _ _ (at-slot .slot .given .1) (top-set _ _ (at-extension-of .extension-of .ensures) (c .if1 .taken))
 
 add-t14 : tie.Need-add-t14
 add-t14 c =
@@ -27,7 +27,7 @@ add-t14 c =
     let at-find-file = at-slot .before .before in
     let start = at-find-file .before .before .before in
     let A = start .pre .1 in
-    let u = under _ _ _ _ (at-find-file .find-file .ensures) (A .image) (A .accepted) _ _ (at-slot .slot .given .1) in
+    let u = under _ _ _ _ (at-find-file .find-file .ensures) (A .image) (A .accepted) _ _ _ (at-slot .slot .given .1) in
     search (needs, u)
 
 returns-2 : tie.Need-returns-2
@@ -52,7 +52,7 @@ returns-5 c =
     let at-extension-of = at-if1 .before .before in
     let at-slot = at-extension-of .before .before in
     let at-find-file = at-slot .before .before in
-    λ i a. old-place _ _ _ _ (at-find-file .find-file .ensures) i a _ _ (at-slot .slot .given .1) (top-clear _ _ (at-extension-of .extension-of .ensures) (at-if1 .if1 .left))
+    λ i a. old-place _ _ _ _ (at-find-file .find-file .ensures) i a _ _ _ (at-slot .slot .given .1) (top-clear _ _ (at-extension-of .extension-of .ensures) (at-if1 .if1 .left))
 
 pub place-file-spec : {M : Type 1} → statement M
 place-file-spec =

@@ -1,7 +1,7 @@
 -- The loop's invariant: whatever answers what is left of a directory's entries answers the whole. Its measure: the entries to go.
 -- Of the two functions that call each other, levels left and entries left fall together.
 use mathlib.Core.Path.{_≡_, refl, sym, _∙_}
-use mathlib.Core.List.{List}
+use mathlib.Core.List.{List, []}
 use native.Mathlib.Omega.{arith}
 use lib.ListN.{length}
 use Prim.Native.Nat.{_<_, ℕ, _+_, _-_, _*_, _≤_}
@@ -13,8 +13,9 @@ use Rattle.owners.specs.Owned.{Represents}
 use Rattle.owners.specs.OwnerLaws.{taken}
 use Rattle.chain.specs.KnownChain.{ChainAt, KnownChain}
 use Rattle.entries.proofs.Stepping.{entry-answer, end-answer, entry-in}
+use Rattle.entries.proofs.ItemLaws.{plain-answer}
 use Rattle.walk.proofs.Parts.{totals-fit, below-some, below-ready, entry-refused, file-entry, entry-below, entry-directory}
-use Rattle.walk.proofs.Left.{Left, witness, some-to-go, left-in, left-known, left-refused, left-entry, left-done, left-first}
+use Rattle.walk.proofs.Left.{Left, witness, some-to-go, left-in, left-known, left-stamp, left-loose, left-refused, left-entry, left-done, left-first}
 use Rattle.walk.proofs.Directories.{refused-directory, is-claimed, pages-few, claimed-known, whole-done, whole-refused}
 use borrow.Author.Needs.{needs}
 use borrow.Author.Tests.{not-true, not-false}
@@ -29,7 +30,7 @@ use Rattle.walk.proofs.+walk_directory+walk_entry.Lts-walk_entry as wal
 use Rattle.chain.proofs.claim_chain.Reads as claim-chain-reads
 use Rattle.entries.proofs.Slot.first.Reads as first-reads
 use Rattle.entries.proofs.Slot.next_entry.Reads as next-entry-reads
-use Rattle.entries.proofs.Slot.entry.Reads as entry-reads
+use Rattle.entries.proofs.Slot.item.Reads as item-reads
 use Rattle.entries.proofs.Slot.past.Reads as past-reads
 use Rattle.entries.proofs.count_of.Reads as count-of-reads
 use Rattle.directory.proofs.extensions.is_directory.Reads as is-directory-reads
@@ -89,12 +90,12 @@ walk-directory-calls t = (
   first-reads.Learnt,
   next-entry-reads.Asked,
   next-entry-reads.Learnt,
-  entry-reads.Asked,
-  entry-reads.Learnt,
-  walk-entry-below t,
-  walk-entry.Post,
   past-reads.Asked,
   past-reads.Learnt,
+  item-reads.Asked,
+  item-reads.Learnt,
+  walk-entry-below t,
+  walk-entry.Post,
 )
 
 abbrev walk-entry-calls : ℕ → walk-entry-lts.Claims
@@ -111,8 +112,8 @@ walk-entry-calls t = (
   walk-directory.Post,
 )
 
-walk-directory-add-t29 : (t : ℕ) → walk-directory-lts.Need-add-t29 (walk-directory-calls t) (walk-directory-at t) walk-directory.Post walk-directory-Inv-loop walk-directory-μ-loop
-walk-directory-add-t29 t c =
+walk-directory-add-t30 : (t : ℕ) → walk-directory-lts.Need-add-t30 (walk-directory-calls t) (walk-directory-at t) walk-directory.Post walk-directory-Inv-loop walk-directory-μ-loop
+walk-directory-add-t30 t c =
     let at-pages = c .before .before in
     let at-claim = at-pages .before .before .before .before in
     let start = at-claim .before .before .before .before in
@@ -176,9 +177,25 @@ walk-directory-returns t c =
     whole-done (viewsOf _ _) (is-claimed _ _ _ _ _ (at-claim .claim-chain .ensures) (at-pages .pages .given .1) (length-exact _ _ (s .1 .0)) (s .1 .1)) (start .args .levels) (start .args .name) _ _
     (λ others ls r d. left-done (i .3 others ls r d) n)
 
-walk-directory-entry-requires : (t : ℕ) → walk-directory-lts.Need-entry-requires (walk-directory-calls t) (walk-directory-at t) walk-directory.Post walk-directory-Inv-loop walk-directory-μ-loop
-walk-directory-entry-requires t c κs =
+walk-directory-past-requires : (t : ℕ) → walk-directory-lts.Need-past-requires (walk-directory-calls t) (walk-directory-at t) walk-directory.Post walk-directory-Inv-loop walk-directory-μ-loop
+walk-directory-past-requires t c κs =
     let at-at = c .before in
+    let at-next = at-at .before .before in
+    entry-answer _ _ _ _ (at-next .next-entry .ensures) _ (at-at .at .given .1) .under
+
+walk-directory-sub-left : (t : ℕ) → walk-directory-lts.Need-sub-left (walk-directory-calls t) (walk-directory-at t) walk-directory.Post walk-directory-Inv-loop walk-directory-μ-loop
+walk-directory-sub-left t c =
+    let at-at = c .before .before in
+    let at-next = at-at .before .before in
+    let at-loop = at-next .before in
+    let at-count = at-loop .before .before in
+    let i = at-loop .loop .inv in
+    let n = entry-answer _ _ _ _ (at-next .next-entry .ensures) _ (at-at .at .given .1) in
+    some-to-go _ _ (at-count .count-of .ensures .0) (i .1) (i .3) n (i .2)
+
+walk-directory-item-requires : (t : ℕ) → walk-directory-lts.Need-item-requires (walk-directory-calls t) (walk-directory-at t) walk-directory.Post walk-directory-Inv-loop walk-directory-μ-loop
+walk-directory-item-requires t c κs =
+    let at-at = c .before .before in
     let at-next = at-at .before .before in
     let at-loop = at-next .before in
     let at-pages = at-loop .before .before .before .before .before in
@@ -188,38 +205,25 @@ walk-directory-entry-requires t c κs =
     let n = entry-answer _ _ _ _ (at-next .next-entry .ensures) _ (at-at .at .given .1) in
     (start .pre .1 .0, (entry-in n (left-in (witness (i .1) (i .3))), n .under))
 
-walk-directory-walk-entry-requires : (t : ℕ) → walk-directory-lts.Need-walk-entry-requires (walk-directory-calls t) (walk-directory-at t) walk-directory.Post walk-directory-Inv-loop walk-directory-μ-loop
-walk-directory-walk-entry-requires t c κs =
-    let at-entry = c .before in
-    let at-at = at-entry .before .before in
-    let at-next = at-at .before .before in
-    let at-loop = at-next .before in
-    let at-count = at-loop .before .before in
-    let at-claim = at-count .before .before .before .before .before .before in
-    let start = at-claim .before .before .before .before .before in
-    let i = at-loop .loop .inv in
-    let l = witness (i .1) (i .3) in
-    let m = at-count .count-of .ensures in
-    let n = entry-answer _ _ _ _ (at-next .next-entry .ensures) _ (at-at .at .given .1) in
-    let o = some-to-go _ _ (m .0) (i .1) (i .3) n (at-entry .entry .ensures) (i .2) in
-    (omega (arith, start .pre .0, i .2, m .1), (start .pre .1 .0, (i .0, left-known l, l .good-totals, record { some = o; most = i .2; few = m .1 })))
-
 walk-directory-same-length-2 : (t : ℕ) → walk-directory-lts.Need-same-length-2 (walk-directory-calls t) (walk-directory-at t) walk-directory.Post walk-directory-Inv-loop walk-directory-μ-loop
 walk-directory-same-length-2 t c =
-    let at-walk-entry = c .before .before .before .before .before in
-    let at-next = at-walk-entry .before .before .before .before .before .before in
+    let at-told = c .before .before in
+    let at-item = at-told .before .before in
+    let at-past = at-item .before in
+    let at-at = at-past .before .before in
+    let at-next = at-at .before .before in
     let at-loop = at-next .before in
     let at-pages = at-loop .before .before .before .before .before in
     let at-claim = at-pages .before .before .before .before in
     let start = at-claim .before .before .before .before in
-    at-walk-entry .walk-entry .kept .1 .1 .1 .1 .1 .1 .1 .1 .0 ∙ at-loop .loop .inv .0 ∙ sym (start .pre .1 .1 .0)
+    at-loop .loop .inv .0 ∙ sym (start .pre .1 .1 .0)
 
 walk-directory-returns-2 : (t : ℕ) → walk-directory-lts.Need-returns-2 (walk-directory-calls t) (walk-directory-at t) walk-directory.Post walk-directory-Inv-loop walk-directory-μ-loop
 walk-directory-returns-2 t c =
-    let at-number = c .before in
-    let at-walk-entry = at-number .before .before .before .before in
-    let at-entry = at-walk-entry .before .before in
-    let at-at = at-entry .before .before in
+    let at-told = c .before .before in
+    let at-item = at-told .before .before in
+    let at-past = at-item .before in
+    let at-at = at-past .before .before in
     let at-next = at-at .before .before in
     let at-loop = at-next .before in
     let at-pages = at-loop .before .before .before .before .before in
@@ -229,61 +233,131 @@ walk-directory-returns-2 t c =
     let i = at-loop .loop .inv in
     let n = entry-answer _ _ _ _ (at-next .next-entry .ensures) _ (at-at .at .given .1) in
     whole-refused (viewsOf _ _) (is-claimed _ _ _ _ _ (at-claim .claim-chain .ensures) (at-pages .pages .given .1) (length-exact _ _ (s .1 .0)) (s .1 .1)) (start .args .levels) (start .args .name) _ _
-    (λ others ls r d. left-refused (i .3 others ls r d) n (at-entry .entry .ensures) _ _ (at-walk-entry .walk-entry .ensures) _ _ (at-number .number2 .given .1))
-
-walk-directory-past-requires : (t : ℕ) → walk-directory-lts.Need-past-requires (walk-directory-calls t) (walk-directory-at t) walk-directory.Post walk-directory-Inv-loop walk-directory-μ-loop
-walk-directory-past-requires t c κs =
-    let at-walk-entry = c .before .before .before .before .before in
-    let at-at = at-walk-entry .before .before .before .before in
-    let at-next = at-at .before .before in
-    entry-answer _ _ _ _ (at-next .next-entry .ensures) _ (at-at .at .given .1) .under
-
-walk-directory-sub-left : (t : ℕ) → walk-directory-lts.Need-sub-left (walk-directory-calls t) (walk-directory-at t) walk-directory.Post walk-directory-Inv-loop walk-directory-μ-loop
-walk-directory-sub-left t c =
-    let at-walk-entry = c .before .before .before .before .before .before in
-    let at-entry = at-walk-entry .before .before in
-    let at-at = at-entry .before .before in
-    let at-next = at-at .before .before in
-    let at-loop = at-next .before in
-    let at-count = at-loop .before .before in
-    let i = at-loop .loop .inv in
-    let n = entry-answer _ _ _ _ (at-next .next-entry .ensures) _ (at-at .at .given .1) in
-    some-to-go _ _ (at-count .count-of .ensures .0) (i .1) (i .3) n (at-entry .entry .ensures) (i .2)
+    (λ others ls r d. left-loose (i .3 others ls r d) n (at-item .item .result) (at-item .item .ensures) (at-told .enum-told2 .given .1) (at-past .past .ensures) [] (c .if1 .taken))
 
 walk-directory-loop-less : (t : ℕ) → walk-directory-lts.Need-loop-less (walk-directory-calls t) (walk-directory-at t) walk-directory.Post walk-directory-Inv-loop walk-directory-μ-loop
 walk-directory-loop-less t c =
-    let at-walk-entry = c .before .before .before .before .before .before in
-    let at-entry = at-walk-entry .before .before in
-    let at-at = at-entry .before .before in
+    let at-told = c .before .before in
+    let at-item = at-told .before .before in
+    let at-past = at-item .before in
+    let at-at = at-past .before .before in
     let at-next = at-at .before .before in
     let at-loop = at-next .before in
     let at-count = at-loop .before .before in
     let i = at-loop .loop .inv in
     let n = entry-answer _ _ _ _ (at-next .next-entry .ensures) _ (at-at .at .given .1) in
-    let o = some-to-go _ _ (at-count .count-of .ensures .0) (i .1) (i .3) n (at-entry .entry .ensures) (i .2) in
+    let o = some-to-go _ _ (at-count .count-of .ensures .0) (i .1) (i .3) n (i .2) in
     omega arith
 
 walk-directory-loop-again : (t : ℕ) → walk-directory-lts.Need-loop-again (walk-directory-calls t) (walk-directory-at t) walk-directory.Post walk-directory-Inv-loop walk-directory-μ-loop
 walk-directory-loop-again t c =
-    let at-d = c .before .before in
-    let at-walk-entry = at-d .before .before .before .before in
-    let at-entry = at-walk-entry .before .before in
-    let at-at = at-entry .before .before in
+    let at-told = c .before .before in
+    let at-item = at-told .before .before in
+    let at-past = at-item .before in
+    let at-at = at-past .before .before in
     let at-next = at-at .before .before in
     let at-loop = at-next .before in
     let at-count = at-loop .before .before in
     let i = at-loop .loop .inv in
     let n = entry-answer _ _ _ _ (at-next .next-entry .ensures) _ (at-at .at .given .1) in
-    let e = at-entry .entry .ensures in
-    let o = some-to-go _ _ (at-count .count-of .ensures .0) (i .1) (i .3) n e (i .2) in (
-      at-walk-entry .walk-entry .kept .1 .1 .1 .1 .1 .1 .1 .1 .0 ∙ i .0,
+    let o = some-to-go _ _ (at-count .count-of .ensures .0) (i .1) (i .3) n (i .2) in (
+      i .0,
       i .1,
       omega (arith, i .2),
-      λ claimed ls r d. left-entry (i .3 claimed ls r d) n e _ _ (at-walk-entry .walk-entry .ensures) (length-exact _ _ (i .0)) _ (at-d .d .given .1) _ _ (c .past .ensures) (omega (arith, i .2)),
+      λ claimed ls r d. left-stamp (i .3 claimed ls r d) n (at-item .item .result) (at-item .item .ensures) (at-told .enum-told2 .given .1) (at-past .past .ensures) _ (c .if1 .left) (omega (arith, i .2)),
     )
+
+walk-directory-walk-entry-requires : (t : ℕ) → walk-directory-lts.Need-walk-entry-requires (walk-directory-calls t) (walk-directory-at t) walk-directory.Post walk-directory-Inv-loop walk-directory-μ-loop
+walk-directory-walk-entry-requires t c κs =
+    let at-e = c .before .before in
+    let at-item = at-e .before .before in
+    let at-past = at-item .before in
+    let at-at = at-past .before .before in
+    let at-next = at-at .before .before in
+    let at-loop = at-next .before in
+    let at-count = at-loop .before .before in
+    let at-claim = at-count .before .before .before .before .before .before in
+    let start = at-claim .before .before .before .before .before in
+    let i = at-loop .loop .inv in
+    let l = witness (i .1) (i .3) in
+    let m = at-count .count-of .ensures in
+    let n = entry-answer _ _ _ _ (at-next .next-entry .ensures) _ (at-at .at .given .1) in
+    let e = plain-answer _ _ _ (at-item .item .result) (at-item .item .ensures) _ (at-e .e .given .1) in
+    let o = some-to-go _ _ (m .0) (i .1) (i .3) n (i .2) in
+    (omega (arith, start .pre .0, i .2, m .1), (start .pre .1 .0, (i .0, left-known l, l .good-totals, record { some = o; most = i .2; few = m .1 }, e .1)))
+
+walk-directory-same-length-3 : (t : ℕ) → walk-directory-lts.Need-same-length-3 (walk-directory-calls t) (walk-directory-at t) walk-directory.Post walk-directory-Inv-loop walk-directory-μ-loop
+walk-directory-same-length-3 t c =
+    let at-walk-entry = c .before .before .before .before .before in
+    let at-e = at-walk-entry .before .before .before in
+    let at-item = at-e .before .before in
+    let at-past = at-item .before in
+    let at-at = at-past .before .before in
+    let at-next = at-at .before .before in
+    let at-loop = at-next .before in
+    let at-pages = at-loop .before .before .before .before .before in
+    let at-claim = at-pages .before .before .before .before in
+    let start = at-claim .before .before .before .before in
+    at-walk-entry .walk-entry .kept .1 .1 .1 .1 .1 .1 .1 .1 .0 ∙ at-loop .loop .inv .0 ∙ sym (start .pre .1 .1 .0)
 
 walk-directory-returns-3 : (t : ℕ) → walk-directory-lts.Need-returns-3 (walk-directory-calls t) (walk-directory-at t) walk-directory.Post walk-directory-Inv-loop walk-directory-μ-loop
 walk-directory-returns-3 t c =
+    let at-number = c .before in
+    let at-walk-entry = at-number .before .before .before .before in
+    let at-e = at-walk-entry .before .before .before in
+    let at-item = at-e .before .before in
+    let at-past = at-item .before in
+    let at-at = at-past .before .before in
+    let at-next = at-at .before .before in
+    let at-loop = at-next .before in
+    let at-pages = at-loop .before .before .before .before .before in
+    let at-claim = at-pages .before .before .before .before in
+    let start = at-claim .before .before .before .before in
+    let s = start .pre .1 in
+    let i = at-loop .loop .inv in
+    let n = entry-answer _ _ _ _ (at-next .next-entry .ensures) _ (at-at .at .given .1) in
+    let e = plain-answer _ _ _ (at-item .item .result) (at-item .item .ensures) _ (at-e .e .given .1) in
+    whole-refused (viewsOf _ _) (is-claimed _ _ _ _ _ (at-claim .claim-chain .ensures) (at-pages .pages .given .1) (length-exact _ _ (s .1 .0)) (s .1 .1)) (start .args .levels) (start .args .name) _ _
+    (λ others ls r d. left-refused (i .3 others ls r d) n (e .0) (e .1) _ _ (at-walk-entry .walk-entry .ensures) _ _ (at-number .number2 .given .1))
+
+walk-directory-loop-less-2 : (t : ℕ) → walk-directory-lts.Need-loop-less-2 (walk-directory-calls t) (walk-directory-at t) walk-directory.Post walk-directory-Inv-loop walk-directory-μ-loop
+walk-directory-loop-less-2 t c =
+    let at-walk-entry = c .before .before .before .before .before in
+    let at-e = at-walk-entry .before .before .before in
+    let at-item = at-e .before .before in
+    let at-past = at-item .before in
+    let at-at = at-past .before .before in
+    let at-next = at-at .before .before in
+    let at-loop = at-next .before in
+    let at-count = at-loop .before .before in
+    let i = at-loop .loop .inv in
+    let n = entry-answer _ _ _ _ (at-next .next-entry .ensures) _ (at-at .at .given .1) in
+    let o = some-to-go _ _ (at-count .count-of .ensures .0) (i .1) (i .3) n (i .2) in
+    omega arith
+
+walk-directory-loop-again-2 : (t : ℕ) → walk-directory-lts.Need-loop-again-2 (walk-directory-calls t) (walk-directory-at t) walk-directory.Post walk-directory-Inv-loop walk-directory-μ-loop
+walk-directory-loop-again-2 t c =
+    let at-d = c .before in
+    let at-walk-entry = at-d .before .before .before .before in
+    let at-e = at-walk-entry .before .before .before in
+    let at-item = at-e .before .before in
+    let at-past = at-item .before in
+    let at-at = at-past .before .before in
+    let at-next = at-at .before .before in
+    let at-loop = at-next .before in
+    let at-count = at-loop .before .before in
+    let i = at-loop .loop .inv in
+    let n = entry-answer _ _ _ _ (at-next .next-entry .ensures) _ (at-at .at .given .1) in
+    let e = plain-answer _ _ _ (at-item .item .result) (at-item .item .ensures) _ (at-e .e .given .1) in
+    let o = some-to-go _ _ (at-count .count-of .ensures .0) (i .1) (i .3) n (i .2) in (
+      at-walk-entry .walk-entry .kept .1 .1 .1 .1 .1 .1 .1 .1 .0 ∙ i .0,
+      i .1,
+      omega (arith, i .2),
+      λ claimed ls r d. left-entry (i .3 claimed ls r d) n (e .0) (e .1) _ _ (at-walk-entry .walk-entry .ensures) (length-exact _ _ (i .0)) _ (at-d .d .given .1) _ _ (at-past .past .ensures) (omega (arith, i .2)),
+    )
+
+walk-directory-returns-4 : (t : ℕ) → walk-directory-lts.Need-returns-4 (walk-directory-calls t) (walk-directory-at t) walk-directory.Post walk-directory-Inv-loop walk-directory-μ-loop
+walk-directory-returns-4 t c =
     let at-number = c .before in
     let at-claim = at-number .before .before .before .before in
     let start = at-claim .before .before .before .before in
@@ -297,7 +371,7 @@ walk-entry-sub-entry-fault t c =
 walk-entry-entry-fault-requires : (t : ℕ) → walk-entry-lts.Need-entry-fault-requires (walk-entry-calls t) (walk-entry-at t) walk-entry.Post
 walk-entry-entry-fault-requires t c κs =
     let start = c .before .before .before in
-    (start .pre .1 .0, start .pre .1 .1 .1)
+    (start .pre .1 .0, (start .pre .1 .1 .1, start .pre .1 .1 .4))
 
 walk-entry-returns : (t : ℕ) → walk-entry-lts.Need-returns (walk-entry-calls t) (walk-entry-at t) walk-entry.Post
 walk-entry-returns t c =
@@ -406,7 +480,7 @@ pub +walk-directory+walk-entry-spec : {M : Type 1} → statement M
     (λ c κs. search needs)
     (λ c. search needs)
     (λ c. search needs)
-    (walk-directory-add-t29 t)
+    (walk-directory-add-t30 t)
     (walk-directory-count-of-requires t)
     (walk-directory-first-requires t)
     (walk-directory-loop-holds t)
@@ -415,18 +489,24 @@ pub +walk-directory+walk-entry-spec : {M : Type 1} → statement M
     (λ c. search needs)
     (walk-directory-same-length t)
     (walk-directory-returns t)
-    (walk-directory-entry-requires t)
-    (walk-directory-walk-entry-requires t)
+    (walk-directory-past-requires t)
+    (walk-directory-sub-left t)
+    (walk-directory-item-requires t)
+    (λ c. search needs)
     (λ c. search needs)
     (walk-directory-same-length-2 t)
     (walk-directory-returns-2 t)
-    (λ c. search needs)
-    (walk-directory-past-requires t)
-    (walk-directory-sub-left t)
     (walk-directory-loop-less t)
     (walk-directory-loop-again t)
+    (walk-directory-walk-entry-requires t)
     (λ c. search needs)
-    (walk-directory-returns-3 t))
+    (walk-directory-same-length-3 t)
+    (walk-directory-returns-3 t)
+    (λ c. search needs)
+    (walk-directory-loop-less-2 t)
+    (walk-directory-loop-again-2 t)
+    (λ c. search needs)
+    (walk-directory-returns-4 t))
     λ t. walk-entry-lts.spec (walk-entry-calls t) (walk-entry-at t)
     walk-entry.Post
     (walk-entry-sub-entry-fault t)

@@ -1,4 +1,5 @@
 -- The entry's own fault first; then its key is looked for among the entries before it.
+use Rattle.entries.proofs.KeyLaws.{plain-key}
 use Rattle.walk.proofs.Parts.{met-before, first-label, first-met, first-new}
 use borrow.Author.Needs.{needs}
 use Rattle.walk.proofs.entry_fault.Statement.{statement}
@@ -6,6 +7,13 @@ use Rattle.walk.proofs.entry_fault.Tie as tie
 
 returns : tie.Need-returns
 returns c = λ seen m p. first-label p seen _ _ (c .before .label-fault .ensures p) (c .if1 .taken)
+
+is-repeated-requires : tie.Need-is-repeated-requires
+is-repeated-requires c κs =
+    let at-if1 = c .before in
+    let start = at-if1 .before .before .before in
+    let s = start .pre in
+    (s .0, (s .1 .0, plain-key (start .args .e) _ (s .1 .1) (c .key-of .ensures)))
 
 returns-2 : tie.Need-returns-2
 returns-2 c =
@@ -28,4 +36,4 @@ returns-3 c =
 pub entry-fault-spec : {M : Type 1} → statement M
 entry-fault-spec =
     tie.close
-    (tie.spec (λ c κs. search needs) returns (λ c κs. search needs) (λ c κs. search needs) returns-2 returns-3)
+    (tie.spec (λ c κs. search needs) returns (λ c κs. search needs) is-repeated-requires returns-2 returns-3)

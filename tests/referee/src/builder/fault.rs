@@ -4,6 +4,7 @@
 
 use super::pages::Pages;
 use super::plan::{Built, BuiltChain, BuiltEntry, ChainOf};
+use super::random::random_stamp;
 use crate::answer::Answer;
 use crate::rng::Rng;
 
@@ -466,6 +467,9 @@ impl<'a> Alteration<'a> {
         let wrong: [u8; 16] = *b"az\"()*+,-./:;\\|\x7F";
         let byte = wrong[self.rng.below(wrong.len())];
         let place = self.rng.below(4);
+        if entry.stamps > 0 && self.rng.chance(40) {
+            return self.stamp_name(entry, byte);
+        }
         match self.rng.below(4) {
             0 => self.pages.alter(entry.page, entry.offset, b" "),
             1 => self.pages.alter(entry.page, entry.offset, b"A B "),
@@ -479,18 +483,62 @@ impl<'a> Alteration<'a> {
         Some(entry.page)
     }
 
-    /// 10: an extended entry, or an extension number from 100 to 126.
+    /// 9: a stamp of an entry whose first byte is one below 128 that no name has.
+    fn stamp_name(&mut self, entry: &BuiltEntry, byte: u8) -> Option<usize> {
+        let back = self.rng.between(1, entry.stamps) * self.pages.geometry.entry_length();
+        self.pages.alter(entry.page, entry.offset - back, &[byte]);
+        Some(entry.page)
+    }
+
+    /// 10: a stamp with no plain entry after it in its page, or an extension number from 100 to 126.
     fn extension(&mut self) -> Option<usize> {
-        let entry = self.entry()?;
-        if self.rng.chance(50) {
-            let first = self.rng.between(128, 255) as u8;
-            self.pages.alter(entry.page, entry.offset, &[first]);
-        } else {
-            let number = self.rng.between(100, 126) as u8;
-            let attribute = self.rng.byte() & 0x80;
-            let byte = [number | attribute];
-            self.pages.alter(entry.page, entry.offset + 4, &byte);
+        match self.rng.below(4) {
+            0 => self.last_becomes_stamp(),
+            1 => self.stamp_at_end(),
+            _ => self.extension_number(),
         }
+    }
+
+    /// 10: the last entry of a page becomes a stamp.
+    fn last_becomes_stamp(&mut self) -> Option<usize> {
+        let entry = self.entry()?;
+        let end = entry.offset + self.pages.geometry.entry_length();
+        if end != 1 + self.pages.body(entry.page).len() {
+            return None;
+        }
+        let first = self.rng.between(128, 255) as u8;
+        self.pages.alter(entry.page, entry.offset, &[first]);
+        Some(entry.page)
+    }
+
+    /// 10: one stamp or more at the end of a directory page with space for them, which may have no entry.
+    fn stamp_at_end(&mut self) -> Option<usize> {
+        let chain = self.chain()?;
+        if matches!(chain.of, ChainOf::File | ChainOf::Bitmap) {
+            return None;
+        }
+        let geometry = self.pages.geometry;
+        let page = *self.rng.pick(&chain.pages)?;
+        let mut body = self.pages.body(page);
+        let space = geometry.max_data().checked_sub(body.len())? / geometry.entry_length();
+        if space == 0 {
+            return None;
+        }
+        for _ in 0..self.rng.between(1, space.min(3)) {
+            body.extend(random_stamp(&geometry, self.rng));
+        }
+        let pointer = self.pages.pointer(page);
+        self.pages.packet(page, &body, pointer);
+        Some(page)
+    }
+
+    /// 10: an extension number from 100 to 126.
+    fn extension_number(&mut self) -> Option<usize> {
+        let entry = self.entry()?;
+        let number = self.rng.between(100, 126) as u8;
+        let attribute = self.rng.byte() & 0x80;
+        let byte = [number | attribute];
+        self.pages.alter(entry.page, entry.offset + 4, &byte);
         Some(entry.page)
     }
 

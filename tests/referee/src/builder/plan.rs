@@ -1,7 +1,10 @@
 //! The description of an image, and the image built from it with the answers it must give.
 
+use std::collections::BTreeMap;
+
 use super::pages::Pages;
 use crate::answer::{Listing, Totals};
+use crate::geometry::Geometry;
 use crate::owners::{record_bytes, RECORD_LENGTH};
 use crate::rng::Rng;
 
@@ -29,12 +32,16 @@ pub struct FilePlan {
     pub chain: Chain,
 }
 
-/// A directory: its pages in chain order, the number of entries in each, and the entries.
+/// The bytes of the stamps before an entry, each as long as an entry, by the entry's name and extension number.
+pub type Stamps = BTreeMap<([u8; 4], u8), Vec<Vec<u8>>>;
+
+/// A directory: its pages in chain order, the number of plain entries in each, the entries, and the stamps of those that have any.
 #[derive(Clone, Debug, Default)]
 pub struct DirectoryPlan {
     pub pages: Vec<usize>,
     pub counts: Vec<usize>,
     pub items: Vec<Item>,
+    pub stamps: Stamps,
 }
 
 /// An entry of a directory.
@@ -94,6 +101,8 @@ pub struct BuiltEntry {
     pub page: usize,
     /// The place of the entry's first byte in that page.
     pub offset: usize,
+    /// The number of stamps directly before it.
+    pub stamps: usize,
     /// The place in `chains` of the directory that holds it.
     pub directory: usize,
     /// The place in `chains` of its own chain.
@@ -114,6 +123,16 @@ pub struct Built {
     /// All chains in the order in which the check walks them.
     pub chains: Vec<BuiltChain>,
     pub local_bitmap: bool,
+}
+
+impl Built {
+    /// The bytes of each stamp before an entry, in order.
+    pub fn stamps_of(&self, entry: &BuiltEntry) -> impl Iterator<Item = &[u8]> {
+        let geometry = Geometry::new(self.page_length, self.page_count);
+        let length = geometry.expect("P and N of the plan").entry_length();
+        let end = entry.page * self.page_length as usize + entry.offset;
+        self.image[end - entry.stamps * length..end].chunks(length)
+    }
 }
 
 impl Chain {
@@ -163,6 +182,11 @@ impl Item {
         }
     }
 
+    /// Name and extension number.
+    pub fn key(&self) -> ([u8; 4], u8) {
+        (self.name(), self.extension() & 0x7F)
+    }
+
     /// The pages of its own chain.
     fn pages(&self) -> &[usize] {
         match self {
@@ -181,6 +205,29 @@ impl Item {
 }
 
 impl DirectoryPlan {
+    /// The stamps before an entry.
+    pub fn stamps_of(&self, item: &Item) -> &[Vec<u8>] {
+        self.stamps.get(&item.key()).map_or(&[], Vec::as_slice)
+    }
+
+    /// The slots that the last page has taken.
+    pub fn last_slots(&self) -> usize {
+        let count = self.counts.last().copied().unwrap_or(0);
+        let items = &self.items[self.items.len() - count..];
+        items
+            .iter()
+            .map(|item| 1 + self.stamps_of(item).len())
+            .sum()
+    }
+
+    /// The slots that each page has taken: one for each entry and one for each stamp.
+    pub fn slots(&self) -> Vec<usize> {
+        let mut items = self.items.iter();
+        let taken = |item: &Item| 1 + self.stamps_of(item).len();
+        let page_slots = |&count: &usize| items.by_ref().take(count).map(taken).sum();
+        self.counts.iter().map(page_slots).collect()
+    }
+
     /// Adds the pages of this directory and of all below it.
     fn add_pages(&self, pages: &mut Vec<usize>) {
         pages.extend(&self.pages);
@@ -200,6 +247,14 @@ struct Place {
     path: Vec<u8>,
     level: u32,
     chain: usize,
+}
+
+/// Where an entry stands: its page, the place of its first byte there, and the number of stamps before it.
+#[derive(Clone, Copy)]
+struct Slot {
+    page: usize,
+    offset: usize,
+    stamps: usize,
 }
 
 /// The image and the answers while they are made.
@@ -319,7 +374,14 @@ impl Work {
                 body.extend_from_slice(control);
             }
             for item in items.by_ref().take(plan.counts[index]) {
-                placed.push((item, page, 1 + body.len()));
+                let stamps = plan.stamps_of(item);
+                body.extend(stamps.concat());
+                let slot = Slot {
+                    page,
+                    offset: 1 + body.len(),
+                    stamps: stamps.len(),
+                };
+                placed.push((item, slot));
                 body.extend_from_slice(&item.name());
                 body.push(item.extension());
                 body.extend(self.pages.geometry.number_bytes(item.pages()[0]));
@@ -329,13 +391,13 @@ impl Work {
             self.pages.packet(page, &body, pointer);
         }
         assert_eq!(placed.len(), plan.items.len(), "every entry has a page");
-        for (item, page, offset) in placed {
-            self.item(item, page, offset, plan.pages[0], &place);
+        for (item, slot) in placed {
+            self.item(item, slot, plan.pages[0], &place);
         }
     }
 
     /// Records an entry and writes what it leads to.
-    fn item(&mut self, item: &Item, page: usize, offset: usize, start: usize, place: &Place) {
+    fn item(&mut self, item: &Item, slot: Slot, start: usize, place: &Place) {
         let owner = 3 + self.entries.len();
         let of = match item {
             Item::File(_) => ChainOf::File,
@@ -344,7 +406,7 @@ impl Work {
         let chain = self.add_chain(of, item.pages(), owner);
         let mut path = place.path.clone();
         path.extend(item.name());
-        self.add_entry(item, page, offset, &path, place, chain);
+        self.add_entry(item, slot, &path, place, chain);
         match item {
             Item::File(file) => self.data_chain(&file.chain, &file.bytes),
             Item::Directory {
@@ -364,15 +426,7 @@ impl Work {
     }
 
     /// Records what the calls must tell of an entry.
-    fn add_entry(
-        &mut self,
-        item: &Item,
-        page: usize,
-        offset: usize,
-        path: &[u8],
-        place: &Place,
-        chain: usize,
-    ) {
+    fn add_entry(&mut self, item: &Item, slot: Slot, path: &[u8], place: &Place, chain: usize) {
         let mut path = path.to_vec();
         let mut bytes = Vec::new();
         if let Item::File(file) = item {
@@ -394,8 +448,9 @@ impl Work {
             listing,
             path,
             bytes,
-            page,
-            offset,
+            page: slot.page,
+            offset: slot.offset,
+            stamps: slot.stamps,
             directory: place.chain,
             chain,
         });

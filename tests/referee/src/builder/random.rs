@@ -29,6 +29,8 @@ pub struct Shape {
     pub deep: bool,
     /// The part of packets that are partly filled or empty although more follows.
     pub odd_packet_percent: usize,
+    /// The part of entries that have stamps: one to three, or as many as there can be.
+    pub stamp_percent: usize,
     pub fill: Fill,
 }
 
@@ -55,6 +57,7 @@ impl Shape {
             directory_percent: [0, 15, 40][rng.below(3)],
             deep: rng.chance(25),
             odd_packet_percent: [0, 15, 60][rng.below(3)],
+            stamp_percent: [0, 0, 20, 70][rng.below(4)],
             fill: fill[rng.below(fill.len())],
         }
     }
@@ -112,6 +115,30 @@ pub fn random_name(rng: &mut Rng) -> [u8; 4] {
         *byte = NAME_BYTES[rng.below(NAME_BYTES.len())];
     }
     name
+}
+
+/// A random stamp, an entry's bytes with the first above 127: any bytes, those of erased memory, or such that look like a name, an entry or a
+/// directory's marker.
+pub fn random_stamp(geometry: &Geometry, rng: &mut Rng) -> Vec<u8> {
+    let mut stamp = rng.bytes(geometry.entry_length());
+    match rng.below(6) {
+        0 => stamp[..4].copy_from_slice(&random_name(rng)),
+        1 => {
+            stamp[..4].copy_from_slice(&random_name(rng));
+            stamp[4] = [1, 12, 99, 127, 255][rng.below(5)];
+            let start = rng.below(geometry.page_count());
+            let numbers = [geometry.number_bytes(start), geometry.number_bytes(1)];
+            stamp[5..].copy_from_slice(&numbers.concat());
+        }
+        2 => {
+            stamp.fill(0);
+            stamp[0] = geometry.marker();
+        }
+        3 => stamp.fill(0xFF),
+        _ => {}
+    }
+    stamp[0] |= 0x80;
+    stamp
 }
 
 /// An image in which every page has a sound packet, with random entries, pointers and counts.
@@ -183,6 +210,10 @@ fn random_entries(pages: &Pages, control: Vec<u8>, rng: &mut Rng) -> Vec<u8> {
     let space = (pages.geometry.max_data() - control.len()) / pages.geometry.entry_length();
     let mut body = control;
     for _ in 0..rng.below(space.min(4) + 1) {
+        if rng.chance(8) {
+            body.extend(random_stamp(&pages.geometry, rng));
+            continue;
+        }
         let name = ["A", "B", "C", "D", "E"][rng.below(5)];
         let directory = rng.chance(40);
         let extension = if directory { 127 } else { rng.below(3) as u8 };
@@ -241,16 +272,23 @@ impl Generator<'_> {
         let mut plan = DirectoryPlan {
             pages: vec![first],
             counts: vec![0],
-            items: Vec::new(),
+            ..DirectoryPlan::default()
         };
         let mut names = HashSet::new();
         let wanted = self
             .rng
             .between(self.shape.least_entries, self.shape.most_entries);
-        while plan.items.len() < wanted && self.make_space(&mut plan) {
+        while plan.items.len() < wanted {
+            let stamps = self.stamps(&plan.items);
+            if !self.make_space(&mut plan, 1 + stamps.len()) {
+                break;
+            }
             let Some(item) = self.item(level, plan.items.is_empty(), &mut names) else {
                 break;
             };
+            if !stamps.is_empty() {
+                plan.stamps.insert(item.key(), stamps);
+            }
             plan.items.push(item);
             if let Some(count) = plan.counts.last_mut() {
                 *count += 1;
@@ -262,8 +300,35 @@ impl Generator<'_> {
         plan
     }
 
-    /// Makes space for one more entry at a directory's end; sometimes leaves space behind.
-    fn make_space(&mut self, plan: &mut DirectoryPlan) -> bool {
+    /// The stamps of an entry behind these: none, or one to three as far as a continuation page has slots for them and the entry, or as many as it
+    /// has slots for. Some have the name and extension of an entry of the directory, but for the top bit of the first byte.
+    fn stamps(&mut self, before: &[Item]) -> Vec<Vec<u8>> {
+        if self.shape.stamp_percent == 0 || !self.rng.chance(self.shape.stamp_percent) {
+            return Vec::new();
+        }
+        let most = self.geometry.continuation_entries() - 1;
+        let few = self.rng.between(1, 3).min(most);
+        let count = if self.rng.chance(8) { most } else { few };
+        (0..count)
+            .map(|_| match self.rng.pick(before) {
+                Some(item) if self.rng.chance(15) => self.stamp_like(item),
+                _ => random_stamp(&self.geometry, self.rng),
+            })
+            .collect()
+    }
+
+    /// A stamp with the name and extension number of an entry, but for the top bit of the first byte.
+    fn stamp_like(&mut self, item: &Item) -> Vec<u8> {
+        let (name, extension) = item.key();
+        let mut stamp = random_stamp(&self.geometry, self.rng);
+        stamp[..4].copy_from_slice(&name);
+        stamp[0] |= 0x80;
+        stamp[4] = extension;
+        stamp
+    }
+
+    /// Makes space for so many slots more at a directory's end; sometimes leaves space behind.
+    fn make_space(&mut self, plan: &mut DirectoryPlan, slots: usize) -> bool {
         while self.rng.chance(self.shape.odd_packet_percent / 4) {
             if !self.append_page(plan) {
                 return false;
@@ -274,8 +339,8 @@ impl Generator<'_> {
         } else {
             self.geometry.continuation_entries()
         };
-        let full = plan.counts.last().is_some_and(|&count| count >= capacity);
-        !full || self.append_page(plan)
+        let taken = plan.last_slots();
+        taken + slots <= capacity || self.append_page(plan)
     }
 
     /// Joins a page from the pool to a directory's end.

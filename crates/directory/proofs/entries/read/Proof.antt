@@ -30,6 +30,7 @@ use denote.Signature.{namedLft}
 use denote.Slice.{sliceVal, ShrSlice}
 use denote.Steps.{owned, peeks, heard, nothing}
 use denote.Struct.Declared.{Declared}
+use denote.Enum.Laws as enums
 use denote.Struct.Laws as laws
 use denote.Struct.Rest.{all-own, ownAt, rest, own-open, own-out}
 use denote.Struct.Values.{Values}
@@ -41,16 +42,16 @@ use denote.Triple.Table.{entered, cited}
 use denote.Triple.Walked.{says, needs, Stays, stay-none, walkOf, goes-none, Walks, ends-at, walked, walk-meets}
 use denote.Exit.{yes}
 use denote.Triple.Clauses.{ensured, lasts}
-use Rattle.rules.specs.declared.Entry.{Entry}
-use Rattle.rules.proofs.Entry as entry
-use Rattle.rules.proofs.Entry.Laws as entry′
-use Rattle.directory.specs.EntryPlaces.{HasEntry, IsEntry}
+use Rattle.directory.specs.EntryPlaces.{HasEntry, IsItem}
+use Rattle.directory.specs.declared.entries.Item.{Item}
+use Rattle.directory.proofs.entries.Item as item
+use Rattle.directory.proofs.entries.Item.Laws as item′
 use Rattle.directory.specs.declared.entries.EntryReader.{EntryReader}
 use Rattle.directory.proofs.entries.EntryReader as reader
 use Rattle.directory.proofs.entries.EntryReader.Laws as reader′
-use Rattle.directory.proofs.entries.entry_at as callee
-use Rattle.directory.proofs.entries.entry_at.Symbol as callee-def
-use Rattle.directory.proofs.entries.entry_at.Met as callee-thm
+use Rattle.directory.proofs.entries.item_at as callee
+use Rattle.directory.proofs.entries.item_at.Symbol as callee-def
+use Rattle.directory.proofs.entries.item_at.Met as callee-thm
 use Rattle.directory.proofs.entries.read as fn
 use Rattle.directory.proofs.entries.read.Key as key
 use Rattle.directory.proofs.entries.read.Statement as stated
@@ -66,8 +67,8 @@ stayed = (stay-none Row yes, (stay-none (λ _. usize) yes, tt))
 abbrev Asks : EntryReader → ℕ → Type 0
 Asks d n = HasEntry n (now (d .page)) (d .at)
 
-abbrev Tells : EntryReader → ℕ → Entry → Type 0
-Tells d n e = IsEntry n (now (d .page)) (d .at) e
+abbrev Tells : EntryReader → ℕ → Item → Type 0
+Tells d n e = IsItem n (now (d .page)) (d .at) e
 
 module _ {M : Type 1} (𝓤 : URA M) (H : Heap 𝓤) (A : Atoms 𝓤) (mem : Memory → SProp 𝓤) (run : Routine → Fun 𝓤) where
   -- the contract of the function that is called
@@ -126,12 +127,12 @@ module _ {M : Type 1} (𝓤 : URA M) (H : Heap 𝓤) (A : Atoms 𝓤) (W : Given
       -- [what the page owns; what the place owns; what the reader owns; the token]
       move ! (1 ∷ []) $ drop ! $ move ! (2 ∷ 0 ∷ []) $ use2 W (raw (Called 𝓤 H A mem run .pre passed)) (asked fits inside) $ frame ! $ done !)
 
-  told : (e : Entry) → ent 𝓤 (ensured 𝓤 H A callee.ended (callee.clauses 𝓤 H A mem run) (κ, tt) (d .page, (d .at, (n, tt))) tt e) (fact 𝓤 (Tells d n e))
+  told : (e : Item) → ent 𝓤 (ensured 𝓤 H A callee.ended (callee.clauses 𝓤 H A mem run) (κ, tt) (d .page, (d .at, (n, tt))) tt e) (fact 𝓤 (Tells d n e))
   told e = exE 𝓤 _ (λ ws. snd∗ 𝓤 (sem 𝓤 H A (lasts callee.ended (κ, tt) (d .page, (d .at, (n, tt))) ws)) (fact 𝓤 (Tells d n e)))
 
-  exits : (e : Entry) (u : Val) → Tells d n e → ent 𝓤 (⋆ 𝓤 H A (‵ (entry.the-row .own e (u ∷ [])) ∷ (‵ (flft κ q) ⊛ ‵ ftrue) ∷ ‵ Owned ∷ [])) (Post u)
+  exits : (e : Item) (u : Val) → Tells d n e → ent 𝓤 (⋆ 𝓤 H A (‵ (item.the-row .own e (u ∷ [])) ∷ (‵ (flft κ q) ⊛ ‵ ftrue) ∷ ‵ Owned ∷ [])) (Post u)
   exits e u t =
-      qed W (‵ (entry.the-row .own e (u ∷ [])) ∷ (‵ (flft κ q) ⊛ ‵ ftrue) ∷ ‵ Owned ∷ []) ∵
+      qed W (‵ (item.the-row .own e (u ∷ [])) ∷ (‵ (flft κ q) ⊛ ‵ ftrue) ∷ ‵ Owned ∷ []) ∵
       suffices ! _ (ends-at 𝓤 H A fn.ended stayed (fn.clauses 𝓤 H A mem run) W (((κ, tt), (q, tt), tt, (d, (n, tt)), values), tt) u e (tt, (tt, tt)) (tt, (tt, tt))) $ says ! t $
       move ! (1 ∷ []) $ frame ! $ nothing ! $ owned ! usize (Is usize) (uint-makes 𝓤 H A W w64) n _ (refl, n-fits) $ fjoin ! $ move ! (2 ∷ 0 ∷ []) $ fjoin ! $ frame ! $ done !
 
@@ -146,11 +147,11 @@ module _ {M : Type 1} (𝓤 : URA M) (H : Heap 𝓤) (A : Atoms 𝓤) (W : Given
         move ! (10 ∷ []) $ use1 W (raw (Called 𝓤 H A mem run .pre passed) ⊛ ‵ Owned) (apart (typed .1 .1 .0 .fits) inside) $ split ! $
         calls-at ! fm (Called 𝓤 H A mem run) known passed
         (and-then ! (load ! (from ! (stop !)) (look ! 4 refl)) (and-then ! (load ! (from ! (stop !)) (look ! 2 refl)) (and-then ! (load ! (from ! (stop !)) (look ! 6 refl)) (no-more !)))) (λ u.
-        use1 W (later (some (λ (e : Entry). ((‵ (flft κ q) ⊛ ‵ ftrue) ⊛ ‵ (entry.the-row .own e (u ∷ []))) ⊛ raw (ensured 𝓤 H A callee.ended (callee.clauses 𝓤 H A mem run) (κ, tt) (d .page, (d .at, (n, tt))) tt e)))) (id⊢ 𝓤 _) $
+        use1 W (later (some (λ (e : Item). ((‵ (flft κ q) ⊛ ‵ ftrue) ⊛ ‵ (item.the-row .own e (u ∷ []))) ⊛ raw (ensured 𝓤 H A callee.ended (callee.clauses 𝓤 H A mem run) (κ, tt) (d .page, (d .at, (n, tt))) tt e)))) (id⊢ 𝓤 _) $
         await ! tt $ pick ! (λ e. split ! $ move ! (1 ∷ []) $ use1 W (raw (fact 𝓤 (Tells d n e))) (told e) $ heard ! (Tells d n e) (λ t. split ! $ move ! (1 ∷ []) $
-        -- [the entry; the token; what the reader owns; _4; ..; _3; ..; _2; ..; _1; ..; room for _0; ..]
-        peeks ! entry.the-row (Is entry.the-row) (shows 𝓤 H A entry.the-row) e (u ∷ []) (λ is.
-        land ! (from ! (stop !)) (init ! 11 refl (laws.lawful entry.the-type entry′.the-laws 𝓤 H A W .typed e _ is .0)) $
+        -- [what is read; the token; what the reader owns; _4; ..; _3; ..; _2; ..; _1; ..; room for _0; ..]
+        peeks ! item.the-row (Is item.the-row) (shows 𝓤 H A item.the-row) e (u ∷ []) (λ is.
+        land ! (from ! (stop !)) (init ! 11 refl (enums.lawful item.the-type item′.the-laws 𝓤 H A W tt .typed e _ is .0)) $
         returns ! (look ! 11 refl) $ forget ! 3 refl $ forget ! 5 refl $ forget ! 7 refl $ forget ! 9 refl $ forget ! 11 refl $
         move ! (11 ∷ 12 ∷ []) $ free1 ! $ move ! (9 ∷ 10 ∷ []) $ free1 ! $ move ! (7 ∷ 8 ∷ []) $ free1 ! $ move ! (5 ∷ 6 ∷ []) $ free1 ! $ move ! (3 ∷ 4 ∷ []) $ free1 ! $ free0 ! $ by ! (exits e u t))))))))))
 
@@ -172,4 +173,4 @@ read-spec 𝓤 H 𝓜 𝓖 𝓡 =
     let all = tables 𝓤 H 𝓜 𝓡 code.env in
     entered 𝓤 H (tripleOf 𝓤 H (𝓖 .A) fn.signature (fn.spec 𝓤 H (𝓖 .A) (𝓜 .mem) (𝓡 .run))) (all .C) (all .Λ) key.name code.function (code.unfolded 𝓤 H 𝓜 𝓡)
     (meets 𝓤 H (𝓖 .A) (givenOf 𝓤 H 𝓜 𝓖) (𝓜 .mem) (𝓡 .run) (tablesOf 𝓤 H 𝓜 all)
-    (cited 𝓤 H (Called 𝓤 H (𝓖 .A) (𝓜 .mem) (𝓡 .run)) 𝓜 𝓡 code.env callee-def.name callee-def.routine code.calls-directory·entries·entry-at (callee-thm.met 𝓤 H 𝓜 𝓖 𝓡)))
+    (cited 𝓤 H (Called 𝓤 H (𝓖 .A) (𝓜 .mem) (𝓡 .run)) 𝓜 𝓡 code.env callee-def.name callee-def.routine code.calls-directory·entries·item-at (callee-thm.met 𝓤 H 𝓜 𝓖 𝓡)))

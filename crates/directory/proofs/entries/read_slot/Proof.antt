@@ -27,6 +27,7 @@ use denote.Ref.{RefT, NamedLft, now}
 use denote.Signature.{plain, namedLft}
 use denote.Slice.{sliceVal, ShrSlice, slice-vals, shr-slice-tells, shr-slice-lawful, shr-slice-copy}
 use denote.Steps.{owned, peeks, heard, nothing}
+use denote.Enum.Laws as enums
 use denote.Struct.Laws as laws
 use denote.Triple.Statement.{Contract, Triple}
 use denote.Triple.Call.{calls-at}
@@ -36,10 +37,10 @@ use denote.Triple.Table.{entered, cited}
 use denote.Triple.Walked.{says, needs, Stays, stay-none, stay-none-slice, walkOf, goes-none, goes-none-slice, Walks, ends-at, walked, walk-meets}
 use denote.Exit.{yes}
 use denote.Triple.Clauses.{ensured, lasts}
-use Rattle.rules.specs.declared.Entry.{Entry}
-use Rattle.rules.proofs.Entry as entry
-use Rattle.rules.proofs.Entry.Laws as entry′
-use Rattle.directory.specs.EntryPlaces.{HasEntry, IsEntry}
+use Rattle.directory.specs.EntryPlaces.{HasEntry, IsItem}
+use Rattle.directory.specs.declared.entries.Item.{Item}
+use Rattle.directory.proofs.entries.Item as item
+use Rattle.directory.proofs.entries.Item.Laws as item′
 use Rattle.directory.specs.declared.entries.EntryReader.{EntryReader}
 use Rattle.directory.proofs.entries.EntryReader as reader
 use Rattle.directory.proofs.entries.EntryReader.Laws as reader′
@@ -49,10 +50,10 @@ use Rattle.directory.proofs.entries.reader_at.Met as making-thm
 use Rattle.directory.proofs.entries.read as reading
 use Rattle.directory.proofs.entries.read.Symbol as reading-def
 use Rattle.directory.proofs.entries.read.Met as reading-thm
-use Rattle.directory.proofs.entries.read_entry as fn
-use Rattle.directory.proofs.entries.read_entry.Key as key
-use Rattle.directory.proofs.entries.read_entry.Statement as stated
-use Rattle.directory.proofs.entries.read_entry.Code as code
+use Rattle.directory.proofs.entries.read_slot as fn
+use Rattle.directory.proofs.entries.read_slot.Key as key
+use Rattle.directory.proofs.entries.read_slot.Statement as stated
+use Rattle.directory.proofs.entries.read_slot.Code as code
 
 abbrev Row : Lfts 1 → RattleType
 Row κs = reader.the-row (namedLft 1 0 tt κs)
@@ -111,7 +112,7 @@ module _ {M : Type 1} (𝓤 : URA M) (H : Heap 𝓤) (A : Atoms 𝓤) (W : Given
   made : (r : EntryReader) → ent 𝓤 (ensured 𝓤 H A making.ended (making.clauses 𝓤 H A mem run) (κ, tt) (page, (at, tt)) tt r) (fact 𝓤 (Made r))
   made r = exE 𝓤 _ (λ ws. snd∗ 𝓤 (sem 𝓤 H A (lasts making.ended (κ, tt) (page, (at, tt)) ws)) (fact 𝓤 (Made r)))
 
-  -- ---- the second: the entry is read
+  -- ---- the second: the slot is read
   abbrev to-read : EntryReader → Val → Reading 𝓤 H A mem run .Ghost
   to-read r u = (((κ, tt), (q, tt), tt, (r, (n, tt)), (u ∷ [], (vint w64 n ∷ [], tt))), tt)
 
@@ -120,8 +121,8 @@ module _ {M : Type 1} (𝓤 : URA M) (H : Heap 𝓤) (A : Atoms 𝓤) (W : Given
       qed W (‵ (Row (κ, tt) .own r (u ∷ [])) ∷ (‵ (flft κ q) ⊛ ‵ ftrue) ∷ []) ∵ says ! inside $ move ! (1 ∷ []) $ frame ! $
       nothing ! $ owned ! usize (Is usize) (uint-makes 𝓤 H A W w64) n _ (refl, n-fits) $ fjoin ! $ move ! (1 ∷ 0 ∷ []) $ fjoin ! $ done !
 
-  told : (r : EntryReader) (e : Entry) → ent 𝓤 (ensured 𝓤 H A reading.ended (reading.clauses 𝓤 H A mem run) (κ, tt) (r, (n, tt)) tt e) (fact 𝓤 (IsEntry n (now (r .page)) (r .at) e))
-  told r e = exE 𝓤 _ (λ ws. snd∗ 𝓤 (sem 𝓤 H A (lasts reading.ended (κ, tt) (r, (n, tt)) ws)) (fact 𝓤 (IsEntry n (now (r .page)) (r .at) e)))
+  told : (r : EntryReader) (e : Item) → ent 𝓤 (ensured 𝓤 H A reading.ended (reading.clauses 𝓤 H A mem run) (κ, tt) (r, (n, tt)) tt e) (fact 𝓤 (IsItem n (now (r .page)) (r .at) e))
+  told r e = exE 𝓤 _ (λ ws. snd∗ 𝓤 (sem 𝓤 H A (lasts reading.ended (κ, tt) (r, (n, tt)) ws)) (fact 𝓤 (IsItem n (now (r .page)) (r .at) e)))
 
   -- what holds of the reader's page and place holds of those passed, and back
   same : (P : List ℕ → ℕ → Type 0) (r : EntryReader) → Made r → P (now (r .page)) (r .at) → P (now page) at
@@ -130,9 +131,9 @@ module _ {M : Type 1} (𝓤 : URA M) (H : Heap 𝓤) (A : Atoms 𝓤) (W : Given
   back : (P : List ℕ → ℕ → Type 0) (r : EntryReader) → Made r → P (now page) at → P (now (r .page)) (r .at)
   back P r m h = subst (λ (x : RefT (List ℕ)). P (now x) (r .at)) (sym (m .0)) (subst (λ (x : ℕ). P (now page) x) (sym (m .1)) h)
 
-  exits : (e : Entry) (u : Val) → IsEntry n (now page) at e → ent 𝓤 (⋆ 𝓤 H A (‵ (entry.the-row .own e (u ∷ [])) ∷ (‵ (flft κ q) ⊛ ‵ ftrue) ∷ ‵ Owned ∷ [])) (Post u)
+  exits : (e : Item) (u : Val) → IsItem n (now page) at e → ent 𝓤 (⋆ 𝓤 H A (‵ (item.the-row .own e (u ∷ [])) ∷ (‵ (flft κ q) ⊛ ‵ ftrue) ∷ ‵ Owned ∷ [])) (Post u)
   exits e u t =
-      qed W (‵ (entry.the-row .own e (u ∷ [])) ∷ (‵ (flft κ q) ⊛ ‵ ftrue) ∷ ‵ Owned ∷ []) ∵
+      qed W (‵ (item.the-row .own e (u ∷ [])) ∷ (‵ (flft κ q) ⊛ ‵ ftrue) ∷ ‵ Owned ∷ []) ∵
       suffices ! _ (ends-at 𝓤 H A fn.ended stayed (fn.clauses 𝓤 H A mem run) W (((κ, tt), (q, tt), tt, (page, (at, (n, tt))), values), tt) u e (tt, (tt, (tt, tt))) (tt, (tt, (tt, tt)))) $ says ! t $
       move ! (1 ∷ []) $ frame ! $ nothing ! $ owned ! usize (Is usize) (uint-makes 𝓤 H A W w64) n _ (refl, n-fits) $ fjoin ! $ owned ! usize (Is usize) (uint-makes 𝓤 H A W w64) at _ (refl, at-fits) $ fjoin ! $
       move ! (2 ∷ 0 ∷ []) $ fjoin ! $ frame ! $ done !
@@ -153,14 +154,14 @@ module _ {M : Type 1} (𝓤 : URA M) (H : Heap 𝓤) (A : Atoms 𝓤) (W : Given
         land ! (from ! (stop !)) (init ! 3 refl (laws.lawful (reader.the-type local) (reader′.the-laws local) 𝓤 H A W .typed r _ are .0)) $
         use2 W (raw (Reading 𝓤 H A mem run .pre (to-read r u))) (asks r u (back (λ bytes x. HasEntry n bytes x) r m inside)) $
         calls-at ! fm (Reading 𝓤 H A mem run) known-reading (to-read r u) (and-then ! (load ! (from ! (stop !)) (look ! 2 refl)) (and-then ! (load ! (from ! (stop !)) (look ! 4 refl)) (no-more !))) (λ v.
-        use1 W (later (some (λ (e : Entry). ((‵ (flft κ q) ⊛ ‵ ftrue) ⊛ ‵ (entry.the-row .own e (v ∷ []))) ⊛ raw (ensured 𝓤 H A reading.ended (reading.clauses 𝓤 H A mem run) (κ, tt) (r, (n, tt)) tt e)))) (id⊢ 𝓤 _) $
-        await ! tt $ pick ! (λ e. split ! $ move ! (1 ∷ []) $ use1 W (raw (fact 𝓤 (IsEntry n (now (r .page)) (r .at) e))) (told r e) $ heard ! (IsEntry n (now (r .page)) (r .at) e) (λ t. split ! $ move ! (1 ∷ []) $
-        -- [the entry; the token; what the page owns; _4; ..; _3; ..; _2; ..; _1; ..; room for _0; ..]
-        peeks ! entry.the-row (Is entry.the-row) (shows 𝓤 H A entry.the-row) e (v ∷ []) (λ are′.
-        land ! (from ! (stop !)) (init ! 11 refl (laws.lawful entry.the-type entry′.the-laws 𝓤 H A W .typed e _ are′ .0)) $
+        use1 W (later (some (λ (e : Item). ((‵ (flft κ q) ⊛ ‵ ftrue) ⊛ ‵ (item.the-row .own e (v ∷ []))) ⊛ raw (ensured 𝓤 H A reading.ended (reading.clauses 𝓤 H A mem run) (κ, tt) (r, (n, tt)) tt e)))) (id⊢ 𝓤 _) $
+        await ! tt $ pick ! (λ e. split ! $ move ! (1 ∷ []) $ use1 W (raw (fact 𝓤 (IsItem n (now (r .page)) (r .at) e))) (told r e) $ heard ! (IsItem n (now (r .page)) (r .at) e) (λ t. split ! $ move ! (1 ∷ []) $
+        -- [what is read; the token; what the page owns; _4; ..; _3; ..; _2; ..; _1; ..; room for _0; ..]
+        peeks ! item.the-row (Is item.the-row) (shows 𝓤 H A item.the-row) e (v ∷ []) (λ are′.
+        land ! (from ! (stop !)) (init ! 11 refl (enums.lawful item.the-type item′.the-laws 𝓤 H A W tt .typed e _ are′ .0)) $
         returns ! (look ! 11 refl) $ forget ! 3 refl $ forget ! 5 refl $ forget ! 7 refl $ forget ! 9 refl $ forget ! 11 refl $
         move ! (11 ∷ 12 ∷ []) $ free1 ! $ move ! (9 ∷ 10 ∷ []) $ free1 ! $ move ! (7 ∷ 8 ∷ []) $ free1 ! $ move ! (5 ∷ 6 ∷ []) $ free1 ! $ move ! (3 ∷ 4 ∷ []) $ free1 ! $ free0 ! $
-        by ! (exits e v (same (λ bytes x. IsEntry n bytes x e) r m t)))))))))))))))
+        by ! (exits e v (same (λ bytes x. IsItem n bytes x e) r m t)))))))))))))))
 
 module _ {M : Type 1} (𝓤 : URA M) (H : Heap 𝓤) (A : Atoms 𝓤) (W : Given 𝓤 H A) (mem : Memory → SProp 𝓤) (run : Routine → Fun 𝓤) where
   walks : (C : Calls 𝓤 H) (Λ : Loops 𝓤 H) → FmC 𝓤 H (W .laws) C → Triple 𝓤 (C making-def.name) (Making 𝓤 H A mem run) → Triple 𝓤 (C reading-def.name) (Reading 𝓤 H A mem run)
@@ -175,9 +176,9 @@ module _ {M : Type 1} (𝓤 : URA M) (H : Heap 𝓤) (A : Atoms 𝓤) (W : Given
       (goes-none-slice 𝓤 H A W 1 (0 ∷ []) tt (plain (λ _. u8)) yes, (goes-none 𝓤 H A W 1 (λ _. usize) yes (λ κs x f. refl), (goes-none 𝓤 H A W 1 (λ _. usize) yes (λ κs x f. refl), tt)))
       (fn.clauses 𝓤 H A mem run) (WpFn 𝓤 H (𝓣 .C) (𝓣 .Λ) code.function) (WpFn-mono 𝓤 H (W .laws) 𝓣 code.function) (walks (𝓣 .C) (𝓣 .Λ) (fmOf 𝓤 H (W .laws) 𝓣) known-making known-reading)
 
-pub read-entry-spec : {M : Type 1} → stated.statement M
+pub read-slot-spec : {M : Type 1} → stated.statement M
 unfolding code.routine tablesOf
-read-entry-spec 𝓤 H 𝓜 𝓖 𝓡 =
+read-slot-spec 𝓤 H 𝓜 𝓖 𝓡 =
     let all = tables 𝓤 H 𝓜 𝓡 code.env in
     entered 𝓤 H (tripleOf 𝓤 H (𝓖 .A) fn.signature (fn.spec 𝓤 H (𝓖 .A) (𝓜 .mem) (𝓡 .run))) (all .C) (all .Λ) key.name code.function (code.unfolded 𝓤 H 𝓜 𝓡)
     (meets 𝓤 H (𝓖 .A) (givenOf 𝓤 H 𝓜 𝓖) (𝓜 .mem) (𝓡 .run) (tablesOf 𝓤 H 𝓜 all)

@@ -1,10 +1,9 @@
 -- The bytes of the entry lie in its page, and are those of the tokens' first entry.
-use mathlib.Core.Path.{_∙_}
-use Rattle.entries.proofs.SlotLaws.{entry-inside, entry-from, entry-reads}
-use Rattle.entries.proofs.TokenLaws.{entry-at}
+use Rattle.entries.proofs.SlotLaws.{entry-inside, entry-reads}
+use Rattle.entries.proofs.ItemLaws.{item-at}
 use borrow.Author.Needs.{needs}
-use Rattle.entries.proofs.Slot.entry.Statement.{statement}
-use Rattle.entries.proofs.Slot.entry.Tie as tie
+use Rattle.entries.proofs.Slot.item.Statement.{statement}
+use Rattle.entries.proofs.Slot.item.Tie as tie
 
 mul-at : tie.Need-mul-at
 mul-at c =
@@ -22,8 +21,8 @@ add-at-2 c =
     let k = s .0 .valid .most in
     search needs
 
-read-entry-requires : tie.Need-read-entry-requires
-read-entry-requires c κs =
+read-slot-requires : tie.Need-read-slot-requires
+read-slot-requires c κs =
     let at-entry-size = c .before .before in
     let start = at-entry-size .before .before .before in
     let s = start .pre in
@@ -35,9 +34,9 @@ returns c =
     let at-entry-size = at-page-of .before .before in
     let start = at-entry-size .before .before .before in
     let s = start .pre in
-    entry-at (s .0) _ (s .1 .1) _ (c .read-entry .ensures .0 ∙ entry-from _ (start .args .self) _ _ _ (at-entry-size .entry-size .ensures .0) (at-page-of .page-of .ensures))
+    item-at (s .0) (start .args .self) (s .1 .1) _ _ (at-entry-size .entry-size .ensures .0) (at-page-of .page-of .ensures) (c .read-slot .result) (c .read-slot .ensures)
 
-pub entry-spec : {M : Type 1} → statement M
-entry-spec =
+pub item-spec : {M : Type 1} → statement M
+item-spec =
     tie.close
-    (tie.spec (λ c. search needs) (λ c κs. search needs) mul-at add-at-2 (λ c κs. search needs) read-entry-requires returns)
+    (tie.spec (λ c. search needs) (λ c κs. search needs) mul-at add-at-2 (λ c κs. search needs) read-slot-requires returns)
