@@ -133,13 +133,14 @@ struct owfs_answer owfs_format(uint32_t page_length, uint32_t page_count, uint8_
                                uint32_t local);
 
 /* Checks an image as owfs_check does, then puts `bytes` as the file at a path: it makes the file or replaces it, not read-only. The path is as for
- * owfs_read. Path and bytes are not written. Files are put below hidden directories as below others.
+ * owfs_read. Path and bytes are not written. No file is put below a hidden directory, at any depth (22).
  *
  * number  meaning, in the order in which it is judged              page
  *      0  done                                                     0
  *   1-13  the check's faults, as for owfs_check                    as there
  *     14  path malformed: its length, a name or its last byte      0
  *     15  directory absent                                         0
+ *     22  a directory on the path is hidden                        0
  *     16  file is read-only                                        0
  *     17  no room                                                  0
  *
@@ -151,7 +152,7 @@ struct owfs_answer owfs_format(uint32_t page_length, uint32_t page_count, uint8_
  * Only the packets of the file's new pages, of one page of the directory, of a page that joins it and of the bitmap change; a bitmap file keeps its
  * packets' lengths. In a page written only the bytes of its new packet change; every other byte of the image stays, those of old pages too that the
  * file has no longer. A refusal changes no byte of the image.
- * `owners` are left as owfs_check leaves them: after 0 they tell of the new image, after 14 to 17 of the image as it stands; at least
+ * `owners` are left as owfs_check leaves them: after 0 they tell of the new image, after 14 to 17 and 22 of the image as it stands; at least
  * 4 * page_count bytes are needed (1); all records are 0 after the faults 2 to 13; after 1 no byte is changed; bytes past the first 4 * page_count
  * never change. Any arguments are taken. Image and owners must not overlap each other, the path or the bytes.
  * Stack: less than 16 KiB, for every page count, however many entries a directory has. */
@@ -159,19 +160,20 @@ struct owfs_answer owfs_put(uint32_t page_length, uint32_t page_count, uint8_t *
                             const uint8_t *bytes, size_t bytes_length, uint8_t *owners, size_t owners_length);
 
 /* Checks an image as owfs_check does, then deletes a file: its entry is removed with its stamps, later ones of the same directory page move up,
- * and its pages are free in the bitmap. The path is as for owfs_read and is not written. Files below hidden directories are deleted like others.
+ * and its pages are free in the bitmap. The path is as for owfs_read and is not written. No file is deleted below a hidden directory (22).
  *
  * number  meaning, in the order in which it is judged              page
  *      0  done                                                     0
  *   1-13  the check's faults, as for owfs_check                    as there
  *     14  path malformed: its length, a name or its last byte      0
  *     15  directory or file absent                                 0
+ *     22  a directory on the path is hidden                        0
  *     16  file is read-only                                        0
  *
  * Only the packets of the entry's page and of the bitmap change: the directory keeps its pages, also one that is left without entries, and a bitmap
  * file keeps its packets' lengths. In a page written only the bytes of its new packet change; every other byte of the image stays, those of the
  * file's pages too. A refusal changes no byte of the image.
- * `owners` are left as owfs_check leaves them: after 0 they tell of the new image, after 14, 15 and 16 of the image as it stands; at least
+ * `owners` are left as owfs_check leaves them: after 0 they tell of the new image, after 14, 15, 16 and 22 of the image as it stands; at least
  * 4 * page_count bytes are needed (1); all records are 0 after the faults 2 to 13; after 1 no byte is changed; bytes past the first 4 * page_count
  * never change. Any arguments are taken. Image and owners must not overlap each other or the path.
  * Stack: less than 16 KiB, for every page count, however many entries a directory has. */
@@ -203,6 +205,7 @@ struct owfs_writes {
  *   1-13  the check's faults, as for owfs_check                    as there
  *     14  path malformed: its length, a name or its last byte      0
  *     15  directory absent                                         0
+ *     22  a directory on the path is hidden                        0
  *     16  file is read-only                                        0
  *     17  no room besides the replaced file's pages                0
  *
@@ -228,6 +231,7 @@ struct owfs_writes owfs_careful_put(uint32_t page_length, uint32_t page_count, u
  *   1-13  the check's faults, as for owfs_check                    as there
  *     14  path malformed: its length, a name or its last byte      0
  *     15  directory or file absent                                 0
+ *     22  a directory on the path is hidden                        0
  *     16  file is read-only                                        0
  *
  * While writes are left, owfs_check answers 0, or 13 because pages are marked that no chain has; then owfs_mend clears these marks. Afterwards every

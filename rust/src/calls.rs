@@ -200,12 +200,13 @@ pub fn format(
 /// [`crate::path`] makes a path. A replaced file's entry stays in place with its stamps, and its old pages count as free. A new entry goes to the end
 /// of the first page of its directory with space, where stamps take space as entries do; if there is none, the lowest free page joins the directory's
 /// end. The file then takes the lowest free pages. In a page written only the bytes of its packet change; every other byte of the image stays. A
-/// refusal changes no byte of the image. The owner table is left as [`check`] leaves it: it tells of the new image, and after 14 to 17 of the image as
-/// it stands.
+/// refusal changes no byte of the image. The owner table is left as [`check`] leaves it: it tells of the new image, and after 14 to 17 and 22 of the
+/// image as it stands.
 ///
 /// # Errors
 ///
-/// 1 to 13 as for [`check`]; 14 if the path is malformed; 15 if a directory is absent; 16 if the file is read-only; 17 if there is no room.
+/// 1 to 13 as for [`check`]; 14 if the path is malformed; 15 if a directory is absent; 22 if a directory on the path is hidden; 16 if the file is
+/// read-only; 17 if there is no room. The first of these, in this order, is told.
 pub fn put(
     geometry: Geometry,
     image: &mut [u8],
@@ -228,11 +229,12 @@ pub fn put(
 ///
 /// [`crate::path`] makes a path. The directory keeps its pages, also one that is left without entries. In a page written only the bytes of its packet
 /// change; every other byte of the image stays, those of the file's pages too. A refusal changes no byte of the image. The owner table is left as
-/// [`check`] leaves it: it tells of the new image, and after 14 to 16 of the image as it stands.
+/// [`check`] leaves it: it tells of the new image, and after 14 to 16 and 22 of the image as it stands.
 ///
 /// # Errors
 ///
-/// 1 to 13 as for [`check`]; 14 if the path is malformed; 15 if a directory or the file is absent; 16 if the file is read-only.
+/// 1 to 13 as for [`check`]; 14 if the path is malformed; 15 if a directory or the file is absent; 22 if a directory on the path is hidden; 16 if the
+/// file is read-only. The first of these, in this order, is told.
 pub fn delete(
     geometry: Geometry,
     image: &mut [u8],
@@ -300,8 +302,8 @@ fn writes(told: raw::Writes) -> Result<Writes, Refusal> {
 ///
 /// # Errors
 ///
-/// 1 to 13 as for [`check`]; 14 if the path is malformed; 15 if a directory is absent; 16 if the file is read-only; 17 if there is no room besides the
-/// replaced file's pages.
+/// 1 to 13 as for [`check`]; 14 if the path is malformed; 15 if a directory is absent; 22 if a directory on the path is hidden; 16 if the file is
+/// read-only; 17 if there is no room besides the replaced file's pages. The first of these, in this order, is told.
 pub fn careful_put(
     geometry: Geometry,
     image: &mut [u8],
@@ -329,7 +331,8 @@ pub fn careful_put(
 ///
 /// # Errors
 ///
-/// 1 to 13 as for [`check`]; 14 if the path is malformed; 15 if a directory or the file is absent; 16 if the file is read-only.
+/// 1 to 13 as for [`check`]; 14 if the path is malformed; 15 if a directory or the file is absent; 22 if a directory on the path is hidden; 16 if the
+/// file is read-only. The first of these, in this order, is told.
 pub fn careful_delete(
     geometry: Geometry,
     image: &mut [u8],

@@ -66,7 +66,7 @@ impl Entry {
         self.attribute && self.kind() == Kind::File
     }
 
-    /// Whether the entry is a hidden directory's. The calls make no difference between hidden directories and others.
+    /// Whether the entry is a hidden directory's: below it files are listed and read, and neither put nor deleted.
     pub fn is_hidden(&self) -> bool {
         self.attribute && self.kind() == Kind::Directory
     }

@@ -16,7 +16,7 @@ use std::fmt;
 /// ```
 #[derive(Clone, Copy, Debug, PartialEq, Eq, Hash)]
 pub struct Refusal {
-    /// The number, 1 to 18.
+    /// The number, 1 to 18 or 22.
     pub number: u32,
     /// The page, as the reason's description says; 0 if it tells none.
     pub page: u32,
@@ -61,30 +61,33 @@ pub enum Reason {
     NoRoom,
     /// 18: output is too short. No page.
     Output,
+    /// 22: a directory on the path is hidden. No page.
+    Hidden,
     /// Any other number; no call is refused with one.
     Other(u32),
 }
 
-/// The reasons by number, from 1 on.
-const REASONS: [Reason; 18] = [
-    Reason::Arguments,
-    Reason::Packet,
-    Reason::Marker,
-    Reason::Control,
-    Reason::InProgress,
-    Reason::PageNumber,
-    Reason::Crossed,
-    Reason::Count,
-    Reason::Name,
-    Reason::Extension,
-    Reason::Twice,
-    Reason::TooDeep,
-    Reason::Bitmap,
-    Reason::Path,
-    Reason::Absent,
-    Reason::ReadOnly,
-    Reason::NoRoom,
-    Reason::Output,
+/// The reasons with their numbers; 19 is the program `list`'s, 20 and 21 are no call's.
+const REASONS: [(u32, Reason); 19] = [
+    (1, Reason::Arguments),
+    (2, Reason::Packet),
+    (3, Reason::Marker),
+    (4, Reason::Control),
+    (5, Reason::InProgress),
+    (6, Reason::PageNumber),
+    (7, Reason::Crossed),
+    (8, Reason::Count),
+    (9, Reason::Name),
+    (10, Reason::Extension),
+    (11, Reason::Twice),
+    (12, Reason::TooDeep),
+    (13, Reason::Bitmap),
+    (14, Reason::Path),
+    (15, Reason::Absent),
+    (16, Reason::ReadOnly),
+    (17, Reason::NoRoom),
+    (18, Reason::Output),
+    (22, Reason::Hidden),
 ];
 
 impl Refusal {
@@ -97,8 +100,8 @@ impl Refusal {
 impl From<u32> for Reason {
     /// The reason with this number.
     fn from(number: u32) -> Reason {
-        (1..)
-            .zip(REASONS)
+        REASONS
+            .into_iter()
             .find(|(other, _)| *other == number)
             .map_or(Reason::Other(number), |(_, reason)| reason)
     }
@@ -116,8 +119,8 @@ impl Reason {
     pub fn number(self) -> u32 {
         match self {
             Reason::Other(number) => number,
-            _ => (1..)
-                .zip(REASONS)
+            _ => REASONS
+                .into_iter()
                 .find(|(_, other)| *other == self)
                 .map_or(0, |(number, _)| number),
         }
@@ -144,6 +147,7 @@ impl Reason {
             Reason::ReadOnly => "file is read-only",
             Reason::NoRoom => "there is no room",
             Reason::Output => "output is too short",
+            Reason::Hidden => "a directory on the path is hidden",
             Reason::Other(_) => "reason is not known",
         }
     }
@@ -159,6 +163,7 @@ impl Reason {
                 | Reason::ReadOnly
                 | Reason::NoRoom
                 | Reason::Output
+                | Reason::Hidden
         )
     }
 }
@@ -188,19 +193,19 @@ mod tests {
 
     #[test]
     fn numbers_and_reasons_are_one_to_one() {
-        for (number, reason) in (1..).zip(REASONS) {
+        for (number, reason) in REASONS {
             assert_eq!(Reason::from(number), reason);
             assert_eq!(reason.number(), number);
             assert_eq!(u32::from(reason), number);
         }
-        for number in [0, 19, 20, 256, u32::MAX] {
+        for number in [0, 19, 20, 21, 23, 256, 278, u32::MAX] {
             assert_eq!(Reason::from(number), Reason::Other(number));
             assert_eq!(Reason::Other(number).number(), number);
         }
     }
 
     #[test]
-    fn reasons_have_the_numbers_of_document_01() {
+    fn reasons_have_the_numbers_of_documents_01_and_02() {
         let known = [
             (1, Reason::Arguments),
             (7, Reason::Crossed),
@@ -208,6 +213,7 @@ mod tests {
             (14, Reason::Path),
             (17, Reason::NoRoom),
             (18, Reason::Output),
+            (22, Reason::Hidden),
         ];
         for (number, reason) in known {
             assert_eq!(reason.number(), number);
@@ -216,7 +222,7 @@ mod tests {
 
     #[test]
     fn words_are_different() {
-        let mut words = REASONS.map(Reason::words).to_vec();
+        let mut words = REASONS.map(|(_, reason)| reason.words()).to_vec();
         words.sort_unstable();
         words.dedup();
         assert_eq!(words.len(), REASONS.len());
@@ -232,5 +238,9 @@ mod tests {
         assert_eq!(text(3, 0), "marker is wrong, page 0 (refusal 3)");
         assert_eq!(text(5, 0), "work is in progress (refusal 5)");
         assert_eq!(text(17, 0), "there is no room (refusal 17)");
+        assert_eq!(
+            text(22, 0),
+            "a directory on the path is hidden (refusal 22)"
+        );
     }
 }

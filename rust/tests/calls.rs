@@ -234,6 +234,37 @@ fn entries_come_in_walk_order_with_their_paths() {
     assert_eq!(owner_of(&owners, 5), record(Owner::Free, 0));
 }
 
+/// Below the hidden directory LAB, at any depth, files are read, and neither put nor deleted; nothing changes.
+#[test]
+fn files_below_a_hidden_directory_are_not_changed() {
+    let mut image = nested();
+    let mut owners = owner_table(16);
+    let hidden = refusal(22, 0);
+    assert_eq!(hidden.reason(), Reason::Hidden);
+    let there = path(&["LAB", "A1"], "X", 99).expect("a path");
+    let new = path(&["LAB"], "NEW", 1).expect("a path");
+    for path in [&there, &new] {
+        let told = put(GEOMETRY, &mut image, path, b"new", &mut owners);
+        assert_eq!(told, Err(hidden));
+        let told = careful_put(GEOMETRY, &mut image, path, b"new", &mut owners, 9);
+        assert_eq!(told, Err(hidden));
+    }
+    let told = delete(GEOMETRY, &mut image, &there, &mut owners);
+    assert_eq!(told, Err(hidden));
+    let told = careful_delete(GEOMETRY, &mut image, &there, &mut owners, 9);
+    assert_eq!(told, Err(hidden));
+    assert_eq!(owner_of(&owners, 4), record(Owner::Entry(3), 0));
+    // The file that is not there comes first.
+    let told = delete(GEOMETRY, &mut image, &new, &mut owners);
+    assert_eq!(told, Err(refusal(15, 0)));
+    assert_eq!(image, nested());
+    let told = read_to_vec(GEOMETRY, &image, &there, &mut owners);
+    assert_eq!(told, Ok(Vec::new()));
+    let beside = path(&[], "NEW", 1).expect("a path");
+    let told = put(GEOMETRY, &mut image, &beside, b"new", &mut owners);
+    assert_eq!(told, Ok(()));
+}
+
 /// Two stamps before A.1, and one that looks like an entry before the directory LAB, which has none.
 fn stamped() -> Vec<u8> {
     let mut image = vec![0; 32 * 16];

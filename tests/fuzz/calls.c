@@ -32,7 +32,8 @@
 enum { BEFORE = 0xC7, MARGIN = 64 };
 
 /* Numbers of answers. */
-enum { DONE = 0, ARGUMENTS = 1, CONTROL = 4, LAST_FAULT = 13, MARKS = 13, MALFORMED = 14, ABSENT = 15, READ_ONLY = 16, NO_ROOM = 17, TOO_SHORT = 18 };
+enum { DONE = 0, ARGUMENTS = 1, CONTROL = 4, LAST_FAULT = 13, MARKS = 13, MALFORMED = 14, ABSENT = 15, READ_ONLY = 16, NO_ROOM = 17, TOO_SHORT = 18,
+       HIDDEN = 22 };
 
 /* Memory that is lent: a slice just before a page that may not be touched. */
 struct lent {
@@ -398,12 +399,13 @@ static void see_path(uint32_t read, uint32_t put, uint32_t deleted)
 {
     int is_there = read == DONE || read == TOO_SHORT;
     demand(is_there || read == MALFORMED || read == ABSENT, "numbers of a read");
-    demand(put == DONE || (put >= MALFORMED && put <= NO_ROOM), "numbers of a put");
+    demand(put == DONE || (put >= MALFORMED && put <= NO_ROOM) || put == HIDDEN, "numbers of a put");
     demand((read == MALFORMED) == (put == MALFORMED) && (read == MALFORMED) == (deleted == MALFORMED), "a malformed path");
     demand((read == ABSENT) == (deleted == ABSENT), "an absent file");
     demand(put != ABSENT || read == ABSENT, "an absent directory has no file");
     demand((put == READ_ONLY) == (deleted == READ_ONLY) && (put != READ_ONLY || is_there), "a read-only file");
-    demand(is_there == (deleted == DONE || deleted == READ_ONLY), "a file that is there");
+    demand((deleted == HIDDEN) == (put == HIDDEN && is_there), "a file below a hidden directory");
+    demand(is_there == (deleted == DONE || deleted == READ_ONLY || deleted == HIDDEN), "a file that is there");
 }
 
 /* Demands that the check sum over a front of the image is the one worked bit by bit. */

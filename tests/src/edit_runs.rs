@@ -4,7 +4,7 @@
 
 use crate::generators::files;
 use crate::plans::{
-    directories, formatted_plan, may_be_local, overlaid, plan_with, plan_without, Room,
+    directories, formatted_plan, is_hidden, may_be_local, overlaid, plan_with, plan_without, Room,
 };
 use crate::puts::{
     careful_bytes, count_room, done_features, labelled_path, path_in, random_bytes, tight_bytes,
@@ -178,6 +178,9 @@ impl<'a> Run<'a> {
             assert!(told == answer(14, 0) || told == answer(15, 0));
             return;
         };
+        if is_hidden(&self.plan, path) {
+            return assert_eq!(told, answer(22, 0));
+        }
         if file.listing.attribute == 1 {
             return assert_eq!(told, answer(16, 0));
         }
@@ -327,6 +330,7 @@ impl<'a> Run<'a> {
         }
         self.check();
         let mut left = files(&self.built).into_iter();
-        assert!(left.all(|file| file.listing.attribute == 1));
+        let is_kept = |path: &[u8]| is_hidden(&self.plan, path);
+        assert!(left.all(|file| file.listing.attribute == 1 || is_kept(&file.path)));
     }
 }

@@ -132,7 +132,7 @@ pub fn deep_image(rng: &mut Rng) -> Built {
 }
 
 /// A sound image of 65,535 pages with so many entries in each directory as long as there are pages: files of up to so many pages,
-/// and this part of them directories. A few entries have stamps.
+/// and this part of them directories, none hidden. A few entries have stamps.
 pub fn largest_image(
     page_length: u32,
     entries: usize,
@@ -151,6 +151,7 @@ pub fn largest_image(
         deep: false,
         odd_packet_percent: 0,
         stamp_percent: 3,
+        hidden_percent: 0,
         fill: Fill::Byte(0xFF),
     };
     random_plan(page_length, 65_535, shape, &mut Rng::new(seed)).build()
@@ -243,6 +244,59 @@ pub fn stamped_plan(rng: &mut Rng) -> ImagePlan {
         ..Shape::random(&geometry, rng)
     };
     random_plan(page_length, page_count, shape, rng)
+}
+
+/// A plan of directories in directories, often down to level eight, of which some, many or all are hidden. There are often few pages free, or none.
+pub fn hidden_plan(rng: &mut Rng) -> ImagePlan {
+    let most_pages = [24, 40, 80, 300][rng.below(4)];
+    let (any_length, page_count) = random_sizes(rng, most_pages);
+    let page_length = match rng.chance(50) {
+        true => rng.between(32, 40) as u32,
+        false => any_length,
+    };
+    let geometry = geometry(page_length, page_count);
+    let shape = Shape {
+        free_pages: [0, 1, 3, 8][rng.below(4)],
+        least_entries: rng.between(2, 3),
+        most_entries: [3, 6, 12][rng.below(3)],
+        most_file_pages: rng.between(1, 3),
+        directory_percent: [15, 40][rng.below(2)],
+        deep: rng.chance(70),
+        hidden_percent: [12, 25, 60, 100][rng.below(4)],
+        ..Shape::random(&geometry, rng)
+    };
+    random_plan(page_length, page_count, shape, rng)
+}
+
+/// The labels of the hidden directories among those that a path names.
+pub const HIDDEN_PLACES: [&str; 6] = [
+    "only directory hidden",
+    "first directory hidden",
+    "middle directory hidden",
+    "last directory hidden",
+    "several directories hidden",
+    "every one of several directories hidden",
+];
+
+/// Which of the directories that these names lead to are hidden; none if none is.
+pub fn hidden_places(built: &Built, names: &[u8]) -> Option<&'static str> {
+    let ends = (4..=names.len()).step_by(4);
+    let hidden = ends.filter(|&end| {
+        built.entries.iter().any(|entry| {
+            let is_hidden = entry.listing.extension == 127 && entry.listing.attribute == 1;
+            is_hidden && entry.path == names[..end]
+        })
+    });
+    let hidden: Vec<usize> = hidden.collect();
+    match hidden[..] {
+        [] => None,
+        [4] if names.len() == 4 => Some("only directory hidden"),
+        [4] => Some("first directory hidden"),
+        [last] if last == names.len() => Some("last directory hidden"),
+        [_] => Some("middle directory hidden"),
+        _ if 4 * hidden.len() == names.len() => Some("every one of several directories hidden"),
+        _ => Some("several directories hidden"),
+    }
 }
 
 /// The image of a plan with one to three stamps' first bytes made less than 128, and the checks computed again; none if it has no stamp.
@@ -664,7 +718,10 @@ fn path_near_file(built: &Built, file: &BuiltEntry, rng: &mut Rng) -> Wanted {
             path.splice(place..place, random_name(rng));
             "path with a name more"
         }
-        _ if is_below_hidden(built, directories_of(file)) => "path below a hidden directory",
+        _ if is_below_hidden(built, directories_of(file)) => match file.listing.attribute {
+            1 => "path of a read-only file below a hidden directory",
+            _ => "path below a hidden directory",
+        },
         _ if file.listing.attribute == 1 => "path of a read-only file",
         _ => "path of a file",
     };

@@ -492,7 +492,7 @@ impl Tally {
 
     /// The numbers that a call answered, each with its count.
     pub fn numbers(&self, call: &str) -> Vec<(u32, u64)> {
-        let counted = (0..=19).map(|number| (number, self.count(&format!("{call} {number}"))));
+        let counted = (0..=22).map(|number| (number, self.count(&format!("{call} {number}"))));
         counted.filter(|(_, count)| *count > 0).collect()
     }
 }

@@ -89,6 +89,26 @@ pub fn directory_mut<'a>(
     directory_mut(below, rest)
 }
 
+/// Whether any of the directories that these names lead to from another, one after the other, is hidden; those after a missing one do not count.
+fn is_any_hidden(from: &DirectoryPlan, names: &[u8]) -> bool {
+    let Some((first, rest)) = names.split_first_chunk::<4>() else {
+        return false;
+    };
+    from.items.iter().any(|item| match item {
+        Item::Directory {
+            name,
+            hidden,
+            directory,
+        } => name == first && (*hidden || is_any_hidden(directory, rest)),
+        Item::File(_) => false,
+    })
+}
+
+/// Whether a directory of a path is hidden, so that no edit of the path is done.
+pub fn is_hidden(plan: &ImagePlan, path: &[u8]) -> bool {
+    is_any_hidden(&plan.root, split(path).0)
+}
+
 /// The place of a file among a directory's entries, by its name and extension number (five bytes).
 pub fn file_place(directory: &DirectoryPlan, name: &[u8]) -> Option<usize> {
     directory.items.iter().position(|item| match item {
@@ -142,7 +162,7 @@ fn free_pages(plan: &ImagePlan) -> Vec<usize> {
     (0..taken.len()).filter(|&page| !taken[page]).collect()
 }
 
-/// What a put meets that nothing but room could refuse.
+/// What a put meets that nothing but room could refuse, or a hidden directory.
 pub struct Room {
     pub geometry: Geometry,
     /// The slots taken in each page of the directory by entries and stamps, in chain order.
@@ -160,8 +180,17 @@ pub struct Room {
 }
 
 impl Room {
-    /// What a put of this path meets in an image of this plan; or the number of its refusal: 14, 15 or 16.
+    /// What a put of this path meets in an image of this plan; or the number of its refusal: 14, 15, 22 or 16, in this order.
     pub fn of(plan: &ImagePlan, path: &[u8]) -> Result<Room, u32> {
+        match Room::anywhere(plan, path) {
+            Err(number @ (14 | 15)) => Err(number),
+            _ if is_hidden(plan, path) => Err(22),
+            other => other,
+        }
+    }
+
+    /// What a put of this path would meet if no directory were hidden; or the number of its refusal: 14, 15 or 16.
+    pub fn anywhere(plan: &ImagePlan, path: &[u8]) -> Result<Room, u32> {
         if !is_path(path) {
             return Err(14);
         }
@@ -190,11 +219,15 @@ impl Room {
 
     /// What a careful put of this path meets: no page of the replaced file may be taken.
     pub fn careful(plan: &ImagePlan, path: &[u8]) -> Result<Room, u32> {
-        let room = Room::of(plan, path)?;
-        Ok(Room {
+        Ok(Room::of(plan, path)?.beside_the_old(plan))
+    }
+
+    /// The same with only the plan's free pages to be taken.
+    pub fn beside_the_old(self, plan: &ImagePlan) -> Room {
+        Room {
             free: free_pages(plan),
-            ..room
-        })
+            ..self
+        }
     }
 
     /// Whether the directory must have a page more.
@@ -219,21 +252,21 @@ impl Room {
     }
 }
 
-/// The plan after a put, or the number of its refusal, 14 to 17. A replaced entry stays in place with its stamps and its chain counts as free. A
+/// The plan after a put, or the number of its refusal, 14 to 17 or 22. A replaced entry stays in place with its stamps and its chain counts as free. A
 /// new one goes to the end of the first directory page with space; if none has, the lowest free page joins the directory's end. The file
 /// then has the lowest free pages, rising, all packets full but the last.
 pub fn plan_with(plan: &ImagePlan, path: &[u8], bytes: &[u8]) -> Result<ImagePlan, u32> {
     plan_with_room(plan, &Room::of(plan, path)?, path, bytes)
 }
 
-/// The plan after a careful put with every write made, or the number of its refusal, 14 to 17: as after a put, but the replaced chain does not
+/// The plan after a careful put with every write made, or the number of its refusal, 14 to 17 or 22: as after a put, but the replaced chain does not
 /// count as free.
 pub fn careful_plan_with(plan: &ImagePlan, path: &[u8], bytes: &[u8]) -> Result<ImagePlan, u32> {
     plan_with_room(plan, &Room::careful(plan, path)?, path, bytes)
 }
 
-/// The plan after a put that meets this room, or 17.
-fn plan_with_room(
+/// The plan after a put that meets this room, or 17, whether a directory is hidden or not.
+pub fn plan_with_room(
     plan: &ImagePlan,
     room: &Room,
     path: &[u8],

@@ -2,8 +2,8 @@
 
 use std::cmp::Ordering;
 
-use crate::generators::{chain_features, files, is_below_hidden, random_path, worn_plan};
-use crate::plans::{directories, geometry, page_with_space, plan_with, plan_without, Room};
+use crate::generators::{chain_features, files, random_path, worn_plan};
+use crate::plans::{directories, geometry, page_with_space, plan_with_room, plan_without, Room};
 use crate::{records, Button, Tally, FREE};
 use referee::builder::plan::{Built, BuiltEntry, ChainOf, ImagePlan, Item};
 use referee::builder::random::random_name;
@@ -59,11 +59,11 @@ fn with_entry(
     rng: &mut Rng,
 ) -> Option<(Vec<u8>, ImagePlan)> {
     let path = path_in(names, rng);
-    let room = Room::of(plan, &path).ok()?;
+    let room = Room::anywhere(plan, &path).ok()?;
     if room.space.is_none() && room.counts.len() >= pages {
         return None;
     }
-    let plan = plan_with(plan, &path, b"").ok()?;
+    let plan = plan_with_room(plan, &room, &path, b"").ok()?;
     Some((path, plan))
 }
 
@@ -92,9 +92,10 @@ fn file_path(names: &[u8], item: &Item) -> Option<Vec<u8>> {
 
 /// The plan with a file made longer, so that just so many pages are free; none if there are less.
 fn with_longer_file(plan: &ImagePlan, path: &[u8], free: usize) -> Option<ImagePlan> {
-    let room = Room::of(plan, path).ok()?;
+    let room = Room::anywhere(plan, path).ok()?;
     let pages = room.free.len().checked_sub(free)?;
-    plan_with(plan, path, &vec![0x3D; pages * room.geometry.max_data()]).ok()
+    let bytes = vec![0x3D; pages * room.geometry.max_data()];
+    plan_with_room(plan, &room, path, &bytes).ok()
 }
 
 /// The path of any file in a directory.
@@ -165,15 +166,16 @@ pub fn tight_bytes(room: &Room, rng: &mut Rng) -> Vec<u8> {
 
 /// Bytes for a put of this path.
 pub fn random_bytes(plan: &ImagePlan, path: &[u8], rng: &mut Rng) -> Vec<u8> {
-    bytes_for(Room::of(plan, path), rng)
+    bytes_for(Room::anywhere(plan, path), rng)
 }
 
 /// Bytes for a careful put of this path.
 pub fn careful_bytes(plan: &ImagePlan, path: &[u8], rng: &mut Rng) -> Vec<u8> {
-    bytes_for(Room::careful(plan, path), rng)
+    let room = Room::anywhere(plan, path);
+    bytes_for(room.map(|room| room.beside_the_old(plan)), rng)
 }
 
-/// Bytes for a put that meets this room, or a refusal: of a random length, sometimes those of the file that is replaced, or changed in one of them.
+/// Bytes for a put that meets this room, in a hidden directory or not, or a refusal: of a random length, sometimes those of the file that is replaced, or changed in one of them.
 fn bytes_for(room: Result<Room, u32>, rng: &mut Rng) -> Vec<u8> {
     let Ok(room) = room else {
         let length = rng.below(100);
@@ -193,7 +195,7 @@ fn bytes_for(room: Result<Room, u32>, rng: &mut Rng) -> Vec<u8> {
 }
 
 /// The labels of the images that puts are done on, and of the files that they put.
-pub const DONE: [&str; 19] = [
+pub const DONE: [&str; 18] = [
     "one-byte page numbers",
     "two-byte page numbers",
     "256 pages",
@@ -207,7 +209,6 @@ pub const DONE: [&str; 19] = [
     "file in the root",
     "file in a directory",
     "file in a directory at level 8",
-    "file below a hidden directory",
     "file without bytes",
     "file on one page",
     "file on several pages",
@@ -380,9 +381,6 @@ pub fn done_features(before: &Built, after: &Built, path: &[u8]) -> Vec<&'static
     });
     if before.page_count == 256 {
         labels.push("256 pages");
-    }
-    if is_below_hidden(before, names) {
-        labels.push("file below a hidden directory");
     }
     if let Some(file) = files(after).into_iter().find(|file| file.path == path) {
         labels.extend(file_features(after, file));

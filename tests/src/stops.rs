@@ -1,7 +1,7 @@
 //! Careful edits stopped after every number of page writes, or after some of them, by the library and the second program alike. Answers, writes, what
 //! a check and a mend tell, and what every file reads as are known by construction.
 
-use crate::plans::{careful_plan_with, geometry, is_path, overlaid, plan_without};
+use crate::plans::{careful_plan_with, geometry, is_hidden, is_path, overlaid, plan_without};
 use crate::write_orders::{Planned, WriteOrder};
 use crate::{answer, both, library, mended, no_writes, records, table_bytes, writes, Button};
 use referee::builder::plan::{BuiltEntry, ImagePlan};
@@ -26,7 +26,7 @@ pub struct Careful {
     pub order: WriteOrder,
 }
 
-/// The plan after a careful edit, or the number of its refusal, 14 to 17.
+/// The plan after a careful edit, or the number of its refusal, 14 to 17 or 22.
 pub fn edited_plan(plan: &ImagePlan, path: &[u8], edit: &Edit) -> Result<ImagePlan, u32> {
     let Edit::Put(bytes) = edit else {
         return plan_after_delete(plan, path);
@@ -34,13 +34,16 @@ pub fn edited_plan(plan: &ImagePlan, path: &[u8], edit: &Edit) -> Result<ImagePl
     careful_plan_with(plan, path, bytes)
 }
 
-/// The plan after a delete, or the number of its refusal, 14 to 16.
+/// The plan after a delete, or the number of its refusal: 14, 15, 22 or 16, in this order.
 fn plan_after_delete(plan: &ImagePlan, path: &[u8]) -> Result<ImagePlan, u32> {
     if !is_path(path) {
         return Err(14);
     }
     let before = Planned::new(plan.clone());
     let file = before.file(path).ok_or(15_u32)?;
+    if is_hidden(plan, path) {
+        return Err(22);
+    }
     if file.listing.attribute == 1 {
         return Err(16);
     }
@@ -157,7 +160,7 @@ pub fn lay_packets(button: &Button, from: &Button, pages: &[usize], rng: &mut Rn
 }
 
 impl Careful {
-    /// The edit of an image that holds a plan; or the number of its refusal, 14 to 17.
+    /// The edit of an image that holds a plan; or the number of its refusal, 14 to 17 or 22.
     pub fn new(button: Button, plan: &ImagePlan, path: &[u8], edit: Edit) -> Result<Careful, u32> {
         let before = Planned::new(plan.clone());
         let after = Planned::new(edited_plan(plan, path, &edit)?);

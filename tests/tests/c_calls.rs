@@ -157,10 +157,10 @@ fn answers_in_c_are_the_second_programs() {
     tally.demand_numbers("l", 5, (0..=13).filter(|&number| number != 5).chain([15]));
     tally.demand_numbers("r", 5, (0..=13).chain([14, 15, 18]));
     tally.demand_numbers("f", 5, [0, 1, 4]);
-    tally.demand_numbers("p", 5, 0..=17);
-    tally.demand_numbers("d", 5, (0..=13).chain([14, 15, 16]));
-    tally.demand_numbers("P", 5, 0..=17);
-    tally.demand_numbers("D", 5, 0..=16);
+    tally.demand_numbers("p", 5, (0..=17).chain([22]));
+    tally.demand_numbers("d", 5, (0..=16).chain([22]));
+    tally.demand_numbers("P", 5, (0..=17).chain([22]));
+    tally.demand_numbers("D", 5, (0..=16).chain([22]));
     tally.demand_numbers("m", 5, 0..=13);
 }
 

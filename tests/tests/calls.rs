@@ -239,7 +239,7 @@ fn missing_file_is_15_for_read_and_delete_and_is_made_by_put() {
     }
 }
 
-/// Refusals 14 to 18 leave the accepted image's owners in the table.
+/// Refusals 14 to 18 leave the accepted image's owners in the table; for 22 see `files_below_hidden_directories_are_read_and_not_edited`.
 #[test]
 fn refusals_14_to_18_leave_the_owners_of_the_accepted_image() {
     path_refused(b"bad", 14);
@@ -524,7 +524,7 @@ fn shorter_replacement_keeps_the_bytes_it_does_not_write() {
 }
 
 #[test]
-fn files_below_hidden_directories_are_read_put_and_deleted() {
+fn files_below_hidden_directories_are_read_and_not_edited() {
     let mut button = sample();
     let mut pages = button.pages();
     pages.alter(0, 26, &[0xFF]);
@@ -532,12 +532,14 @@ fn files_below_hidden_directories_are_read_put_and_deleted() {
     assert_eq!(button.list(2).0.attribute, 1);
     assert_eq!(button.list(3).0.attribute, 0);
     assert_eq!(button.read(&path(&["D"], "X", 1)), (0, b"xx".to_vec()));
-    let (done, _) = button.put(&path(&["D"], "NEW", 1), b"n");
-    assert_eq!(done, answer(0, 0));
-    let (done, _) = button.put(&path(&["D"], "X", 1), b"other");
-    assert_eq!(done, answer(0, 0));
-    assert_eq!(button.delete(&path(&["D"], "Y", 99)).0, answer(0, 0));
-    assert_eq!(button.list(2).0.attribute, 1);
+    let before = button.clone();
+    for new in [path(&["D"], "NEW", 1), path(&["D"], "X", 1)] {
+        let (done, owners) = button.put(&new, b"n");
+        assert_eq!((done, &owners[..7]), (answer(22, 0), &SAMPLE_OWNERS[..]));
+    }
+    let (done, owners) = button.delete(&path(&["D"], "Y", 99));
+    assert_eq!((done, &owners[..7]), (answer(22, 0), &SAMPLE_OWNERS[..]));
+    assert_eq!(button, before);
 }
 
 #[test]

@@ -3,7 +3,9 @@
 //! Programs: the library and the second program. Each call is made by both; every answer and every lent byte is compared, path and file's bytes too.
 //! The archive is made by `rt staticlib owfs`.
 
-use common::generators::{damaged_case, fault_case, files, sound_case, Made};
+use common::generators::{
+    damaged_case, directories_of, fault_case, files, is_below_hidden, sound_case, Made,
+};
 use common::plans::is_path;
 use common::{agreed, no_writes, not_mended, run_seeds, table_bytes, Button, Tally};
 use referee::builder::pages::{path, Pages};
@@ -149,18 +151,21 @@ fn faults_of_the_image_are_2_to_13() {
     tally.demand_numbers("refused", 20, 2..=13);
 }
 
-/// A button with A.1 of two pages, a read-only file R.2 and a directory D with a read-only file S.3; pages 6 and 7 are free. Its table is given too.
+/// A button with A.1 of two pages, a read-only file R.2 and a directory D with a read-only file S.3 and a file T.4; pages 7 and 8 are free. Its table is
+/// given too.
 fn sample() -> (Button, Vec<u8>) {
-    let mut pages = Pages::new(32, 8);
-    let mut root = pages.local_control(&[0, 1, 2, 3, 4, 5]);
+    let mut pages = Pages::new(32, 9);
+    let mut root = pages.local_control(&[0, 1, 2, 3, 4, 5, 6]);
     root.extend(pages.entry("A", 1, 1, 2));
     root.extend(pages.entry("R", 0x82, 3, 1));
     root.extend(pages.entry("D", 0x7F, 4, 0));
     let mut sub = pages.sub_control("ROOT", 0);
     sub.extend(pages.entry("S", 0x83, 5, 1));
+    sub.extend(pages.entry("T", 4, 6, 1));
     pages.packet(0, &root, 0).packet(1, b"aa", 2);
     pages.packet(2, b"a", 0).packet(3, b"r", 0);
     pages.packet(4, &sub, 0).packet(5, b"s", 0);
+    pages.packet(6, b"t", 0);
     let owners = [
         [1, 0, 0, 0],
         [3, 0, 0, 0],
@@ -168,28 +173,51 @@ fn sample() -> (Button, Vec<u8>) {
         [4, 0, 0, 0],
         [5, 0, 0, 0],
         [6, 0, 0, 0],
+        [7, 0, 0, 0],
         [0; 4],
         [0; 4],
     ];
     (Button::from(&pages), owners.concat())
 }
 
+/// The sample with its directory D hidden; its table is the same.
+fn hidden_sample() -> (Button, Vec<u8>) {
+    let (button, owners) = sample();
+    let mut pages = button.pages();
+    // The extension byte of the root's third entry.
+    let place = 1 + 7 + 2 * 7 + 4;
+    assert_eq!(pages.page(0)[place], 0x7F);
+    pages.alter(0, place, &[0xFF]);
+    (Button::from(&pages), owners)
+}
+
 /// Demands refusals of a path, which have the owners of the accepted image.
 fn demand_path_refused(path: &[u8], bytes: &[u8], put: u32, delete: u32) {
-    let (button, owners) = sample();
-    for owner_bytes in [32, 33, 32 + EXTRA] {
+    demand_refused_in(&sample(), path, bytes, put, delete);
+}
+
+/// Demands refusals of a path in an accepted image, which have its owners; 0 stands for no such call.
+fn demand_refused_in(
+    (button, owners): &(Button, Vec<u8>),
+    path: &[u8],
+    bytes: &[u8],
+    put: u32,
+    delete: u32,
+) {
+    let enough = owners.len();
+    for owner_bytes in [enough, enough + 1, enough + EXTRA] {
         for allowed in ALLOWED {
-            let mut lent = Lent::new(&button, owner_bytes);
+            let mut lent = Lent::new(button, owner_bytes);
             if put != 0 {
-                let told = lent.put(&button, (path, bytes), allowed);
+                let told = lent.put(button, (path, bytes), allowed);
                 assert_eq!(told, no_writes(put, 0), "put to {path:?}");
-                lent.holds(&button, &owners);
+                lent.holds(button, owners);
             }
-            let mut lent = Lent::new(&button, owner_bytes);
+            let mut lent = Lent::new(button, owner_bytes);
             if delete != 0 {
-                let told = lent.delete(&button, path, allowed);
+                let told = lent.delete(button, path, allowed);
                 assert_eq!(told, no_writes(delete, 0), "delete of {path:?}");
-                lent.holds(&button, &owners);
+                lent.holds(button, owners);
             }
         }
     }
@@ -236,6 +264,28 @@ fn read_only_file_is_16() {
     }
 }
 
+/// A file in a hidden directory is 22, also if it is read-only or there is no room, and so is a new one; what is missing there is 15, a malformed path
+/// 14. Elsewhere nothing is hidden.
+#[test]
+fn hidden_directory_is_22() {
+    let hidden = hidden_sample();
+    assert_eq!(hidden.0.verdict().number, 0);
+    for bytes in [&b"x"[..], &[0; 4_000]] {
+        for (name, extension) in [("S", 3), ("T", 4)] {
+            demand_refused_in(&hidden, &path(&["D"], name, extension), bytes, 22, 22);
+        }
+        demand_refused_in(&hidden, &path(&["D"], "N", 1), bytes, 22, 15);
+        demand_refused_in(&hidden, &path(&["D", "E"], "N", 1), bytes, 15, 15);
+        demand_refused_in(&hidden, &path(&["D"], "T", 104), bytes, 14, 14);
+        demand_refused_in(&hidden, &path(&[], "R", 2), bytes, 16, 16);
+    }
+    let (button, _) = &hidden;
+    let told = button.clone().careful_put(&path(&[], "A", 1), b"", 99).0;
+    assert_eq!((told.number, told.left), (0, 0));
+    let told = button.clone().careful_delete(&path(&[], "A", 1), 99).0;
+    assert_eq!((told.number, told.left), (0, 0));
+}
+
 /// Two pages are free: a file of three has no room, also where it replaces one of two; the full root must grow by one of them.
 #[test]
 fn no_room_is_17() {
@@ -261,8 +311,11 @@ fn read_only_files_of_any_image_are_16() {
     let mut refused = 0;
     run_seeds(0xED00_0000..0xED00_0000 + 300, |_, rng| {
         let case = sound_case(rng);
-        let read_only = files(&case.built).into_iter();
-        for file in read_only.filter(|file| file.listing.attribute == 1).take(3) {
+        let read_only = files(&case.built).into_iter().filter(|file| {
+            let is_hidden = is_below_hidden(&case.built, directories_of(file));
+            file.listing.attribute == 1 && !is_hidden
+        });
+        for file in read_only.take(3) {
             let owners = &case.built.owners;
             for allowed in ALLOWED {
                 let mut lent = Lent::new(&case.button, owners.len() + EXTRA);
@@ -272,6 +325,35 @@ fn read_only_files_of_any_image_are_16() {
                 let mut lent = Lent::new(&case.button, owners.len() + EXTRA);
                 let told = lent.delete(&case.button, &file.path, allowed);
                 assert_eq!(told, no_writes(16, 0));
+                lent.holds(&case.button, owners);
+                refused += 1;
+            }
+        }
+    });
+    assert!(refused > 200, "{refused}");
+}
+
+/// Files below hidden directories are deleted and replaced by none of the calls, in any image.
+#[test]
+fn files_below_hidden_directories_of_any_image_are_22() {
+    let mut refused = 0;
+    run_seeds(0xEE00_0000..0xEE00_0000 + 800, |_, rng| {
+        let case = sound_case(rng);
+        let is_hidden = |names: &[u8]| is_below_hidden(&case.built, names);
+        let hidden = files(&case.built).into_iter();
+        for file in hidden
+            .filter(|file| is_hidden(directories_of(file)))
+            .take(3)
+        {
+            let owners = &case.built.owners;
+            for allowed in ALLOWED {
+                let mut lent = Lent::new(&case.button, owners.len() + EXTRA);
+                let told = lent.put(&case.button, (&file.path, b""), allowed);
+                assert_eq!(told, no_writes(22, 0));
+                lent.holds(&case.button, owners);
+                let mut lent = Lent::new(&case.button, owners.len() + EXTRA);
+                let told = lent.delete(&case.button, &file.path, allowed);
+                assert_eq!(told, no_writes(22, 0));
                 lent.holds(&case.button, owners);
                 refused += 1;
             }

@@ -20,8 +20,8 @@ use referee::rng::Rng;
 const PATHS: [&str; 24] = [
     "path of a file: 0",
     "path of a read-only file: 16",
-    "path below a hidden directory: 0",
-    "path below a hidden directory: 16",
+    "path below a hidden directory: 22",
+    "path of a read-only file below a hidden directory: 22",
     "path of a file with any extension number: 15",
     "path of a file with the top bit: 14",
     "path of a file with an extension above 99: 14",
@@ -45,7 +45,7 @@ const PATHS: [&str; 24] = [
 ];
 
 /// What deletes that were done must have met.
-const DONE: [&str; 37] = [
+const DONE: [&str; 36] = [
     "one-byte page numbers",
     "two-byte page numbers",
     "local bitmap",
@@ -78,7 +78,6 @@ const DONE: [&str; 37] = [
     "partly filled packet in a directory's chain",
     "directory's chain scattered",
     "file at level 8",
-    "file below a hidden directory",
     "file with stamps",
     "file with several stamps",
     "file without stamps beside stamps of its page",
@@ -167,10 +166,6 @@ fn delete_features(built: &Built, entry: &BuiltEntry, after: &Button) -> Vec<&'s
         (entry.bytes.is_empty(), "file without bytes"),
         (entry.listing.level == 8, "file at level 8"),
         (
-            is_below_hidden(built, directories_of(entry)),
-            "file below a hidden directory",
-        ),
-        (
             built.totals.used == built.page_count,
             "every page was in use",
         ),
@@ -211,6 +206,10 @@ impl Worn<'_> {
             let number = told.number;
             self.tally
                 .add(format!("path of a file below a directory: {number}"));
+        }
+        if is_below_hidden(self.built, directories_of(entry)) {
+            assert_eq!(told, answer(22, 0), "hidden");
+            return;
         }
         if entry.listing.attribute == 1 {
             assert_eq!(told, answer(16, 0), "read-only");
@@ -262,7 +261,7 @@ fn deletes_from_sound_images_leave_the_planned_image() {
     tally.demand(20, &DONE);
     tally.demand(20, &OWNER_TABLES);
     tally.demand(10, &PATHS);
-    tally.demand_numbers("delete", 100, [0, 1, 14, 15, 16]);
+    tally.demand_numbers("delete", 100, [0, 1, 14, 15, 16, 22]);
 }
 
 /// Every file of an image is deleted, one after the other; those that stay are read each time.
@@ -281,6 +280,10 @@ fn deletes_one_after_the_other_leave_the_planned_images() {
             let before = button.clone();
             let told = both::delete(&mut button, table + 3, &entry.path, rng);
             deletes += 1;
+            if is_below_hidden(&built, directories_of(entry)) {
+                assert_eq!(told, answer(22, 0));
+                continue;
+            }
             if entry.listing.attribute == 1 {
                 assert_eq!(told, answer(16, 0));
                 continue;
@@ -586,7 +589,7 @@ fn deletes_of_paths_of_another_length_are_14() {
         }
     });
     tally.print();
-    tally.demand_numbers("delete", 20, [0, 14, 15, 16]);
+    tally.demand_numbers("delete", 20, [0, 14, 15, 16, 22]);
 }
 
 /// An image of 16 pages, 0 to 8 in use: files A and B and a directory S on page 0, C and D on the root's second page 4, E in S.

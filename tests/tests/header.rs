@@ -68,6 +68,27 @@ fn the_header_tells_stack_and_owner_table_of_each_call() {
     assert_eq!(text.matches("2 * page_count").count(), 0);
 }
 
+/// Put, delete and their careful forms have 22 in their tables of refusals, after 15 and before 16; no other call has it.
+#[test]
+fn the_header_tells_22_of_the_four_edits() {
+    let text = header();
+    let hidden = " *     22  a directory on the path is hidden                        0\n";
+    let read_only = " *     16  file is read-only                                        0\n";
+    let absent = ["directory absent        ", "directory or file absent"];
+    let lines = absent.map(|words| {
+        let line = format!(" *     15  {words}                                 0\n");
+        let both = [&line, hidden, read_only].concat();
+        text.matches(&both).count()
+    });
+    assert_eq!(lines, [2, 2]);
+    assert_eq!(text.matches(" 22  ").count(), 4);
+    for call in ["put", "delete", "careful_put", "careful_delete"] {
+        let end = text.find(&format!(" owfs_{call}(")).expect("the call");
+        let comment = text[..end].rfind("/* ").expect("its comment");
+        assert!(text[comment..end].contains(hidden), "{call}");
+    }
+}
+
 #[test]
 fn the_rust_declarations_are_the_headers() {
     let found = differences(&of_header(&header()), &rust());

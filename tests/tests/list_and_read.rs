@@ -83,13 +83,15 @@ const FEATURES: [&str; 18] = [
 ];
 
 /// The labels of paths with the answers that they must have met.
-const PATHS: [&str; 26] = [
+const PATHS: [&str; 28] = [
     "path of a file: 0",
     "path of a file: 18",
     "path of a read-only file: 0",
     "path of a read-only file: 18",
     "path below a hidden directory: 0",
     "path below a hidden directory: 18",
+    "path of a read-only file below a hidden directory: 0",
+    "path of a read-only file below a hidden directory: 18",
     "path of each entry: 0",
     "path of each entry: 14",
     "path of a file with any extension number: 15",

@@ -4,7 +4,7 @@
 //! Programs: the library and the second program. Each call is made by both; every answer and every lent byte is compared, and the tables are known.
 //! The archive is made by `rt staticlib owfs`.
 
-use common::generators::{deep_image, large_image, random_sizes, stamped_plan};
+use common::generators::{deep_image, large_image, largest_image, random_sizes, stamped_plan};
 use common::{
     agreed, all_free, answer, chain_of, mended, records, run_seeds, table_bytes, writes, Button,
     Record, FREE,
@@ -309,6 +309,7 @@ fn chains_of_random_images_are_told_in_order() {
         let built = match seed % 8 {
             0 => deep_image(rng),
             1 if seed % 80 == 1 => large_image(rng),
+            1 if seed % 80 == 41 => largest_image(32, 12, 2_000, 10, seed),
             2 | 3 => stamped_plan(rng).build(),
             _ => {
                 let (page_length, page_count) = random_sizes(rng, 600);

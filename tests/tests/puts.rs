@@ -21,15 +21,17 @@ use referee::rng::Rng;
 use referee::Answer;
 
 /// The labels of paths with the answers that a put must have given to them.
-const PATHS: [&str; 22] = [
+const PATHS: [&str; 24] = [
     "path of a file to replace: 0",
     "path of a file to replace: 17",
     "path of a new file: 0",
     "path of a new file: 17",
     "path of a file: 0",
     "path of a read-only file: 16",
-    "path below a hidden directory: 0",
-    "path below a hidden directory: 16",
+    "path of a file to replace: 22",
+    "path of a new file: 22",
+    "path below a hidden directory: 22",
+    "path of a read-only file below a hidden directory: 22",
     "path of a file with any extension number: 0",
     "path of a file with the top bit: 14",
     "path of a file with an extension above 99: 14",
@@ -123,7 +125,7 @@ fn puts_into_sound_images_leave_the_planned_image() {
     tally.demand(20, &STAMPED);
     tally.demand(10, &PATHS);
     tally.demand(20, &OWNER_TABLES);
-    tally.demand_numbers("put", 100, [0, 1, 14, 15, 16, 17]);
+    tally.demand_numbers("put", 100, [0, 1, 14, 15, 16, 17, 22]);
 }
 
 /// Forty puts on one image, one after the other; after each the file and another are read.
@@ -160,7 +162,7 @@ fn puts_one_after_the_other_leave_the_planned_images() {
         }
     });
     tally.print();
-    tally.demand_numbers("put", 50, [0, 14, 15, 16, 17]);
+    tally.demand_numbers("put", 50, [0, 14, 15, 16, 17, 22]);
 }
 
 /// The path of a file that is there.
@@ -376,7 +378,7 @@ fn put_is_14_exactly_if_the_path_is_malformed() {
         }
     });
     tally.print();
-    tally.demand_numbers("put", 20, [0, 14, 15, 16, 17]);
+    tally.demand_numbers("put", 20, [0, 14, 15, 16, 17, 22]);
 }
 
 /// The names' first bytes in a page of a directory of an image with one-byte page numbers.
@@ -522,19 +524,24 @@ fn put_keeps_the_lengths_of_the_bitmap_files_packets() {
     }
 }
 
+/// An image with a directory X whose extension byte is this one, and a file X.5 with this one.
+fn two_of_one_name(directory: u8, file: u8) -> Button {
+    let mut pages = Pages::new(32, 12);
+    let mut root = pages.local_control(&[0, 1, 2]);
+    root.extend(pages.entry("X", directory, 1, 0));
+    root.extend(pages.entry("X", file, 2, 1));
+    let sub = pages.sub_control("ROOT", 0);
+    pages.packet(0, &root, 0).packet(1, &sub, 0);
+    pages.packet(2, b"read-only", 0);
+    Button::from(&pages)
+}
+
 /// A file and a directory of one name are two entries; a replaced file's top bit stays clear, a read-only file is not replaced.
 #[test]
 fn put_takes_a_file_and_a_directory_of_one_name_for_two() {
     let seed = Seed(0xCD00_0000);
     let mut rng = Rng::new(seed.0);
-    let mut pages = Pages::new(32, 12);
-    let mut root = pages.local_control(&[0, 1, 2]);
-    root.extend(pages.entry("X", 0xFF, 1, 0));
-    root.extend(pages.entry("X", 0x85, 2, 1));
-    let sub = pages.sub_control("ROOT", 0);
-    pages.packet(0, &root, 0).packet(1, &sub, 0);
-    pages.packet(2, b"read-only", 0);
-    let mut button = Button::from(&pages);
+    let mut button = two_of_one_name(0x7F, 0x85);
     for (path, number) in [
         (path(&["X", "X"], "X", 5), 15),
         (path(&[], "X", 5), 16),
@@ -551,7 +558,18 @@ fn put_takes_a_file_and_a_directory_of_one_name_for_two() {
     let totals = both::check(&button, 48, &mut rng);
     assert_eq!((totals.used, totals.files, totals.directories), (5, 3, 1));
     let attributes = [0, 1, 2, 3].map(|place| both::list(&button, 48, place, &mut rng).attribute);
-    assert_eq!(attributes, [1, 0, 1, 0]);
+    assert_eq!(attributes, [0, 0, 1, 0]);
+    let mut button = two_of_one_name(0xFF, 0x05);
+    for (path, number) in [
+        (path(&["X", "X"], "X", 5), 15),
+        (path(&[], "X", 5), 0),
+        (path(&["X"], "X", 5), 22),
+    ] {
+        let told = both::put(&mut button, 48, &path, b"a new file", &mut rng);
+        assert_eq!(told, answer(number, 0), "{path:?}");
+    }
+    let attributes = [0, 1].map(|place| both::list(&button, 48, place, &mut rng).attribute);
+    assert_eq!(attributes, [1, 0]);
 }
 
 /// Arguments that fit another image: put judges them alone.

@@ -4,10 +4,12 @@
 //! Programs: the library and the second program. Each call is made by both; every answer and every lent byte is compared.
 //! The archive is made by `rt staticlib owfs`.
 
-use common::generators::{damaged_case, deep_image, fault_case, files, Case, Made};
+use common::generators::{
+    damaged_case, deep_image, directories_of, fault_case, files, is_below_hidden, Case, Made,
+};
 use common::plans::{geometry, may_be_local};
 use common::{agreed, answer, table_bytes, Button, Seed};
-use referee::builder::plan::Built;
+use referee::builder::plan::{Built, BuiltEntry};
 use referee::rng::Rng;
 use referee::{Answer, Length, Listing, Totals};
 
@@ -560,6 +562,17 @@ fn put_number_15_absent() {
     }
 }
 
+/// Whether a directory on the way to an entry is hidden.
+fn is_hidden(built: &Built, entry: &BuiltEntry) -> bool {
+    is_below_hidden(built, directories_of(entry))
+}
+
+/// Whether an entry is hidden or a directory on the way to it is: what can be put there is 22.
+fn is_in_hidden(built: &Built, entry: &BuiltEntry) -> bool {
+    let is_directory = entry.listing.extension == 127;
+    is_hidden(built, entry) || (is_directory && entry.listing.attribute == 1)
+}
+
 /// A read-only file is 16, also if there is no room for a put.
 #[test]
 fn edit_number_16_read_only() {
@@ -569,7 +582,7 @@ fn edit_number_16_read_only() {
         let built = deep_image(&mut Rng::new(seed));
         let too_long = vec![7; built.image.len()];
         for file in files(&built) {
-            if file.listing.attribute == 1 {
+            if file.listing.attribute == 1 && !is_hidden(&built, file) {
                 for edit in [Edit::Delete, PUT, Edit::Put(b""), Edit::Put(&too_long)] {
                     edit_refused(edit, &built, &file.path, 16);
                 }
@@ -592,7 +605,11 @@ fn put_number_17_no_room() {
         for entry in &built.entries {
             let pages = entry.listing.pages as usize;
             let bytes = vec![7; (free + pages) * geometry.max_data() + 1];
-            if entry.listing.extension == 127 {
+            let is_directory = entry.listing.extension == 127;
+            if is_in_hidden(&built, entry) {
+                continue;
+            }
+            if is_directory {
                 // A new file in the directory.
                 let path = [&entry.path[..], b"NEW'\x07"].concat();
                 edit_refused(Edit::Put(&bytes), &built, &path, 17);
@@ -606,6 +623,48 @@ fn put_number_17_no_room() {
         edit_refused(Edit::Put(&bytes), &built, b"NEW'\x07", 17);
     }
     assert!(met.iter().all(|&times| times >= 100), "met {met:?} times");
+}
+
+/// A file below a hidden directory is 22, also if it is read-only, and so is a new one, also if there is no room for a put. A malformed path is 14, a
+/// missing directory or, for a delete, a missing file is 15.
+#[test]
+fn edit_number_22_hidden() {
+    let mut met = [0; 3];
+    for seed in 0x6A40_0000..0x6A40_0000 + 60 {
+        let _seed = Seed(seed);
+        let built = deep_image(&mut Rng::new(seed));
+        let too_long = vec![7; built.image.len()];
+        let puts = [PUT, Edit::Put(b""), Edit::Put(&too_long)];
+        for entry in &built.entries {
+            let is_directory = entry.listing.extension == 127;
+            if !is_in_hidden(&built, entry) {
+                continue;
+            }
+            let names = &entry.path[..entry.path.len() / 4 * 4];
+            malformed(&built, names);
+            let path = match is_directory {
+                true => [names, b"NEW'\x07"].concat(),
+                false => entry.path.clone(),
+            };
+            for edit in puts {
+                edit_refused(edit, &built, &path, 22);
+            }
+            if is_directory {
+                edit_refused(Edit::Delete, &built, &path, 15);
+                met[0] += 1;
+            } else {
+                edit_refused(Edit::Delete, &built, &path, 22);
+                met[1 + entry.listing.attribute as usize] += 1;
+            }
+            if is_directory && names.len() < 32 {
+                let below = [names, b"NONEFILE\x07"].concat();
+                for edit in [Edit::Delete].into_iter().chain(puts) {
+                    edit_refused(edit, &built, &below, 15);
+                }
+            }
+        }
+    }
+    assert!(met.iter().all(|&times| times >= 50), "met {met:?} times");
 }
 
 /// Page length, page count or image length; also where a local bitmap is not allowed.

@@ -30,6 +30,8 @@ struct World {
     files: BTreeMap<Vec<u8>, File>,
     /// The names that lead to each directory; the root's are empty.
     directories: BTreeSet<Vec<u8>>,
+    /// Those of them that are hidden.
+    hidden: BTreeSet<Vec<u8>>,
     /// The edits done that have to do with stamps.
     stamped: Tally,
 }
@@ -54,6 +56,7 @@ impl World {
             owners,
             files: BTreeMap::new(),
             directories: BTreeSet::from([Vec::new()]),
+            hidden: BTreeSet::new(),
             stamped: Tally::default(),
         }
     }
@@ -63,9 +66,13 @@ impl World {
         let button = Button::from(built);
         let mut files = BTreeMap::new();
         let mut directories = BTreeSet::from([Vec::new()]);
+        let mut hidden = BTreeSet::new();
         for entry in &built.entries {
             if built.chains[entry.chain].of == ChainOf::Directory {
                 directories.insert(entry.path.clone());
+                if entry.listing.attribute == 1 {
+                    hidden.insert(entry.path.clone());
+                }
                 continue;
             }
             let file = File {
@@ -79,6 +86,7 @@ impl World {
             button,
             files,
             directories,
+            hidden,
             stamped: Tally::default(),
         }
     }
@@ -145,6 +153,13 @@ impl World {
         self.directories.contains(&path[..path.len() - 5])
     }
 
+    /// Whether one of the path's directories is hidden.
+    fn is_hidden(&self, path: &[u8]) -> bool {
+        let ends = (4..path.len()).step_by(4);
+        ends.into_iter()
+            .any(|end| self.hidden.contains(&path[..end]))
+    }
+
     /// Where a put of `length` bytes must go, counted from the owner table; none if there is no room.
     fn expect_put(&self, path: &[u8], length: usize) -> Option<Expected> {
         let geometry = self.button.pages().geometry;
@@ -207,6 +222,7 @@ impl World {
     fn put(&mut self, path: &[u8], bytes: &[u8]) -> u32 {
         let number = match self.files.get(path) {
             _ if !self.has_directory(path) => 15,
+            _ if self.is_hidden(path) => 22,
             Some(file) if file.read_only => 16,
             _ => 17,
         };
@@ -274,6 +290,7 @@ impl World {
         let number = match self.files.get(path) {
             _ if !self.has_directory(path) => 15,
             None => 15,
+            Some(_) if self.is_hidden(path) => 22,
             Some(file) if file.read_only => 16,
             Some(_) => 0,
         };
@@ -496,7 +513,7 @@ fn step(world: &mut World, rng: &mut Rng) -> u32 {
 }
 
 /// A run of random calls; the numbers of their answers are counted.
-fn run(world: &mut World, steps: usize, rng: &mut Rng, counts: &mut [u32; 20]) {
+fn run(world: &mut World, steps: usize, rng: &mut Rng, counts: &mut [u32; 23]) {
     world.verify();
     for _ in 0..steps {
         let number = step(world, rng);
@@ -534,7 +551,7 @@ fn fill_up(world: &mut World, rng: &mut Rng) {
 
 #[test]
 fn runs_on_formatted_buttons_agree_with_the_model() {
-    let mut counts = [0; 20];
+    let mut counts = [0; 23];
     let lengths = [32, 33, 37, 39, 48, 64, 127, 128, 255, 256];
     let sizes = [
         2, 3, 4, 5, 8, 16, 30, 31, 32, 33, 64, 100, 255, 256, 257, 300,
@@ -564,7 +581,7 @@ fn runs_on_formatted_buttons_agree_with_the_model() {
 
 #[test]
 fn runs_on_generated_buttons_agree_with_the_model() {
-    let mut counts = [0; 20];
+    let mut counts = [0; 23];
     for seed in 20_000..20_400 {
         let _seed = Seed(seed);
         let mut rng = Rng::new(seed);
@@ -579,7 +596,7 @@ fn runs_on_generated_buttons_agree_with_the_model() {
         let mut world = World::generated(&built);
         run(&mut world, 40, &mut rng, &mut counts);
     }
-    for number in [0, 14, 15, 16, 17] {
+    for number in [0, 14, 15, 16, 17, 22] {
         assert!(counts[number] > 100, "number {number}: {}", counts[number]);
     }
 }
@@ -587,7 +604,7 @@ fn runs_on_generated_buttons_agree_with_the_model() {
 /// Runs that begin with images of many stamps, which edits take away and none adds.
 #[test]
 fn runs_on_buttons_with_stamps_agree_with_the_model() {
-    let mut counts = [0; 20];
+    let mut counts = [0; 23];
     let mut stamped = Tally::default();
     run_seeds(25_000..25_300, |_, rng| {
         let mut world = World::generated(&stamped_plan(rng).build());
@@ -595,7 +612,7 @@ fn runs_on_buttons_with_stamps_agree_with_the_model() {
         stamped.add_all(&world.stamped);
     });
     stamped.print();
-    for number in [0, 14, 15, 16, 17] {
+    for number in [0, 14, 15, 16, 17, 22] {
         assert!(counts[number] > 100, "number {number}: {}", counts[number]);
     }
     let labels = [
@@ -626,7 +643,7 @@ fn long_runs_agree_with_the_model() {
         let seed = 30_000 + place as u64;
         let _seed = Seed(seed);
         let mut rng = Rng::new(seed);
-        let mut counts = [0; 20];
+        let mut counts = [0; 23];
         let mut world = World::formatted(page_length, page_count, local, &mut rng);
         run(&mut world, 2_500, &mut rng, &mut counts);
         assert!(counts[0] > 300, "done {}", counts[0]);
@@ -658,6 +675,6 @@ fn format_of_a_used_button_leaves_an_empty_one() {
         world.files.clear();
         world.directories = BTreeSet::from([Vec::new()]);
         world.verify();
-        run(&mut world, 20, &mut rng, &mut [0; 20]);
+        run(&mut world, 20, &mut rng, &mut [0; 23]);
     }
 }

@@ -1,14 +1,14 @@
 //! Every dump in `samples/` with the text that stands beside it.
 //!
 //! Programs: the second program in one test, the program `list` in another; both the second program and the library make the samples of a stopped put
-//! and of a bad page, and judge those of owner stamps.
+//! and of a bad page, and judge those of owner stamps and of a hidden directory.
 //! `rt check` and `rt ci` make `list`, `rt staticlib owfs` the archive.
 
 use std::fs;
 use std::path::{Path, PathBuf};
 
 use common::dumps::{dump, list_program};
-use common::{answer, chain_of, mended, writes, Button, Tally};
+use common::{answer, chain_of, mended, no_writes, writes, Button, Tally};
 use referee::builder::pages::{path, Pages};
 use referee::list_text;
 
@@ -167,4 +167,50 @@ fn stamp_without_its_entry_is_10() {
     let whole = pages.body(4);
     pages.packet(4, &whole[..14], 8);
     assert_eq!(Button::from(&pages).verdict(), answer(0, 0));
+}
+
+/// The sample with a hidden directory MAKR: CAL.1 and what is in its directory LOGS are listed and read, and not changed; beside it files are.
+#[test]
+fn files_below_a_hidden_directory_are_read_and_not_changed() {
+    let mut pages = Pages::new(32, 16);
+    let root = [
+        pages.local_control(&(0..8).collect::<Vec<usize>>()),
+        pages.entry("DEMO", 12, 1, 1),
+        pages.entry("MAKR", 0xFF, 2, 0),
+        pages.entry("CREW", 127, 6, 0),
+    ];
+    let makr = [
+        pages.sub_control("ROOT", 0),
+        pages.entry("CAL", 1, 3, 1),
+        pages.entry("LOGS", 127, 4, 0),
+    ];
+    let logs = [pages.sub_control("MAKR", 2), pages.entry("CNT", 7, 5, 1)];
+    let crew = [pages.sub_control("ROOT", 0), pages.entry("CNT", 7, 7, 1)];
+    pages.packet(0, &root.concat(), 0).packet(1, b"TEST", 0);
+    pages
+        .packet(2, &makr.concat(), 0)
+        .packet(3, b"offset 12", 0);
+    pages
+        .packet(4, &logs.concat(), 0)
+        .packet(5, b"Monday 12", 0);
+    pages.packet(6, &crew.concat(), 0);
+    pages.packet(7, b"Monday 12, Tuesday 15", 0);
+    let sample = sample("hidden-directory.dump");
+    assert_eq!(dump(32, 16, 8, &pages.image), sample);
+    let button = Button::from(&pages);
+    let count = path(&["MAKR", "LOGS"], "CNT", 7);
+    assert_eq!(button.read(&count), (0, b"Monday 12".to_vec()));
+    for hidden in [path(&["MAKR"], "CAL", 1), count] {
+        let mut edited = button.clone();
+        assert_eq!(edited.put(&hidden, b"Tuesday 15").0, answer(22, 0));
+        assert_eq!(edited.delete(&hidden).0, answer(22, 0));
+        let none = no_writes(22, 0);
+        assert_eq!(edited.careful_put(&hidden, b"Tuesday 15", 9).0, none);
+        assert_eq!(edited.careful_delete(&hidden, 9).0, none);
+        assert_eq!(edited, button);
+    }
+    let mut edited = button.clone();
+    let crew = path(&["CREW"], "CNT", 7);
+    assert_eq!(edited.put(&crew, b"Friday 14").0, answer(0, 0));
+    assert_eq!(edited.delete(&crew).0, answer(0, 0));
 }

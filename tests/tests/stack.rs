@@ -251,12 +251,13 @@ fn every_call(built: &Built, file: &[u8]) -> Vec<Call> {
     ]
 }
 
-/// A tree with stamps that goes down to level eight, in 65,535 pages; the calls go to a file there that has stamps.
+/// A tree with stamps that goes down to level eight, in 65,535 pages, with no hidden directory; the calls go to a file there that has stamps.
 #[test]
 fn every_call_in_directories_down_to_level_eight_runs_on_a_small_stack() {
     let rng = &mut Rng::new(0x57AC_0000);
     let shape = Shape {
         stamp_percent: 70,
+        hidden_percent: 0,
         ..deep_shape(&geometry(32, PAGES), rng)
     };
     let built = random_plan(32, PAGES, shape, rng).build();

@@ -8,7 +8,7 @@ use common::generators::{
     files, stamp_count, stamp_features, stamped_plan, with_stamps_made_plain, STAMPS, STAMP_COUNTS,
 };
 use common::plans::{
-    directories, geometry, overlaid, page_with_space, plan_with, plan_without, Room,
+    directories, geometry, is_hidden, overlaid, page_with_space, plan_with, plan_without, Room,
 };
 use common::puts::{labelled_path, path_in, random_bytes};
 use common::stops::{careful_edit, with_flipped_bits, Careful, Edit};
@@ -412,7 +412,7 @@ fn stamps_in_a_subdirectory_with_numbers_of_two_bytes() {
     let mut pages = Pages::new(32, 300);
     let control = pages.file_control(1, 2);
     let stamp = [0xABu8, 0, 0, 0, 0, 0, 0, 0, 0];
-    let below = pages.entry("SUB", 0xFF, 9, 0);
+    let below = pages.entry("SUB", 0x7F, 9, 0);
     pages.packet(0, &[control, stamp.to_vec(), below].concat(), 0);
     let mut bits = vec![0u8; 38];
     bits[0] = 0x07;
@@ -668,6 +668,10 @@ fn deletes_leave_the_planned_images() {
             let file = file_of(&built, &path).expect("a file of the plan");
             let before = button.clone();
             let (told, _) = button.delete(&path);
+            if is_hidden(&plan, &path) {
+                assert_eq!(told, answer(22, 0));
+                continue;
+            }
             if file.listing.attribute == 1 {
                 assert_eq!(told, answer(16, 0));
                 continue;

@@ -241,10 +241,10 @@ fn demand_every_number(tally: &Tally) {
     tally.demand_numbers("read", 20, (0..=15).chain([18]));
     tally.demand_numbers("read to a vector", 20, 0..=15);
     tally.demand_numbers("format", 20, [0, 1, 4]);
-    tally.demand_numbers("put", 20, 0..=17);
-    tally.demand_numbers("delete", 20, 0..=16);
-    tally.demand_numbers("careful put", 20, 0..=17);
-    tally.demand_numbers("careful delete", 20, 0..=16);
+    tally.demand_numbers("put", 20, (0..=17).chain([22]));
+    tally.demand_numbers("delete", 20, (0..=16).chain([22]));
+    tally.demand_numbers("careful put", 20, (0..=17).chain([22]));
+    tally.demand_numbers("careful delete", 20, (0..=16).chain([22]));
     tally.demand_numbers("mend", 20, 0..=13);
     tally.demand(100, &["marks cleared"]);
 }

@@ -1,4 +1,4 @@
--- What the refusals tell of a call that may change the image: a number from 1 to 18, and a page of the image, a bit of its bitmap or 0.
+-- What the refusals tell of a call that may change the image: a number from 1 to 22, and a page of the image, a bit of its bitmap or 0.
 use mathlib.Core.Path.{_≡_, sym}
 use mathlib.Core.Bool.{Bool}
 use mathlib.Core.List.{List}
@@ -21,7 +21,7 @@ pub some-pages : {g : Geometry} {image : List ℕ} → Fit g image → 0 < g .pa
 some-pages f = omega (arith, f .valid .some)
 
 abbrev pub CallFaults : {A : Type 0} → List ℕ → (Geometry → Res (Effect A)) → Type 0
-CallFaults image call = (g : Geometry) → Fit g image → Refuses 1 18 (g .pages + 33) (call g)
+CallFaults image call = (g : Geometry) → Fit g image → Refuses 1 22 (g .pages + 33) (call g)
 
 -- an edit refuses as its rule does
 plain-faults : {a b c : ℕ} (r : Res (List ℕ)) → Refuses a b c r → Refuses a b c (plainly r)
@@ -30,20 +30,20 @@ plain-faults (err m q) h = record { number = λ n p e. h .number n p (err-same e
 
 module _ (image : List ℕ) where
   pub format-told : (local : Bool) → CallFaults image (λ g. plainly (format g local image))
-  format-told local g f = refuses-within 1 18 (g .pages + 33) (omega arith) (omega arith) (omega arith) (plain-faults _ (format-faults g local image))
+  format-told local g f = refuses-within 1 22 (g .pages + 33) (omega arith) (omega arith) (omega arith) (plain-faults _ (format-faults g local image))
 
   module _ (path : List ℕ) where
     pub delete-told : CallFaults image (λ g. plainly (delete g path image))
-    delete-told g f = refuses-within 1 18 (g .pages + 33) (omega arith) (omega arith) (omega arith) (plain-faults _ (delete-faults g (some-pages f) path image))
+    delete-told g f = refuses-within 1 22 (g .pages + 33) (omega arith) (omega arith) (omega arith) (plain-faults _ (delete-faults g (some-pages f) path image))
 
     pub put-told : (bytes : List ℕ) → CallFaults image (λ g. plainly (put g path bytes image))
-    put-told bytes g f = refuses-within 1 18 (g .pages + 33) (omega arith) (omega arith) (omega arith) (plain-faults _ (put-faults g (some-pages f) path image bytes))
+    put-told bytes g f = refuses-within 1 22 (g .pages + 33) (omega arith) (omega arith) (omega arith) (plain-faults _ (put-faults g (some-pages f) path image bytes))
 
     pub careful-delete-told : (k : ℕ) → CallFaults image (λ g. carefulDelete g k path image)
-    careful-delete-told k g f = refuses-within 1 18 (g .pages + 33) (omega arith) (omega arith) (omega arith) (careful-delete-faults g (some-pages f) k path image)
+    careful-delete-told k g f = refuses-within 1 22 (g .pages + 33) (omega arith) (omega arith) (omega arith) (careful-delete-faults g (some-pages f) k path image)
 
     pub careful-put-told : (k : ℕ) (bytes : List ℕ) → CallFaults image (λ g. carefulPut g k path bytes image)
-    careful-put-told k bytes g f = refuses-within 1 18 (g .pages + 33) (omega arith) (omega arith) (omega arith) (careful-put-faults g (some-pages f) k path image bytes)
+    careful-put-told k bytes g f = refuses-within 1 22 (g .pages + 33) (omega arith) (omega arith) (omega arith) (careful-put-faults g (some-pages f) k path image bytes)
 
   pub mend-told : CallFaults image (λ g. mend g image)
-  mend-told g f = refuses-within 1 18 (g .pages + 33) (omega arith) (omega arith) (omega arith) (mend-faults g (some-pages f) image)
+  mend-told g f = refuses-within 1 22 (g .pages + 33) (omega arith) (omega arith) (omega arith) (mend-faults g (some-pages f) image)

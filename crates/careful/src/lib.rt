@@ -74,7 +74,7 @@ fn put_file(
     }
 }
 
-// Puts bytes at a path within a budget. The table has the owners of the image's pages. 14, 15, 16, 17.
+// Puts bytes at a path within a budget. The table has the owners of the image's pages. 14, 15, 22, 16, 17.
 fn put_path(
     image: &mut [u8],
     g: Geometry,

@@ -1,5 +1,6 @@
 -- A delete by path: each refusal in its place, and the file that can be deleted; without a limit the answer and the image are the rule's.
 use mathlib.Core.Path.{_≡_, refl, ap, sym, _∙_, subst}
+use mathlib.Core.Bool.{true, false}
 use mathlib.Core.List.{List}
 use Prim.Native.Nat.{ℕ, _≤_, _<_}
 use Rattle.geometry.specs.declared.Geometry.{Geometry}
@@ -12,11 +13,12 @@ use Rattle.rules.specs.ResultLaws.{ok-inj, then-ok, then-err, then-assoc, then-
 use Rattle.rules.specs.Chain.{Views, viewsOf, Link}
 use Rattle.rules.specs.Tree.{Label, Image}
 use Rattle.rules.specs.Check.{check}
-use Rattle.rules.specs.Paths.{nothing, aFile, targetOf}
-use Rattle.rules.specs.TargetLaws.{delete-target-none, delete-target-is, delete-target-absent, delete-target-kept}
+use Rattle.rules.specs.Paths.{fileKey, nothing, aFile, find, targetOf}
+use Rattle.rules.specs.TargetLaws.{delete-target-none, delete-target-absent, delete-target-hidden, delete-target-is, delete-target-kept}
 use Rattle.rules.specs.Put.{writable, plainEdit}
 use Rattle.rules.specs.Delete.{present, deleteTarget, deleteEdit, delete}
 use Rattle.entries.specs.declared.Slot.{Slot}
+use Rattle.lookup.specs.declared.Reached.{Reached}
 use Rattle.lookup.specs.declared.PathLookup.{PathLookup}
 use Rattle.lookup.specs.declared.PathLookup.the-variants as lookup
 use Rattle.lookup.specs.Targets.{FileAbsent, FileAt, Looks}
@@ -54,31 +56,42 @@ module _ (g : Geometry) (image : List ℕ) (table : List OwnerRecord) (path : Li
     pub nowhere : r ≡ lookup.Nowhere → PathDeleted g image path budget image (outcome.Refused 15 0)
     nowhere e = refused 15 0 (λ i c. delete-target-none path (i .tree) 15 0 (looks-as g vs path i r h c lookup.Nowhere e))
 
-    pub absent : (start name extension : ℕ) → r ≡ lookup.Absent start name extension → PathDeleted g image path budget image (outcome.Refused 15 0)
-    absent start name extension e = refused 15 0 λ i c.
-        let m : FileAbsent g vs path i start name extension = looks-as g vs path i r h c (lookup.Absent start name extension) e in
+    pub absent : (d : Reached) (name extension : ℕ) → r ≡ lookup.Absent d name extension → PathDeleted g image path budget image (outcome.Refused 15 0)
+    absent d name extension e = refused 15 0 λ i c.
+        let m : FileAbsent g vs path i d name extension = looks-as g vs path i r h c (lookup.Absent d name extension) e in
         delete-target-absent path (i .tree) (m .target) (m .reached) 15 0 (ap present (m .absent) ∙ no-file)
 
-    module _ (s : Slot) (stamps : ℕ) (e : Entry) (q : r ≡ lookup.At s stamps e) where
-      pub read-only : 127 < e .extension → PathDeleted g image path budget image (outcome.Refused 16 0)
-      read-only k = refused 16 0 λ i c.
-          let m : FileAt g vs path i s stamps e = looks-as g vs path i r h c (lookup.At s stamps e) q in
-          delete-target-kept path (i .tree) (m .target) (m .reached) 16 0 (ap present (m .found) ∙ a-file (m .label) (m .links)) (ap writable (m .found) ∙ not-writable m k)
+    module _ (d : Reached) (s : Slot) (stamps : ℕ) (e : Entry) (q : r ≡ lookup.At d s stamps e) where
+      at-file : (i : Image) → check g (viewsOf g image) ≡ ok i → FileAt g vs path i d s stamps e
+      at-file i c = looks-as g vs path i r h c (lookup.At d s stamps e) q
 
-      there : FileAt g (viewsOf g image) path tree s stamps e
-      there = looks-as g vs path tree r h accepted (lookup.At s stamps e) q
+      is-there : (i : Image) (c : check g (viewsOf g image) ≡ ok i) → present (find (fileKey (at-file i c .target .to)) (at-file i c .target .place .items)) ≡ ok tt
+      is-there i c = let m = at-file i c in ap present (m .found) ∙ a-file (m .label) (m .links)
+
+      pub hidden : d .hidden ≡ true → PathDeleted g image path budget image (outcome.Refused 22 0)
+      hidden k = refused 22 0 λ i c.
+          let m = at-file i c in
+          delete-target-hidden path (i .tree) (m .target) (m .reached) (is-there i c) (m .directory .hidden-is ∙ k)
+
+      pub read-only : d .hidden ≡ false → 127 < e .extension → PathDeleted g image path budget image (outcome.Refused 16 0)
+      read-only z k = refused 16 0 λ i c.
+          let m = at-file i c in
+          delete-target-kept path (i .tree) (m .target) (m .reached) (m .directory .hidden-is ∙ z) 16 0 (is-there i c) (ap writable (m .found) ∙ not-writable m k)
+
+      abbrev there : FileAt g (viewsOf g image) path tree d s stamps e
+      there = at-file tree accepted
 
       pub can-delete : CanDelete g image table s stamps e
-      can-delete = record { known = T; path = path; file = there }
+      can-delete = record { known = T; path = path; directory = d; file = there }
 
-      reached : e .extension ≤ 127 → deleteTarget path (tree .tree) ≡ ok (there .target)
-      reached k = let f = there .found in
-          delete-target-is path (tree .tree) (there .target) (there .reached) (ap present f ∙ a-file (there .label) (there .links)) (ap writable f ∙ is-writable there k)
+      reached : d .hidden ≡ false → e .extension ≤ 127 → deleteTarget path (tree .tree) ≡ ok (there .target)
+      reached z k = let f = there .found in
+          delete-target-is path (tree .tree) (there .target) (there .reached) (there .directory .hidden-is ∙ z) (is-there tree accepted) (ap writable f ∙ is-writable there k)
 
-      pub done : e .extension ≤ 127 → (after : List ℕ) (left : Budget) → Unlinks g image table s stamps e budget after left → PathDeleted g image path budget after (outcome.Done left)
+      pub done : d .hidden ≡ false → e .extension ≤ 127 → (after : List ℕ) (left : Budget) → Unlinks g image table s stamps e budget after left → PathDeleted g image path budget after (outcome.Done left)
       unfolding Unlinks can-delete
-      done k after left u i c =
-          let a = reached k in
+      done z k after left u i c =
+          let a = reached z k in
           subst (λ (j : Image). Outcomes g (andThen (deleteTarget path (j .tree)) (λ x. ok (deleteWrites g j x))) image budget after (outcome.Done left)) (ok-inj (sym accepted ∙ c))
           (deleteWrites g tree (there .target), simp (a, then-ok), u can-delete)
 

@@ -17,6 +17,7 @@ use Rattle.rules.specs.Writes.{edited, editWrites}
 use Rattle.rules.specs.Delete.{deleteTarget, deleteEdit}
 use Rattle.rules.specs.Owners.{OwnerRecord}
 use Rattle.entries.specs.declared.Slot.{Slot}
+use Rattle.lookup.specs.declared.Reached.{Reached}
 use Rattle.lookup.specs.Targets.{FileAt}
 use Rattle.edit.specs.declared.Outcome.{Outcome}
 use Rattle.edit.specs.Plans.{Outcomes}
@@ -26,7 +27,8 @@ use Rattle.volume.specs.Edits.{TableOf}
 pub record CanDelete (g : Geometry) (image : List ℕ) (table : List OwnerRecord) (s : Slot) (stamps : ℕ) (e : Entry) : Type 0 where
   pub known : TableOf g image table
   pub path : List ℕ
-  pub file : FileAt g (viewsOf g image) path (known .tree) s stamps e
+  pub directory : Reached
+  pub file : FileAt g (viewsOf g image) path (known .tree) directory s stamps e
 
 -- the page writes of a delete that has its target
 abbrev pub deleteWrites : Geometry → Image → Target → List Write

@@ -42,7 +42,7 @@ fn unlink(
     edit::remove_entry(image, g, slot, stamps, table, budget)
 }
 
-// Deletes the file at a path within a budget. The table has the owners of the image's pages. 14, 15, 16.
+// Deletes the file at a path within a budget. The table has the owners of the image's pages. 14, 15, 22, 16.
 pub fn delete_path(
     image: &mut [u8],
     g: Geometry,
@@ -58,7 +58,10 @@ pub fn delete_path(
         PathLookup::Malformed => Outcome::Refused(14, 0),
         PathLookup::Nowhere => Outcome::Refused(15, 0),
         PathLookup::Absent(_, _, _) => Outcome::Refused(15, 0),
-        PathLookup::At(slot, stamps, e) => {
+        PathLookup::At(directory, slot, stamps, e) => {
+            if directory.hidden {
+                return Outcome::Refused(22, 0);
+            }
             if extension_of(e.extension).attribute != 0 {
                 return Outcome::Refused(16, 0);
             }

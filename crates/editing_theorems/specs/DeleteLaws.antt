@@ -18,7 +18,7 @@ use Rattle.rules.specs.Control.{Parent}
 use Rattle.rules.specs.Bitmap.{bitmapOf}
 use Rattle.rules.specs.Check.{check}
 use Rattle.rules.specs.WellFormed.{HasBelow, IsDirectory, Entries, WellFormed}
-use Rattle.rules.specs.TargetLaws.{reached, on-delete-target}
+use Rattle.rules.specs.TargetLaws.{reached, delete-met}
 use Rattle.rules.specs.Paths.{Path, pathOf, fileKey, Found, nothing, aFile, aDirectory, find, Place, Target, rootPlace, directoryAt, changeAt}
 use Rattle.rules.specs.Writes.{edited, editWrites}
 use Rattle.rules.specs.Put.{plainEdit}
@@ -200,9 +200,10 @@ pub record FileIn (g : Geometry) (path image : List ℕ) : Type 0 where
 -- the target of a delete is one
 pub file-in : {C : Type 0} (g : Geometry) (path image : List ℕ) → Fit g image → Bytes image → (i : Image) → check g (viewsOf g image) ≡ ok i
     → (x : Target) → deleteTarget path (i .tree) ≡ ok x → ((f : FileIn g path image) → f .at .before ≡ i → f .at .to ≡ x .to → f .at .place ≡ x .place → C) → C
-file-in g path image fit bytes i c x t k = on-delete-target path (i .tree) x t λ t u a.
-    let r = reached path (i .tree) x t in
-    present-file (find (fileKey (x .to)) (x .place .items)) u a λ l ls f.
+file-in g path image fit bytes i c x t k =
+    let m = delete-met path (i .tree) x t in
+    let r = reached path (i .tree) x (m .at) in
+    present-file (find (fileKey (x .to)) (x .place .items)) tt (m .is) λ l ls f.
     k (record {
       at = record { before = i; accepted = accepted-iff g image fit bytes i .0 c; to = x .to; formed = r .formed; place = x .place; there = r .there };
       bytes = bytes;

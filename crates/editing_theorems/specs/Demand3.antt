@@ -15,13 +15,13 @@ use Rattle.rules.specs.ResultLaws.{ok-inj, clash, err-same, on-then, on-refused
 use Rattle.rules.specs.PageSetLaws.{count-append, free-length}
 use Rattle.rules.specs.Chain.{viewsOf}
 use Rattle.rules.specs.Tree.{Image, used}
-use Rattle.rules.specs.Put.{writable, put}
+use Rattle.rules.specs.Put.{putTarget, put}
 use Rattle.rules.specs.Check.{check}
-use Rattle.rules.specs.Paths.{Path, pathOf, fileKey, fileLabel, Found, find, Target, targetOf}
-use Rattle.rules.specs.TargetLaws.{reached, on-put-target}
+use Rattle.rules.specs.Paths.{Path, pathOf, fileKey, fileLabel, Found, find, Target}
+use Rattle.rules.specs.TargetLaws.{reached, put-met}
 use Rattle.rules.specs.EditLaws.{allFound}
 use Rattle.rules.specs.RefusalLaws.{Refuses}
-use Rattle.rules.specs.CallLaws.{put-target-faults}
+use Rattle.rules.specs.CallLaws.{put-target-room}
 use Rattle.rules.specs.FuelLaws.{check-faults}
 use Rattle.rules.specs.Candidate.{Accepted, OnlyRoom, NotReadOnly, Exists, atPath, targetPath, filePath, PutFile, Candidate, chainPages, pagesInUse, CandidateFor, Demand3}
 use Rattle.rules.specs.Calls.{inGeometry, shape, plainly, effect, putCall}
@@ -69,6 +69,7 @@ module _ (P N : ℕ) (image table path bytes : List ℕ) (o : OnlyRoom P N image
     formed = o .formed;
     place = o .place;
     there = o .there;
+    seen = o .shown;
     writable = o .allowed;
   }
 
@@ -159,10 +160,11 @@ module _ (P N : ℕ) (image table path bytes : List ℕ) where
   answer = putCall P N image table path bytes .0
 
   -- what a put has met when it comes to the room
-  room-met : (g : Geometry) → shape P N image table ≡ Fits g → (i : Image) → check g (viewsOf g image) ≡ ok i → (x : Target) → targetOf path (i .tree) ≡ ok x
-      → (u : Unit {0}) → writable (find (fileKey (x .to)) (x .place .items)) ≡ ok u → OnlyRoom P N image table (pathOf path) NotReadOnly
-  room-met g s i c x t u w =
-      let r = reached path (i .tree) x t in
+  room-met : (g : Geometry) → shape P N image table ≡ Fits g → (i : Image) → check g (viewsOf g image) ≡ ok i → (x : Target) → putTarget path (i .tree) ≡ ok x
+      → OnlyRoom P N image table (pathOf path) NotReadOnly
+  room-met g s i c x t =
+      let m = put-met path (i .tree) x t in
+      let r = reached path (i .tree) x (m .at) in
       record {
         geometry = g;
         right = s;
@@ -172,30 +174,30 @@ module _ (P N : ℕ) (image table path bytes : List ℕ) where
         formed = r .formed;
         place = x .place;
         there = r .there;
-        allowed = writable-inv (find (fileKey (x .to)) (x .place .items)) u w;
+        shown = m .seen;
+        allowed = writable-inv (find (fileKey (x .to)) (x .place .items)) tt (m .may);
       }
 
   -- a number that only room gives
   not-17 : {A C : Type 0} (low high most : ℕ) (r : Res A) → Refuses low high most r → high < 17 → r ≡ err 17 0 → C
   not-17 low high most r h k e = absurd (omega (arith, h .number 17 0 e .1))
 
-  put-met : (g : Geometry) → shape P N image table ≡ Fits g → (r : Res (List ℕ)) → put g path bytes image ≡ r
+  rule-met : (g : Geometry) → shape P N image table ≡ Fits g → (r : Res (List ℕ)) → put g path bytes image ≡ r
       → (effect P N image table g (plainly r) .0 ≡ ok tt) ⊎ (effect P N image table g (plainly r) .0 ≡ err 17 0) → OnlyRoom P N image table (pathOf path) NotReadOnly
   unfolding put
-  put-met g s (ok after) e h = on-then _ _ _ e λ i c e. on-then _ _ _ e λ x t e. on-put-target path (i .tree) x t λ t u w. room-met g s i c x t u w
-  put-met g s (err n p) e (inl h) = clash h
-  put-met g s (err n p) e (inr h) =
+  rule-met g s (ok after) e h = on-then _ _ _ e λ i c e. on-then _ _ _ e λ x t e. room-met g s i c x t
+  rule-met g s (err n p) e (inl h) = clash h
+  rule-met g s (err n p) e (inr h) =
       let f : put g path bytes image ≡ err 17 0 = e ∙ err-same h in
       on-refused _ _ _ _ f (not-17 2 13 (g .pages + 33) _ (check-faults g (viewsOf g image) (omega (arith, fit-of P N image table g s .valid .some))) (omega arith)) λ i c f.
-      on-refused _ _ _ _ f (not-17 14 16 1 _ (put-target-faults path (i .tree)) (omega arith)) λ x t f.
-      on-put-target path (i .tree) x t λ t u w. room-met g s i c x t u w
+      on-refused _ _ _ _ f (put-target-room path (i .tree) 0) λ x t f. room-met g s i c x t
 
   call-met : (s : Shape) → shape P N image table ≡ s
       → (inGeometry s (err 1 0, image, table) (λ g. effect P N image table g (plainly (put g path bytes image))) .0 ≡ ok tt)
       ⊎ (inGeometry s (err 1 0, image, table) (λ g. effect P N image table g (plainly (put g path bytes image))) .0 ≡ err 17 0) → OnlyRoom P N image table (pathOf path) NotReadOnly
   call-met Invalid e (inl h) = clash h
   call-met Invalid e (inr h) = absurd (let z : _≡_ {A = ℕ} 1 17 = cc in omega arith)
-  call-met (Fits g) e h = put-met g e (put g path bytes image) refl h
+  call-met (Fits g) e h = rule-met g e (put g path bytes image) refl h
 
   answer-met : (answer ≡ ok tt) ⊎ (answer ≡ err 17 0) → OnlyRoom P N image table (pathOf path) NotReadOnly
   unfolding putCall

@@ -18,7 +18,7 @@ use Rattle.rules.specs.Chain.{viewsOf, Link, pages}
 use Rattle.rules.specs.Names.{attribute}
 use Rattle.rules.specs.Tree.{Label, Image, used}
 use Rattle.rules.specs.Check.{check}
-use Rattle.rules.specs.TargetLaws.{reached, target-is, put-target-is, on-put-target}
+use Rattle.rules.specs.TargetLaws.{reached, target-is, put-target-is, put-met}
 use Rattle.rules.specs.Paths.{fileKey, Found, nothing, aFile, aDirectory, find, Target}
 use Rattle.rules.specs.Writes.{Edit}
 use Rattle.rules.specs.Put.{writable, putTarget, putEdit, plainEdit, put}
@@ -109,7 +109,7 @@ module _ (g : Geometry) (image path bytes : List ℕ) (a : Asked g image path by
       let c = accepted g image (a .tree) (a .well) in
       let w = writable-ok (find (fileKey (a .to)) (a .place .items)) (a .writable) in
       let k = target-is path (a .tree .tree) (a .to) (a .formed) (a .place) (a .there) in
-      let t = put-target-is path (a .tree .tree) (record { to = a .to; place = a .place }) k w in
+      let t = put-target-is path (a .tree .tree) (record { to = a .to; place = a .place }) k (a .seen) w in
       simp (c, t, then-ok)
 
   pub put-is : put g path bytes image ≡ andAfter (refuse-unless (leb (more + need) (length spare)) 17 0) (ok imageAfter)
@@ -155,10 +155,11 @@ asked-at g path bytes image fit b p c i h x t = record {
   pathBytes = p;
   areBytes = c;
   to = x .to;
-  formed = on-put-target path (i .tree) x t λ f u w. reached path (i .tree) x f .formed;
+  formed = reached path (i .tree) x (put-met path (i .tree) x t .at) .formed;
   place = x .place;
-  there = on-put-target path (i .tree) x t λ f u w. reached path (i .tree) x f .there;
-  writable = on-put-target path (i .tree) x t λ f u w. writable-inv (find (fileKey (x .to)) (x .place .items)) u w;
+  there = reached path (i .tree) x (put-met path (i .tree) x t .at) .there;
+  seen = put-met path (i .tree) x t .seen;
+  writable = writable-inv (find (fileKey (x .to)) (x .place .items)) tt (put-met path (i .tree) x t .may);
 }
 
 pub asked-of : (g : Geometry) (path bytes image now : List ℕ) → Fit g image → Bytes image → Bytes path → Bytes bytes → put g path bytes image ≡ ok now → Asked g image path bytes

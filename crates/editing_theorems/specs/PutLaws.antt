@@ -1,6 +1,6 @@
 -- Put: the image after it is accepted, the path reads the bytes, every other path shows what it showed; the pages in use, counted.
 use mathlib.Core.Path.{_≡_, refl, ap, sym, _∙_}
-use mathlib.Core.Bool.{true}
+use mathlib.Core.Bool.{true, false}
 use mathlib.Core.List.{List, [], _++_}
 use Prim.Native.Nat.{ℕ, _+_, _%_, _≤_}
 use native.Mathlib.Omega.{arith}
@@ -54,6 +54,7 @@ pub record Asked (g : Geometry) (image path bytes : List ℕ) : Type 0 where
   pub formed : pathOf path ≡ ok to
   pub place : Place
   pub there : directoryAt (to .directories) (rootPlace (tree .tree)) ≡ ok place
+  pub seen : place .hidden ≡ false
   pub writable : (l : Label) (ls : List Link) → find (fileKey to) (place .items) ≡ aFile l ls → attribute (l .extension) ≡ 0
 
 file-number : (x : ℕ) → x ≤ 99 → fileNumber x ≡ true

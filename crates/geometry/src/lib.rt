@@ -104,6 +104,9 @@ pub const MOST_FILE: u8 = 99;
 
 pub const DIRECTORY: u8 = 127;
 
+// The name by which the root is known to those below it: `ROOT`, the first byte lowest.
+pub const ROOT: u32 = 0x544F4F52;
+
 // The bytes of a page's record in the owner table.
 pub const RECORD_BYTES: usize = 4;
 

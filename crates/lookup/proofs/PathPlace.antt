@@ -1,5 +1,6 @@
 -- The directory that a path's names lead to in an accepted image, as the code follows them.
 use mathlib.Core.Path.{_≡_, refl, ap, sym, _∙_, subst}
+use mathlib.Core.Bool.{false}
 use mathlib.Core.List.{List}
 use Prim.Native.Nat.{ℕ, _≤_}
 use native.Mathlib.Omega.{arith}
@@ -8,7 +9,7 @@ use Rattle.geometry.specs.declared.Geometry.{Geometry}
 use Rattle.rules.specs.declared.Entry.{Entry}
 use Rattle.rules.specs.Result.{ok, err}
 use Rattle.rules.specs.Chain.{Views, Link}
-use Rattle.rules.specs.Names.{key}
+use Rattle.rules.specs.Names.{key, ROOT}
 use Rattle.rules.specs.Tree.{Label, Items, fileEntry, Image}
 use Rattle.rules.specs.Check.{check}
 use Rattle.rules.specs.Paths.{namesIn, fileKey, Found, nothing, aFile, aDirectory, find, Place, rootPlace, directoryAt, targetOf}
@@ -20,21 +21,29 @@ use Rattle.entries.specs.declared.Slot.{Slot}
 use Rattle.lookup.specs.declared.Spot.{Spot}
 use Rattle.lookup.specs.declared.Spot.the-variants as spot
 use Rattle.lookup.specs.declared.Search.the-variants as search
+use Rattle.lookup.specs.declared.Reached.{Reached}
 use Rattle.lookup.specs.declared.Resolved.{Resolved}
 use Rattle.lookup.specs.declared.Resolved.the-variants as resolved
-use Rattle.lookup.specs.Searches.{entryOf, TreeAt, HasTree, Leads, PlaceOf, IsPlace}
+use Rattle.lookup.specs.Searches.{entryOf, TreeAt, HasTree, IsReached, Leads, PlaceOf, IsPlace}
 use Rattle.lookup.specs.Targets.{FileAbsent, FileAt}
 use Rattle.lookup.proofs.Resolving.{FoundAt, find-stands, no-directory}
 
 pub root-tree : (g : Geometry) (vs : Views) (i : Image) → check g vs ≡ ok i → TreeAt g vs 0 (i .tree)
 root-tree g vs i accepted = record { levels = 8; stands = accepted-stands g vs i accepted }
 
+-- the root, as the code begins with it
+abbrev pub theRoot : Reached
+theRoot = record { start = 0; name = ROOT; hidden = false }
+
+pub root-reached : (g : Geometry) (vs : Views) (i : Image) → check g vs ≡ ok i → IsReached g vs (rootPlace (i .tree)) theRoot
+root-reached g vs i accepted = record { here-is = refl; hidden-is = refl; tree = root-tree g vs i accepted }
+
 module _ (g : Geometry) (vs : Views) (path : List ℕ) (i : Image) (names name extension : ℕ) (P : Parts path names name extension) where
-  -- the rule's directory, and that it stands from a start page on
-  pub record PlaceAt (start : ℕ) : Type 0 where
+  -- the rule's directory, as the code tells it
+  pub record PlaceAt (d : Reached) : Type 0 where
     pub place : Place
     pub is : directoryAt (P .path .directories) (rootPlace (i .tree)) ≡ ok place
-    pub tree : TreeAt g vs start (place .items)
+    pub reached : IsReached g vs place d
 
   module _ (r : Resolved) (h : Leads g vs (directoryAt (namesIn names (drop 0 path)) (rootPlace (i .tree))) r) where
     names-are : directoryAt (namesIn names (drop 0 path)) (rootPlace (i .tree)) ≡ directoryAt (P .path .directories) (rootPlace (i .tree))
@@ -43,13 +52,13 @@ module _ (g : Geometry) (vs : Views) (path : List ℕ) (i : Image) (names name e
     pub no-directory-at : r ≡ resolved.Absent → directoryAt (P .path .directories) (rootPlace (i .tree)) ≡ err 15 0
     no-directory-at e = sym names-are ∙ subst (Leads g vs (directoryAt (namesIn names (drop 0 path)) (rootPlace (i .tree)))) e h
 
-    pub place-at : (start : ℕ) → r ≡ resolved.Directory start → PlaceAt start
-    place-at start e =
+    pub place-at : (d : Reached) → r ≡ resolved.Directory d → PlaceAt d
+    place-at d e =
         let k = subst (Leads g vs (directoryAt (namesIn names (drop 0 path)) (rootPlace (i .tree)))) e h in
-        record { place = k .0; is = sym names-are ∙ k .1; tree = k .2 }
+        record { place = k .0; is = sym names-are ∙ k .1; reached = k .2 }
 
-    pub has-tree : (start : ℕ) → r ≡ resolved.Directory start → HasTree g vs start
-    has-tree start e = let k = place-at start e in record { tree = k .place .items; at = k .tree }
+    pub has-tree : (d : Reached) → r ≡ resolved.Directory d → HasTree g vs (d .start)
+    has-tree d e = let k = place-at d e in record { tree = k .place .items; at = k .reached .tree }
 
 -- what is found under a file's key is a file, and its chain stands
 pub record FoundFile (g : Geometry) (vs : Views) (k : ℕ) (t : Items) (e : Entry) : Type 0 where
@@ -76,22 +85,22 @@ module _ (g : Geometry) (vs : Views) (path : List ℕ) (i : Image) (names name e
   pub nowhere : r ≡ resolved.Absent → targetOf path (i .tree) ≡ err 15 0
   nowhere e = target-nowhere path (i .tree) (P .path) (P .is) 15 0 (no-directory-at g vs path i names name extension P r h e)
 
-  module _ (start : ℕ) (r-is : r ≡ resolved.Directory start) (k : ℕ) (k-is : k ≡ key name extension) (s : Spot) (f : (t : Items) → TreeAt g vs start t → IsPlace g (vs .pages) k t s) where
-    abbrev there : PlaceAt g vs path i names name extension P start
-    there = place-at g vs path i names name extension P r h start r-is
+  module _ (d : Reached) (r-is : r ≡ resolved.Directory d) (k : ℕ) (k-is : k ≡ key name extension) (s : Spot) (f : (t : Items) → TreeAt g vs (d .start) t → IsPlace g (vs .pages) k t s) where
+    abbrev there : PlaceAt g vs path i names name extension P d
+    there = place-at g vs path i names name extension P r h d r-is
 
     same-key : k ≡ fileKey (P .path)
     same-key = k-is ∙ sym (P .key-is)
 
-    pub file-absent : s ≡ spot.Absent → FileAbsent g vs path i start name extension
+    pub file-absent : s ≡ spot.Absent → FileAbsent g vs path i d name extension
     file-absent q = record {
       target = record { to = P .path; place = there .place };
       reached = target-is path (i .tree) (P .path) (P .is) (there .place) (there .is);
       name-is = P .name-is;
       extension-is = P .extension-is;
-      tree = there .tree;
+      directory = there .reached;
       absent = go (find (fileKey (P .path)) (there .place .items)) refl (subst (λ (n : ℕ). search.Absent ≡ entryOf (find n (there .place .items))) same-key
-          (subst (IsPlace g (vs .pages) k (there .place .items)) q (f (there .place .items) (there .tree))));
+          (subst (IsPlace g (vs .pages) k (there .place .items)) q (f (there .place .items) (there .reached .tree))));
     }
       where
         go : (x : Found) → find (fileKey (P .path)) (there .place .items) ≡ x → search.Absent ≡ entryOf x → find (fileKey (P .path)) (there .place .items) ≡ nothing
@@ -99,13 +108,14 @@ module _ (g : Geometry) (vs : Views) (path : List ℕ) (i : Image) (names name e
         go (aFile l ls) e z = absurd (let z : _≡_ {A = ℕ} 0 1 = cc in omega arith)
         go (aDirectory l d) e z = absurd (let z : _≡_ {A = ℕ} 0 1 = cc in omega arith)
 
-    pub file-at : (p : Slot) (m : ℕ) (e : Entry) → s ≡ spot.At p m e → FileAt g vs path i p m e
+    pub file-at : (p : Slot) (m : ℕ) (e : Entry) → s ≡ spot.At p m e → FileAt g vs path i d p m e
     file-at p m e q =
-        let at : PlaceOf g (vs .pages) k (there .place .items) p m e = subst (IsPlace g (vs .pages) k (there .place .items)) q (f (there .place .items) (there .tree)) in
-        let x = found-file g vs start (there .place .items) (there .tree) k name extension k-is (P .low) e (at .found) in
+        let at : PlaceOf g (vs .pages) k (there .place .items) p m e = subst (IsPlace g (vs .pages) k (there .place .items)) q (f (there .place .items) (there .reached .tree)) in
+        let x = found-file g vs (d .start) (there .place .items) (there .reached .tree) k name extension k-is (P .low) e (at .found) in
         record {
           target = record { to = P .path; place = there .place };
           reached = target-is path (i .tree) (P .path) (P .is) (there .place) (there .is);
+          directory = there .reached;
           label = x .label;
           links = x .links;
           found = ap (λ (n : ℕ). find n (there .place .items)) (sym same-key) ∙ x .is;

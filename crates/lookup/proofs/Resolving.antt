@@ -1,9 +1,10 @@
 -- What stands under a key, and the names of a path followed one by one.
 use mathlib.Core.Path.{_≡_, refl, ap, ap₂, sym, _∙_, subst}
-use mathlib.Core.Bool.{true, false}
+use mathlib.Core.Bool.{Bool, true, false, _||_}
 use mathlib.Core.List.{List, [], _∷_}
 use Prim.Native.Nat.{ℕ, zero, suc, _+_, _-_, _%_, _≤_}
 use native.Mathlib.Omega.{arith}
+use lib.Dec.{eqb}
 use lib.ListN.{take, drop}
 use lib.Seq.{drop-drop}
 use borrow.Author.Tests.{eq-eqb, ne-eqb, eqb-true, eqb-false}
@@ -15,16 +16,17 @@ use Rattle.rules.specs.PageSetLaws.{hits, same, other}
 use Rattle.rules.specs.Result.{Res, ok, err}
 use Rattle.rules.specs.ResultLaws.{clash, ok-inj}
 use Rattle.rules.specs.Chain.{Views, first}
-use Rattle.rules.specs.Names.{key, directoryNumber}
+use Rattle.rules.specs.Names.{key, attribute, directoryNumber}
 use Rattle.rules.specs.Tree.{Label, keyOf, Items, end, page, file, dir, startOf, directoryEntry}
 use Rattle.rules.specs.WellFormed.{Under}
 use Rattle.rules.specs.Paths.{namesIn, directoryKey, Found, nothing, aFile, aDirectory, find, Place, stepDown, inDirectory, directoryAt}
 use Rattle.chain.specs.KnownChain.{ChainAt}
 use Rattle.listing.specs.KnownTree.{Chained, Below}
 use Rattle.lookup.specs.declared.Search.the-variants as search
+use Rattle.lookup.specs.declared.Reached.{Reached}
 use Rattle.lookup.specs.declared.Resolved.{Resolved}
 use Rattle.lookup.specs.declared.Resolved.the-variants as resolved
-use Rattle.lookup.specs.Searches.{entryOf, TreeAt, Leads}
+use Rattle.lookup.specs.Searches.{entered, entryOf, TreeAt, HasTree, IsReached, Leads}
 
 -- ---- what is found stands
 abbrev pub FoundAt : Geometry → Views → ℕ → ℕ → Found → Type 0
@@ -81,9 +83,36 @@ place-below g vs (x ∷ xs) from levels b p e =
     go (aFile l ls) s k e = clash e
     go (aDirectory l d) s k e = under d (λ n u. k l d n u e) levels (s .3)
 
-module _ (g : Geometry) (vs : Views) (start : ℕ) (path : List ℕ) (at names : ℕ) where
+-- one name on: the top bit set or clear
+pub enter-hidden : (from : Reached) (name : ℕ) (e : Entry) → attribute (e .extension) ≡ 1 → record { start = e .start; name = name; hidden = true } ≡ entered from name e
+enter-hidden from name e h = ap (λ (b : Bool). record { start = e .start; name = name; hidden = b }) (sym (go (from .hidden)))
+  where
+    go : (b : Bool) → b || eqb (attribute (e .extension)) 1 ≡ true
+    go true = refl
+    go false = eq-eqb (attribute (e .extension)) 1 h
+
+pub enter-shown : (from : Reached) (name : ℕ) (e : Entry) → (attribute (e .extension) ≡ 1 → ⊥) → record { start = e .start; name = name; hidden = from .hidden } ≡ entered from name e
+enter-shown from name e h = ap (λ (b : Bool). record { start = e .start; name = name; hidden = b }) (sym (go (from .hidden)))
+  where
+    go : (b : Bool) → b || eqb (attribute (e .extension)) 1 ≡ b
+    go true = refl
+    go false = ne-eqb (attribute (e .extension)) 1 h
+
+-- the same of the rule's place and the code's
+pub step-reached : (g : Geometry) (vs : Views) (from : Reached) (p : Place) → IsReached g vs p from → (x : ℕ) (l : Label) (d : Items) (e : Entry) → e ≡ directoryEntry l d → TreeAt g vs (e .start) d
+    → IsReached g vs (stepDown p x l d) (entered from x e)
+step-reached g vs from p h x l d e e-is tree = record {
+  here-is = ap (λ (n : ℕ). record { name = x; start = n }) (sym (ap (λ (y : Entry). y .start) e-is));
+  hidden-is = ap₂ (λ (a : Bool) (n : ℕ). a || eqb (attribute n) 1) (h .hidden-is) (sym (ap (λ (y : Entry). y .extension) e-is));
+  tree = tree;
+}
+
+pub has-tree-from : {g : Geometry} {vs : Views} {d : Items} (start n : ℕ) → n ≡ start → TreeAt g vs start d → HasTree g vs n
+has-tree-from {g} {vs} {d} start n q tree = rw q (record { tree = d; at = tree })
+
+module _ (g : Geometry) (vs : Views) (from : Reached) (path : List ℕ) (at names : ℕ) where
   -- none is left
-  pub lead-here : names ≡ 0 → (p : Place) → TreeAt g vs start (p .items) → Leads g vs (directoryAt (namesIn names (drop at path)) p) (resolved.Directory start)
+  pub lead-here : names ≡ 0 → (p : Place) → IsReached g vs p from → Leads g vs (directoryAt (namesIn names (drop at path)) p) (resolved.Directory from)
   unfolding directoryAt
   lead-here z p T = (p, ap (λ (n : ℕ). directoryAt (namesIn n (drop at path)) p) z, T)
 
@@ -116,9 +145,10 @@ module _ (g : Geometry) (vs : Views) (start : ℕ) (path : List ℕ) (at names :
       pub label : Label
       pub items : Items
       pub is : find k t ≡ aDirectory label items
+      pub entry-is : e ≡ directoryEntry label items
       pub tree : TreeAt g vs (e .start) items
 
-    pub lead-next : (t : Items) → TreeAt g vs start t → (e : Entry) → search.Found e ≡ entryOf (find k t) → Next t e
+    pub lead-next : (t : Items) → TreeAt g vs (from .start) t → (e : Entry) → search.Found e ≡ entryOf (find k t) → Next t e
     lead-next t T e q = go (find k t) refl (find-stands g vs (T .levels) k t (T .stands .below)) q
       where
         under : (n : ℕ) (d : Items) → Chained g (vs .pages) (startOf d) d → Under n (λ less. Below g vs less d) → TreeAt g vs (startOf d) d
@@ -130,7 +160,7 @@ module _ (g : Geometry) (vs : Views) (start : ℕ) (path : List ℕ) (at names :
         go (aFile l ls) i s q = absurd (no-file k x l k-is (s .0) (s .2))
         go (aDirectory l d) i s q =
             let j : e ≡ directoryEntry l d = cc in
-            record { label = l; items = d; is = i; tree = subst (λ (n : ℕ). TreeAt g vs n d) (sym (ap (λ (y : Entry). y .start) j)) (under (T .levels) d (s .1) (s .3)) }
+            record { label = l; items = d; is = i; entry-is = j; tree = subst (λ (n : ℕ). TreeAt g vs n d) (sym (ap (λ (y : Entry). y .start) j)) (under (T .levels) d (s .1) (s .3)) }
 
     pub lead-on : (p : Place) (e : Entry) (n : Next (p .items) e) (r : Resolved) → Leads g vs (onward p (n .label) (n .items)) r → Leads g vs (directoryAt (namesIn names (drop at path)) p) r
     lead-on p e n r h = subst (λ (q : Res Place). Leads g vs q r) (sym (one-name p ∙ ap (λ (f : Found). inDirectory f (onward p)) (n .is))) h

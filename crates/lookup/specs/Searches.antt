@@ -1,7 +1,9 @@
 -- For contracts: what stands under a key in a directory, and where the names of a path lead.
 use mathlib.Core.Path.{_≡_}
+use mathlib.Core.Bool.{_||_}
 use mathlib.Core.List.{List, _∷_, _++_}
 use Prim.Native.Nat.{ℕ, _+_, _<_}
+use lib.Dec.{eqb}
 use lib.ListN.{length, drop}
 use Rattle.geometry.specs.declared.Geometry.{Geometry}
 use Rattle.geometry.specs.Geometry.{controlSize}
@@ -9,6 +11,7 @@ use Rattle.packet.specs.Packet.{good, View}
 use Rattle.rules.specs.declared.Entry.{Entry}
 use Rattle.rules.specs.Result.{Res, ok, err}
 use Rattle.rules.specs.Chain.{Views, Link}
+use Rattle.rules.specs.Names.{attribute}
 use Rattle.rules.specs.Tree.{Label, Items, fileEntry, directoryEntry, Token, newPage, entry, entryTokens, tokens}
 use Rattle.rules.specs.Paths.{namesIn, Found, nothing, aFile, aDirectory, find, Place, directoryAt}
 use Rattle.rules.specs.Put.{replace}
@@ -21,8 +24,13 @@ use Rattle.lookup.specs.declared.Spot.{Spot}
 use Rattle.lookup.specs.declared.Spot.the-variants as spot
 use Rattle.lookup.specs.declared.Search.{Search}
 use Rattle.lookup.specs.declared.Search.the-variants as search
+use Rattle.lookup.specs.declared.Reached.{Reached}
 use Rattle.lookup.specs.declared.Resolved.{Resolved}
 use Rattle.lookup.specs.declared.Resolved.the-variants as resolved
+
+-- one name on: the subdirectory of the entry e, hidden if its top bit is set or one above it is
+abbrev pub entered : Reached → ℕ → Entry → Reached
+entered from name e = record { start = e .start; name = name; hidden = from .hidden || eqb (attribute (e .extension)) 1 }
 
 -- the entry of what was found
 abbrev pub entryOf : Found → Search
@@ -72,10 +80,16 @@ module _ (g : Geometry) (vs : Views) where
   abbrev pub Finds : ℕ → ℕ → Search → Type 0
   Finds start k r = (t : Items) → TreeAt g vs start t → r ≡ entryOf (find k t)
 
+  -- a place of the rule's as the code tells it
+  pub record IsReached (p : Place) (r : Reached) : Type 0 where
+    pub here-is : p .here ≡ record { name = r .name; start = r .start }
+    pub hidden-is : p .hidden ≡ r .hidden
+    pub tree : TreeAt g vs (r .start) (p .items)
+
   -- the directory told is the rule's; absent is 15
   abbrev pub Leads : Res Place → Resolved → Type 0
-  Leads rule (resolved.Directory s) = (place : Place) × (rule ≡ ok place) × TreeAt g vs s (place .items)
+  Leads rule (resolved.Directory r) = (place : Place) × (rule ≡ ok place) × IsReached place r
   Leads rule resolved.Absent = rule ≡ err 15 0
 
-  abbrev pub Resolves : ℕ → List ℕ → ℕ → ℕ → Resolved → Type 0
-  Resolves start path at names r = (p : Place) → TreeAt g vs start (p .items) → Leads (directoryAt (namesIn names (drop at path)) p) r
+  abbrev pub Resolves : Reached → List ℕ → ℕ → ℕ → Resolved → Type 0
+  Resolves from path at names r = (p : Place) → IsReached p from → Leads (directoryAt (namesIn names (drop at path)) p) r

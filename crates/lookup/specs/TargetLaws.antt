@@ -15,13 +15,14 @@ use Rattle.rules.specs.Check.{check}
 use Rattle.rules.specs.Paths.{aFile}
 use Rattle.rules.specs.Put.{writable}
 use Rattle.entries.specs.declared.Slot.{Slot}
+use Rattle.lookup.specs.declared.Reached.{Reached}
 use Rattle.lookup.specs.declared.PathLookup.{PathLookup}
 use Rattle.lookup.specs.Targets.{FileAt, AtPath, Looks}
 
 pub looks-as : (g : Geometry) (vs : Views) (path : List ℕ) (i : Image) (r : PathLookup) → Looks g vs path r → check g vs ≡ ok i → (x : PathLookup) → r ≡ x → AtPath g vs path i x
 looks-as g vs path i r h accepted x e = subst (AtPath g vs path i) e (h i accepted)
 
-module _ {g : Geometry} {vs : Views} {path : List ℕ} {i : Image} {s : Slot} {m : ℕ} {e : Entry} (there : FileAt g vs path i s m e) where
+module _ {g : Geometry} {vs : Views} {path : List ℕ} {i : Image} {d : Reached} {s : Slot} {m : ℕ} {e : Entry} (there : FileAt g vs path i d s m e) where
   pub same-extension : e .extension ≡ there .label .extension
   same-extension = ap (λ (x : Entry). x .extension) (there .entry-is)
 

@@ -11,24 +11,26 @@ use Rattle.rules.specs.Check.{check}
 use Rattle.rules.specs.Paths.{fileKey, nothing, aFile, find, Target, targetOf}
 use Rattle.chain.specs.KnownChain.{ChainAt}
 use Rattle.entries.specs.declared.Slot.{Slot}
+use Rattle.lookup.specs.declared.Reached.{Reached}
 use Rattle.lookup.specs.declared.PathLookup.{PathLookup}
 use Rattle.lookup.specs.declared.PathLookup.the-variants as lookup
-use Rattle.lookup.specs.Searches.{TreeAt, PlaceOf}
+use Rattle.lookup.specs.Searches.{IsReached, PlaceOf}
 
 module _ (g : Geometry) (vs : Views) (path : List ℕ) (i : Image) where
-  -- its directory, from page `start` on, does not have the file
-  pub record FileAbsent (start name extension : ℕ) : Type 0 where
+  -- its directory does not have the file
+  pub record FileAbsent (d : Reached) (name extension : ℕ) : Type 0 where
     pub target : Target
     pub reached : targetOf path (i .tree) ≡ ok target
     pub name-is : target .to .name ≡ name
     pub extension-is : target .to .extension ≡ extension
-    pub tree : TreeAt g vs start (target .place .items)
+    pub directory : IsReached g vs (target .place) d
     pub absent : find (fileKey (target .to)) (target .place .items) ≡ nothing
 
-  -- the file's entry e at the place s, so many stamps right before it, and its chain
-  pub record FileAt (s : Slot) (stamped : ℕ) (e : Entry) : Type 0 where
+  -- its directory, the file's entry e at the place s, so many stamps right before it, and its chain
+  pub record FileAt (d : Reached) (s : Slot) (stamped : ℕ) (e : Entry) : Type 0 where
     pub target : Target
     pub reached : targetOf path (i .tree) ≡ ok target
+    pub directory : IsReached g vs (target .place) d
     pub label : Label
     pub links : List Link
     pub found : find (fileKey (target .to)) (target .place .items) ≡ aFile label links
@@ -40,8 +42,8 @@ module _ (g : Geometry) (vs : Views) (path : List ℕ) (i : Image) where
   abbrev pub AtPath : PathLookup → Type 0
   AtPath lookup.Malformed = targetOf path (i .tree) ≡ err 14 0
   AtPath lookup.Nowhere = targetOf path (i .tree) ≡ err 15 0
-  AtPath (lookup.Absent start name extension) = FileAbsent start name extension
-  AtPath (lookup.At s m e) = FileAt s m e
+  AtPath (lookup.Absent d name extension) = FileAbsent d name extension
+  AtPath (lookup.At d s m e) = FileAt d s m e
 
 -- for whatever reading is accepted
 abbrev pub Looks : Geometry → Views → List ℕ → PathLookup → Type 0

@@ -4,18 +4,21 @@ pub mod space;
 
 use crate::path::Parsed;
 use directory::entries::Item;
+use directory::extensions::extension_of;
 use entries::Next;
 use entries::Slot;
 use geometry::DIRECTORY;
 use geometry::Geometry;
 use geometry::NAME_BYTES;
+use geometry::ROOT;
 use rules::Entry;
+ghost use mathlib.Core.Path.{_≡_};
 ghost use Prim.Native.Nat.{_+_, _*_, _≤_};
 ghost use lib.ListN.{length};
 ghost use Rattle.geometry.specs.Geometry.{Fit};
 ghost use Rattle.rules.specs.Chain.{viewsOf};
 ghost use Rattle.listing.specs.KnownTree.{HasImage};
-ghost use Rattle.lookup.specs.Searches.{HasTree, Places, Finds, Resolves};
+ghost use Rattle.lookup.specs.Searches.{HasTree, Places, Finds, entered, Resolves};
 ghost use Rattle.lookup.specs.Targets.{Looks};
 
 // The entry that was looked for: its place, how many stamps stand right before it, and itself.
@@ -30,9 +33,16 @@ pub enum Search {
     Absent,
 }
 
-// The start page of the directory that was looked for.
+// A directory that the names of a path lead to: its start page, its name as those below it give it, and whether it or one on the way to it is hidden.
+pub struct Reached {
+    pub start: usize,
+    pub name: u32,
+    pub hidden: bool,
+}
+
+// The directory that was looked for.
 pub enum Resolved {
-    Directory(usize),
+    Directory(Reached),
     Absent,
 }
 
@@ -42,10 +52,10 @@ pub enum PathLookup {
     Malformed,
     // one of its directories is absent: 15
     Nowhere,
-    // the file is absent: its directory's start page, its name and extension
-    Absent(usize, u32, u8),
-    // the place of the file's entry, how many stamps stand right before it, and itself
-    At(Slot, usize, Entry),
+    // the file is absent: its directory, its name and extension
+    Absent(Reached, u32, u8),
+    // the file's directory, the place of its entry, how many stamps stand right before it, and itself
+    At(Reached, Slot, usize, Entry),
 }
 
 // The place of a directory's entry with this key.
@@ -84,26 +94,44 @@ pub fn find_entry(image: &[u8], g: Geometry, start: usize, key: u64) -> Search
     }
 }
 
-// The directory that so many names of a path lead to, the first of them at a place of the path, from the directory at `start` on.
+// One name on: the subdirectory of an entry, hidden if its top bit is set or if a directory above it is hidden.
+fn step_down(from: Reached, name: u32, e: Entry) -> Reached
+    ensures { λ r. ⌜ r ≡ entered from name e ⌝ }
+{
+    let mut hidden = from.hidden;
+    if extension_of(e.extension).attribute == 1 {
+        hidden = true;
+    }
+    Reached {
+        start: e.start,
+        name,
+        hidden,
+    }
+}
+
+// The directory that so many names of a path lead to, the first of them at a place of the path, from a directory on.
 pub fn resolve(
     image: &[u8],
     g: Geometry,
-    start: usize,
+    from: Reached,
     path: &[u8],
     at: usize,
     names: usize,
 ) -> Resolved
     requires { ⌜ Fit g (now image) ⌝ }
-    requires { ⌜ HasTree g (viewsOf g (now image)) start × (at + 4 * names ≤ length (now path)) ⌝ }
-    ensures { λ r. ⌜ Resolves g (viewsOf g (now (image .entry))) start (now (path .entry)) at names r ⌝ }
+    requires { ⌜ HasTree g (viewsOf g (now image)) (from .start) × (at + 4 * names ≤ length (now path)) ⌝ }
+    ensures { λ r. ⌜ Resolves g (viewsOf g (now (image .entry))) from (now (path .entry)) at names r ⌝ }
 {
     if names == 0 {
-        return Resolved::Directory(start);
+        return Resolved::Directory(from);
     }
-    let name = geometry::number_at(path, at, NAME_BYTES);
-    match find_entry(image, g, start, entries::key_of(name as u32, DIRECTORY)) {
+    let name = geometry::number_at(path, at, NAME_BYTES) as u32;
+    match find_entry(image, g, from.start, entries::key_of(name, DIRECTORY)) {
         Search::Absent => Resolved::Absent,
-        Search::Found(e) => resolve(image, g, e.start, path, at + NAME_BYTES, names - 1),
+        Search::Found(e) => {
+            let below = step_down(from, name, e);
+            resolve(image, g, below, path, at + NAME_BYTES, names - 1)
+        }
     }
 }
 
@@ -113,15 +141,20 @@ pub fn find_file(image: &[u8], g: Geometry, path: &[u8]) -> PathLookup
     requires { ⌜ HasImage g (viewsOf g (now image)) ⌝ }
     ensures { λ r. ⌜ Looks g (viewsOf g (now (image .entry))) (now (path .entry)) r ⌝ }
 {
+    let root = Reached {
+        start: 0,
+        name: ROOT,
+        hidden: false,
+    };
     match crate::path::parse(path) {
         Parsed::Malformed => PathLookup::Malformed,
-        Parsed::Path(names, name, extension) => match resolve(image, g, 0, path, 0, names) {
+        Parsed::Path(names, name, extension) => match resolve(image, g, root, path, 0, names) {
             Resolved::Absent => PathLookup::Nowhere,
-            Resolved::Directory(start) => {
+            Resolved::Directory(d) => {
                 let key = entries::key_of(name, extension);
-                match find_place(image, g, start, key) {
-                    Spot::Absent => PathLookup::Absent(start, name, extension),
-                    Spot::At(slot, stamps, e) => PathLookup::At(slot, stamps, e),
+                match find_place(image, g, d.start, key) {
+                    Spot::Absent => PathLookup::Absent(d, name, extension),
+                    Spot::At(slot, stamps, e) => PathLookup::At(d, slot, stamps, e),
                 }
             }
         },

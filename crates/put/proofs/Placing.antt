@@ -1,5 +1,6 @@
 -- Where a file's entry goes: to the first page with space or a page that joins, or to the place of the file it replaces.
 use mathlib.Core.Path.{_≡_, refl, ap, ap₂, sym, _∙_, subst}
+use mathlib.Core.Bool.{true, false}
 use mathlib.Core.List.{List, [], _∷_, _++_}
 use Prim.Native.Nat.{ℕ, _+_, _≤_, _<_}
 use native.Mathlib.Omega.{arith}
@@ -17,11 +18,12 @@ use Rattle.rules.specs.Paths.{Path, fileKey, fileLabel, Found, nothing, find, t
 use Rattle.rules.specs.Put.{writable, putTarget}
 use Rattle.rules.specs.Candidate.{chainPages}
 use Rattle.rules.specs.EditLaws.{none-found, found-file}
-use Rattle.rules.specs.TargetLaws.{reached, put-target-none, put-target-is, put-target-kept}
+use Rattle.rules.specs.TargetLaws.{reached, put-target-none, put-target-hidden, put-target-is, put-target-kept}
 use Rattle.editing_theorems.specs.FormedPaths.{formed}
 use Rattle.editing_theorems.specs.PutDirectory.{extra-old, extra-new, after-old, after-new, SameName, same-name}
 use Rattle.chain.specs.KnownChain.{ChainAt}
 use Rattle.entries.specs.declared.Slot.{Slot}
+use Rattle.lookup.specs.declared.Reached.{Reached}
 use Rattle.lookup.specs.declared.PathLookup.{PathLookup}
 use Rattle.lookup.specs.declared.PathLookup.the-variants as lookup
 use Rattle.lookup.specs.Searches.{TreeAt, HasTree}
@@ -91,8 +93,9 @@ chain-inside g v start [] c = absurd (omega (arith, c .some))
 chain-inside g v start (link p b ∷ ls) c = omega (arith, c .begins, c .within p (omega (arith, hit-same p)))
 
 -- ---- a file that is there
-module _ (g : Geometry) (image path : List ℕ) (i : Image) (s : Slot) (m : ℕ) (e : Entry) (there : FileAt g (viewsOf g image) path i s m e) (h : e .extension ≤ 127) where
-  open FileAt there using (target, label, links, found, entry-is, chain, at)
+module _ (g : Geometry) (image path : List ℕ) (i : Image) (r : Reached) (s : Slot) (m : ℕ) (e : Entry) (there : FileAt g (viewsOf g image) path i r s m e)
+    (seen : r .hidden ≡ false) (h : e .extension ≤ 127) where
+  open FileAt there using (target, directory, label, links, found, entry-is, chain, at)
 
   abbrev items : Items
   items = target .place .items
@@ -114,7 +117,7 @@ module _ (g : Geometry) (image path : List ℕ) (i : Image) (s : Slot) (m : ℕ)
   pub over : FilePlace g image path i (record { name = e .name; extension = e .extension; replaces = e .start; slot = s; first = s .at; last = s .at + 1; extra = 0 })
   over = record {
     target = target;
-    reached = put-target-is path (i .tree) target (there .reached) (ap writable found ∙ is-writable there h);
+    reached = put-target-is path (i .tree) target (there .reached) (directory .hidden-is ∙ seen) (ap writable found ∙ is-writable there h);
     at = record {
       name-is = sym (same .name-is) ∙ sym (ap (λ (x : Entry). x .name) entry-is);
       extension-is = sym (same .extension-is) ∙ sym (ap (λ (x : Entry). x .extension) entry-is);
@@ -149,35 +152,43 @@ module _ (g : Geometry) (image path : List ℕ) (r : PathLookup) (look : Looks g
   pub nowhere : r ≡ lookup.Nowhere → IsPlaced g image path i (placed.Refused 15 0)
   nowhere e = put-target-none path (i .tree) 15 0 (looks-as g vs path i r look accepted lookup.Nowhere e)
 
-  module _ {start name extension : ℕ} (e : r ≡ lookup.Absent start name extension) where
-    gap : FileAbsent g (viewsOf g image) path i start name extension
-    gap = looks-as g vs path i r look accepted (lookup.Absent start name extension) e
+  module _ {d : Reached} {name extension : ℕ} (e : r ≡ lookup.Absent d name extension) where
+    gap : FileAbsent g (viewsOf g image) path i d name extension
+    gap = looks-as g vs path i r look accepted (lookup.Absent d name extension) e
 
-    pub has-tree : HasTree g (viewsOf g image) start
-    has-tree = record { tree = gap .target .place .items; at = gap .tree }
+    pub has-tree : HasTree g (viewsOf g image) (d .start)
+    has-tree = record { tree = gap .target .place .items; at = gap .directory .tree }
+
+    pub new-hidden : d .hidden ≡ true → IsPlaced g image path i (placed.Refused 22 0)
+    new-hidden h = put-target-hidden path (i .tree) (gap .target) (gap .reached) (gap .directory .hidden-is ∙ h)
 
     may-write : writable nothing ≡ ok tt
     unfolding writable
     may-write = refl
 
-    pub new-place : (f : NewFile) → NewEntryIs g image start name extension f → IsPlaced g image path i (placed.At f)
-    new-place f n = record {
+    pub new-place : d .hidden ≡ false → (f : NewFile) → NewEntryIs g image (d .start) name extension f → IsPlaced g image path i (placed.At f)
+    new-place h f n = record {
       target = gap .target;
-      reached = put-target-is path (i .tree) (gap .target) (gap .reached) (ap writable (gap .absent) ∙ may-write);
-      at = n .at (gap .target .to) (gap .target .place .items) (gap .name-is) (gap .extension-is) (gap .tree) (gap .absent);
+      reached = put-target-is path (i .tree) (gap .target) (gap .reached) (gap .directory .hidden-is ∙ h) (ap writable (gap .absent) ∙ may-write);
+      at = n .at (gap .target .to) (gap .target .place .items) (gap .name-is) (gap .extension-is) (gap .directory .tree) (gap .absent);
       old = rw (gap .absent) (record { chain = λ z. absurd (omega (arith, z, n .fresh)); none = λ _. refl });
       pages-are = rw (gap .absent) refl;
     }
 
-  module _ (s : Slot) (stamps : ℕ) (e : Entry) (q : r ≡ lookup.At s stamps e) where
-    there : FileAt g (viewsOf g image) path i s stamps e
-    there = looks-as g vs path i r look accepted (lookup.At s stamps e) q
+  module _ (d : Reached) (s : Slot) (stamps : ℕ) (e : Entry) (q : r ≡ lookup.At d s stamps e) where
+    there : FileAt g (viewsOf g image) path i d s stamps e
+    there = looks-as g vs path i r look accepted (lookup.At d s stamps e) q
 
-    pub read-only : 127 < e .extension → IsPlaced g image path i (placed.Refused 16 0)
-    read-only h = put-target-kept path (i .tree) (there .target) (there .reached) 16 0 (ap writable (there .found) ∙ not-writable there h)
-
-    pub old-place : e .extension ≤ 127 → IsPlaced g image path i (placed.At (record { name = e .name; extension = e .extension; replaces = e .start; slot = s; first = s .at; last = s .at + 1; extra = 0 }))
-    old-place h = over g image path i s stamps e there h
+    pub old-hidden : d .hidden ≡ true → IsPlaced g image path i (placed.Refused 22 0)
+    old-hidden h = put-target-hidden path (i .tree) (there .target) (there .reached) (there .directory .hidden-is ∙ h)
 
     pub under : s .at < s .count
     under = there .at .under
+
+    module _ (seen : d .hidden ≡ false) where
+      pub read-only : 127 < e .extension → IsPlaced g image path i (placed.Refused 16 0)
+      read-only h = put-target-kept path (i .tree) (there .target) (there .reached) (there .directory .hidden-is ∙ seen) 16 0 (ap writable (there .found) ∙ not-writable there h)
+
+      pub old-place : e .extension ≤ 127
+          → IsPlaced g image path i (placed.At (record { name = e .name; extension = e .extension; replaces = e .start; slot = s; first = s .at; last = s .at + 1; extra = 0 }))
+      old-place h = over g image path i d s stamps e there seen h

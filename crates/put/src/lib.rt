@@ -30,7 +30,7 @@ ghost use Rattle.put.specs.Places.{NewEntryIs, Places, PathPut};
 // Where the file of a path goes.
 pub enum Placed {
     At(NewFile),
-    // 14, 15, 16
+    // 14, 15, 22, 16
     Refused(u8, usize),
 }
 
@@ -72,9 +72,15 @@ pub fn place_file(image: &[u8], g: Geometry, path: &[u8]) -> Placed
         PathLookup::Malformed => Placed::Refused(14, 0),
         PathLookup::Nowhere => Placed::Refused(15, 0),
         PathLookup::Absent(directory, name, extension) => {
-            Placed::At(new_entry(image, g, directory, name, extension))
+            if directory.hidden {
+                return Placed::Refused(22, 0);
+            }
+            Placed::At(new_entry(image, g, directory.start, name, extension))
         }
-        PathLookup::At(slot, _, e) => {
+        PathLookup::At(holder, slot, _, e) => {
+            if holder.hidden {
+                return Placed::Refused(22, 0);
+            }
             if extension_of(e.extension).attribute != 0 {
                 return Placed::Refused(16, 0);
             }
@@ -91,7 +97,7 @@ pub fn place_file(image: &[u8], g: Geometry, path: &[u8]) -> Placed
     }
 }
 
-// Puts bytes at a path within a budget. The table has the owners of the image's pages; a chain that is replaced counts as free. 14, 15, 16, 17.
+// Puts bytes at a path within a budget. The table has the owners of the image's pages; a chain that is replaced counts as free. 14, 15, 22, 16, 17.
 fn put_path(
     image: &mut [u8],
     g: Geometry,

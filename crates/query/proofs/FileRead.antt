@@ -14,6 +14,7 @@ use Rattle.rules.specs.Check.{check}
 use Rattle.rules.specs.Paths.{fileKey, Found, nothing, aFile, find, Target, targetOf}
 use Rattle.rules.specs.Calls.{bytesOf, fileAt, readBytes, lengthOf, filled}
 use Rattle.entries.specs.declared.Slot.{Slot}
+use Rattle.lookup.specs.declared.Reached.{Reached}
 use Rattle.lookup.specs.declared.PathLookup.{PathLookup}
 use Rattle.lookup.specs.declared.PathLookup.the-variants as lookup
 use Rattle.lookup.specs.Targets.{FileAbsent, FileAt, Looks}
@@ -53,17 +54,17 @@ module _ (g : Geometry) (vs : Views) (path out : List ℕ) (r : PathLookup) (h :
   unfolding fileAt
   found x a f e = simp (a, then-ok, e)
 
-  pub absent : (start name extension : ℕ) → r ≡ lookup.Absent start name extension → Gives out (readBytes path out i) (length′.Refused 15 0) out
-  absent start name extension e =
-      let m : FileAbsent g vs path i start name extension = looks-as g vs path i r h accepted (lookup.Absent start name extension) e in
+  pub absent : (d : Reached) (name extension : ℕ) → r ≡ lookup.Absent d name extension → Gives out (readBytes path out i) (length′.Refused 15 0) out
+  absent d name extension e =
+      let m : FileAbsent g vs path i d name extension = looks-as g vs path i r h accepted (lookup.Absent d name extension) e in
       refused 15 0 (found (m .target) (m .reached) nothing (m .absent) ∙ gone)
     where
       gone : bytesOf nothing ≡ err 15 0
       gone = unfold bytesOf in refl
 
-  module _ (s : Slot) (stamps : ℕ) (e : Entry) (q : r ≡ lookup.At s stamps e) where
-    pub there : FileAt g vs path i s stamps e
-    there = looks-as g vs path i r h accepted (lookup.At s stamps e) q
+  module _ (d : Reached) (s : Slot) (stamps : ℕ) (e : Entry) (q : r ≡ lookup.At d s stamps e) where
+    pub there : FileAt g vs path i d s stamps e
+    there = looks-as g vs path i r h accepted (lookup.At d s stamps e) q
 
     fits-file : readBytes path out i ≡ fitting out (content (there .links))
     unfolding readBytes fitting bytesOf

@@ -74,7 +74,7 @@ fn read_path(image: &[u8], g: Geometry, path: &[u8], out: &mut [u8]) -> Length
         PathLookup::Malformed => Length::Refused(14, 0),
         PathLookup::Nowhere => Length::Refused(15, 0),
         PathLookup::Absent(_, _, _) => Length::Refused(15, 0),
-        PathLookup::At(_, _, e) => read_chain(image, g, e.start, out),
+        PathLookup::At(_, _, _, e) => read_chain(image, g, e.start, out),
     }
 }
 

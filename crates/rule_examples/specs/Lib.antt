@@ -4,3 +4,4 @@ pub mod KeptBytes
 pub mod CarefulOrder
 pub mod OwnerRecords
 pub mod OwnerStamps
+pub mod HiddenDirectories

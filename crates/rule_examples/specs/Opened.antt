@@ -14,7 +14,7 @@ use Rattle.rules.specs.Bitmap.{bitAt, lowestDifference, bitmapFrom}
 use Rattle.rules.specs.Check.{judgeBits, followed, judgeLabel, judgeFile, judgeEntry, judgeEntries, judgeDirectory, judgeSub, judgeMapFile, judgeMap, scanWith, scan, check}
 use Rattle.rules.specs.Owners.{recordBytes, tableWith, tableAfter}
 use Rattle.rules.specs.Listing.{lineAt}
-use Rattle.rules.specs.Paths.{pathOf, directoryAt, targetOf}
+use Rattle.rules.specs.Paths.{pathOf, directoryAt, targetOf, shown}
 use Rattle.rules.specs.Writes.{edited, editWrites}
 use Rattle.rules.specs.Format.{emptyImage, formatWrites, format}
 use Rattle.rules.specs.Put.{writable, putTarget, keptPages, extraPages, itemsAfter, putEdit, plainEdit, put}
@@ -26,6 +26,6 @@ unfolding flipBit bitStep bitSteps byteStep crc16 choose widthFor right geometry
     checkOf pointerOf isPacket packetOf viewOf packetBytes written writePage afterWrites unchanged made andThen refuse-unless hit freePages packetAt anyPage walk
     nameByte validName fileNumber directoryNumber extended width marker rootControl subControl headOf wholeEntries rootPage subPage bitAt lowestDifference bitmapFrom
     judgeBits followed judgeLabel judgeFile judgeEntry judgeEntries judgeDirectory judgeSub judgeMapFile judgeMap scanWith scan check recordBytes tableWith tableAfter lineAt
-    pathOf directoryAt targetOf edited editWrites emptyImage formatWrites format writable putTarget keptPages extraPages itemsAfter putEdit plainEdit put
+    pathOf directoryAt targetOf shown edited editWrites emptyImage formatWrites format writable putTarget keptPages extraPages itemsAfter putEdit plainEdit put
     present deleteTarget deleteEdit delete haltedAt bothMarked carefulWrites carefulPut carefulDelete allMendable unowned mendWrites mend
 rules = tt

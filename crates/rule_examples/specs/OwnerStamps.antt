@@ -29,7 +29,7 @@ abbrev demo : List ℕ
 demo = DEMO ++ (1 ∷ 1 ∷ [])
 
 -- the path of LOAD.0, and its entry with one page from page p on
-abbrev LOAD : List ℕ
+abbrev pub LOAD : List ℕ
 LOAD = 0x4C ∷ 0x4F ∷ 0x41 ∷ 0x44 ∷ 0 ∷ []
 
 abbrev load : ℕ → List ℕ

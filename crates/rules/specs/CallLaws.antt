@@ -8,9 +8,9 @@ use Rattle.geometry.specs.declared.Geometry.{Geometry}
 use Rattle.geometry.specs.declared.Shape.{Shape}
 use Rattle.geometry.specs.declared.Shape.the-variants.{Fits, Invalid}
 use Rattle.rules.specs.Result.{Res, ok, err, andThen}
-use Rattle.rules.specs.ResultLaws.{clash}
+use Rattle.rules.specs.ResultLaws.{clash, on-refused}
 use Rattle.rules.specs.Chain.{viewsOf}
-use Rattle.rules.specs.RefusalLaws.{Refuses, refuses-ok, refuses-then, refuses-test, refuses-within, target-faults, writable-faults, present-faults, bytes-faults}
+use Rattle.rules.specs.RefusalLaws.{Refuses, refuses-ok, refuses-then, refuses-test, refuses-within, target-faults, shown-faults, writable-faults, present-faults, bytes-faults}
 use Rattle.rules.specs.FuelLaws.{check-faults}
 use Rattle.rules.specs.Tree.{Items, Image}
 use Rattle.rules.specs.Check.{check}
@@ -96,31 +96,41 @@ read-faults path out i =
     refuses-then _ _ (refuses-then _ _ (refuses-within 14 18 1 (omega arith) (omega arith) (omega arith) (target-faults path (i .tree))) λ x _.
     refuses-within 14 18 1 (omega arith) (omega arith) (omega arith) (bytes-faults _)) λ bytes _. refuses-test _ 18 _ _ tt (omega arith) refuses-ok
 
-pub put-target-faults : (path : List ℕ) (t : Items) → Refuses 14 16 1 (putTarget path t)
+pub put-target-faults : (path : List ℕ) (t : Items) → Refuses 14 22 1 (putTarget path t)
 unfolding putTarget
 put-target-faults path t =
-    refuses-then _ _ (refuses-within 14 16 1 (omega arith) (omega arith) (omega arith) (target-faults path t)) λ x _.
-    refuses-then _ _ (refuses-within 14 16 1 (omega arith) (omega arith) (omega arith) (writable-faults _)) λ _ _. refuses-ok
+    refuses-then _ _ (refuses-within 14 22 1 (omega arith) (omega arith) (omega arith) (target-faults path t)) λ x _.
+    refuses-then _ _ (refuses-within 14 22 1 (omega arith) (omega arith) (omega arith) (shown-faults _)) λ _ _.
+    refuses-then _ _ (refuses-within 14 22 1 (omega arith) (omega arith) (omega arith) (writable-faults _)) λ _ _. refuses-ok
 
-pub delete-target-faults : (path : List ℕ) (t : Items) → Refuses 14 16 1 (deleteTarget path t)
+-- none of them is for room
+pub put-target-room : {C : Type 0} (path : List ℕ) (t : Items) (p : ℕ) → putTarget path t ≡ err 17 p → C
+unfolding putTarget
+put-target-room path t p e =
+    on-refused _ _ _ _ e (λ f. absurd (omega (arith, target-faults path t .number 17 p f .1))) λ x _ e.
+    on-refused _ _ _ _ e (λ f. absurd (omega (arith, shown-faults (x .place) .number 17 p f .0))) λ _ _ e.
+    on-refused _ _ _ _ e (λ f. absurd (omega (arith, writable-faults _ .number 17 p f .1))) λ _ _ e. clash (sym e)
+
+pub delete-target-faults : (path : List ℕ) (t : Items) → Refuses 14 22 1 (deleteTarget path t)
 unfolding deleteTarget
 delete-target-faults path t =
-    refuses-then _ _ (refuses-within 14 16 1 (omega arith) (omega arith) (omega arith) (target-faults path t)) λ x _.
-    refuses-then _ _ (refuses-within 14 16 1 (omega arith) (omega arith) (omega arith) (present-faults _)) λ _ _.
-    refuses-then _ _ (refuses-within 14 16 1 (omega arith) (omega arith) (omega arith) (writable-faults _)) λ _ _. refuses-ok
+    refuses-then _ _ (refuses-within 14 22 1 (omega arith) (omega arith) (omega arith) (target-faults path t)) λ x _.
+    refuses-then _ _ (refuses-within 14 22 1 (omega arith) (omega arith) (omega arith) (present-faults _)) λ _ _.
+    refuses-then _ _ (refuses-within 14 22 1 (omega arith) (omega arith) (omega arith) (shown-faults _)) λ _ _.
+    refuses-then _ _ (refuses-within 14 22 1 (omega arith) (omega arith) (omega arith) (writable-faults _)) λ _ _. refuses-ok
 
 module _ (g : Geometry) (some : 0 < g .pages) (path image : List ℕ) where
-  pub put-faults : (bytes : List ℕ) → Refuses 2 17 (g .pages + 33) (put g path bytes image)
+  pub put-faults : (bytes : List ℕ) → Refuses 2 22 (g .pages + 33) (put g path bytes image)
   unfolding put putEdit
   put-faults bytes =
       let m = g .pages + 33 in
-      refuses-then _ _ (refuses-within 2 17 m (omega arith) (omega arith) (omega arith) (check-faults g (viewsOf g image) some)) λ i _.
-      refuses-then _ _ (refuses-within 2 17 m (omega arith) (omega arith) (omega arith) (put-target-faults path (i .tree))) λ x _.
+      refuses-then _ _ (refuses-within 2 22 m (omega arith) (omega arith) (omega arith) (check-faults g (viewsOf g image) some)) λ i _.
+      refuses-then _ _ (refuses-within 2 22 m (omega arith) (omega arith) (omega arith) (put-target-faults path (i .tree))) λ x _.
       refuses-then _ _ (refuses-test _ 17 _ _ tt (omega arith) refuses-ok) λ e _. refuses-ok
 
-  pub delete-faults : Refuses 2 16 (g .pages + 33) (delete g path image)
+  pub delete-faults : Refuses 2 22 (g .pages + 33) (delete g path image)
   unfolding delete
   delete-faults =
       let m = g .pages + 33 in
-      refuses-then _ _ (refuses-within 2 16 m (omega arith) (omega arith) (omega arith) (check-faults g (viewsOf g image) some)) λ i _.
-      refuses-then _ _ (refuses-within 2 16 m (omega arith) (omega arith) (omega arith) (delete-target-faults path (i .tree))) λ x _. refuses-ok
+      refuses-then _ _ (refuses-within 2 22 m (omega arith) (omega arith) (omega arith) (check-faults g (viewsOf g image) some)) λ i _.
+      refuses-then _ _ (refuses-within 2 22 m (omega arith) (omega arith) (omega arith) (delete-target-faults path (i .tree))) λ x _. refuses-ok

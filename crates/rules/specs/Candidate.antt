@@ -1,5 +1,6 @@
 -- Document 01, "Words of demand 3", over byte images.
 use mathlib.Core.Path.{_≡_}
+use mathlib.Core.Bool.{false}
 use mathlib.Core.Logic.{_↔_, _⊎_}
 use mathlib.Core.List.{List, [], _∷_, _++_}
 use Prim.Native.Nat.{ℕ, _≤_}
@@ -21,8 +22,8 @@ use Rattle.rules.specs.Paths.{Path, fileKey, directoryKey, Found, nothin
 abbrev pub Accepted : Geometry → List ℕ → Image → Type 0
 Accepted g image i = check g (viewsOf g image) ≡ ok i
 
--- nothing but room could refuse a call that puts something at the path asked for: owner table long enough, path well formed, its directories there,
--- and what stands at the path allowed
+-- nothing but room could refuse a call that puts something at the path asked for: owner table long enough, path well formed, its directories there
+-- and none of them hidden (document 02, A6), and what stands at the path allowed
 pub record OnlyRoom (P N : ℕ) (image table : List ℕ) (asked : Res Path) (Allowed : Found → Type 0) : Type 0 where
   pub geometry : Geometry
   pub right : geometryOf P N (length image) (length table) ≡ Fits geometry
@@ -32,6 +33,7 @@ pub record OnlyRoom (P N : ℕ) (image table : List ℕ) (asked : Res Path) (All
   pub formed : asked ≡ ok to
   pub place : Place
   pub there : directoryAt (to .directories) (rootPlace (tree .tree)) ≡ ok place
+  pub shown : place .hidden ≡ false
   pub allowed : Allowed (find (fileKey to) (place .items))
 
 -- for a put: the file absent or not read-only

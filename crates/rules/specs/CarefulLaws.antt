@@ -20,20 +20,20 @@ use Rattle.rules.specs.Calls.{Effect}
 use Rattle.rules.specs.Careful.{haltedAt, carefulPut, carefulDelete, unowned, mend}
 
 module _ (g : Geometry) (some : 0 < g .pages) (k : ℕ) (path image : List ℕ) where
-  pub careful-put-faults : (bytes : List ℕ) → Refuses 2 17 (g .pages + 33) (carefulPut g k path bytes image)
+  pub careful-put-faults : (bytes : List ℕ) → Refuses 2 22 (g .pages + 33) (carefulPut g k path bytes image)
   unfolding carefulPut putEdit
   careful-put-faults bytes =
       let m = g .pages + 33 in
-      refuses-then _ _ (refuses-within 2 17 m (omega arith) (omega arith) (omega arith) (check-faults g (viewsOf g image) some)) λ i _.
-      refuses-then _ _ (refuses-within 2 17 m (omega arith) (omega arith) (omega arith) (put-target-faults path (i .tree))) λ x _.
+      refuses-then _ _ (refuses-within 2 22 m (omega arith) (omega arith) (omega arith) (check-faults g (viewsOf g image) some)) λ i _.
+      refuses-then _ _ (refuses-within 2 22 m (omega arith) (omega arith) (omega arith) (put-target-faults path (i .tree))) λ x _.
       refuses-then _ _ (refuses-test _ 17 _ _ tt (omega arith) refuses-ok) λ e _. refuses-ok
 
-  pub careful-delete-faults : Refuses 2 16 (g .pages + 33) (carefulDelete g k path image)
+  pub careful-delete-faults : Refuses 2 22 (g .pages + 33) (carefulDelete g k path image)
   unfolding carefulDelete
   careful-delete-faults =
       let m = g .pages + 33 in
-      refuses-then _ _ (refuses-within 2 16 m (omega arith) (omega arith) (omega arith) (check-faults g (viewsOf g image) some)) λ i _.
-      refuses-then _ _ (refuses-within 2 16 m (omega arith) (omega arith) (omega arith) (delete-target-faults path (i .tree))) λ x _. refuses-ok
+      refuses-then _ _ (refuses-within 2 22 m (omega arith) (omega arith) (omega arith) (check-faults g (viewsOf g image) some)) λ i _.
+      refuses-then _ _ (refuses-within 2 22 m (omega arith) (omega arith) (omega arith) (delete-target-faults path (i .tree))) λ x _. refuses-ok
 
 -- ---- no more writes than were allowed
 halted-most : (g : Geometry) (k : ℕ) (ws : List Write) (image : List ℕ) → haltedAt g k ws image .answer .made ≤ k

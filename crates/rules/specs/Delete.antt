@@ -8,7 +8,7 @@ use Rattle.rules.specs.Result.{Res, ok, err, andThen as _>>=_, andAfter 
 use Rattle.rules.specs.Chain.{viewsOf}
 use Rattle.rules.specs.Tree.{keyOf, Items, end, page, file, dir}
 use Rattle.rules.specs.Check.{check}
-use Rattle.rules.specs.Paths.{Path, fileKey, Found, nothing, aFile, aDirectory, find, Place, Target, targetOf}
+use Rattle.rules.specs.Paths.{Path, fileKey, Found, nothing, aFile, aDirectory, find, Place, Target, targetOf, shown}
 use Rattle.rules.specs.Writes.{Edit}
 use Rattle.rules.specs.Put.{writable, plainEdit}
 
@@ -25,11 +25,12 @@ present nothing = err 15 0
 present (aFile l ls) = ok tt
 present (aDirectory l d) = err 15 0
 
--- the target of a delete: 14, 15, then 16
+-- the target of a delete: 14, 15, 22, then 16
 unfoldable pub deleteTarget : List ℕ → Items → Res Target
 deleteTarget path t = do
   x ← targetOf path t
   present (find (fileKey (x .to)) (x .place .items))
+  shown (x .place)
   writable (find (fileKey (x .to)) (x .place .items))
   ok x
 

@@ -1,5 +1,5 @@
 -- Document 01, "Edits": paths, and what stands at one.
-use mathlib.Core.Bool.{Bool, true, false, _&&_, _||_}
+use mathlib.Core.Bool.{Bool, true, false, not, _&&_, _||_}
 use mathlib.Core.List.{List, [], _∷_}
 use Prim.Native.Nat.{ℕ, zero, suc, _-_, _/_, _%_}
 use lib.Dec.{leb, eqb}
@@ -108,6 +108,10 @@ targetOf path t = do
   q ← pathOf path
   d ← directoryAt (q .directories) (rootPlace t)
   ok (record { to = q; place = d })
+
+-- document 02, A6: an edit of a directory that is hidden, or that stands below a hidden one, is 22
+unfoldable pub shown : Place → Res (Unit {0})
+shown p = refuse-unless (not (p .hidden)) 22 0
 
 -- a change of the directory that the names lead to
 abbrev pub changeIn : ℕ → (Items → Items) → Items → Items

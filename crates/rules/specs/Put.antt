@@ -15,7 +15,7 @@ use Rattle.rules.specs.Tree.{Label, keyOf, width, Items, end, page, file
 use Rattle.rules.specs.Names.{attribute}
 use Rattle.rules.specs.Bitmap.{bitmapOf}
 use Rattle.rules.specs.Check.{check}
-use Rattle.rules.specs.Paths.{Path, fileKey, fileLabel, Found, nothing, aFile, aDirectory, find, Place, Target, targetOf, changeAt}
+use Rattle.rules.specs.Paths.{Path, fileKey, fileLabel, Found, nothing, aFile, aDirectory, find, Place, Target, targetOf, shown, changeAt}
 use Rattle.rules.specs.Writes.{Edit, edited, editWrites}
 
 -- a new entry, put in front by `new`, goes to the end of the first directory page with space, in chain order: `room` slots are free on this page,
@@ -50,10 +50,11 @@ writable nothing = ok tt
 writable (aFile l ls) = refuse-unless (eqb (attribute (l .extension)) 0) 16 0
 writable (aDirectory l d) = ok tt
 
--- the target of a put: 14, 15, then 16
+-- the target of a put: 14, 15, 22, then 16
 unfoldable pub putTarget : List ℕ → Items → Res Target
 putTarget path t = do
   x ← targetOf path t
+  shown (x .place)
   writable (find (fileKey (x .to)) (x .place .items))
   ok x
 

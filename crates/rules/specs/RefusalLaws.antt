@@ -17,7 +17,7 @@ use Rattle.rules.specs.Tree.{Label, Items}
 use Rattle.rules.specs.Control.{Parent, headOf, wholeEntries, rootPage, subPage}
 use Rattle.rules.specs.Check.{judgeLabel}
 use Rattle.rules.specs.Listing.{lineAt}
-use Rattle.rules.specs.Paths.{pathOf, directoryKey, Found, nothing, aFile, aDirectory, find, Place, stepDown, directoryAt, targetOf}
+use Rattle.rules.specs.Paths.{pathOf, directoryKey, Found, nothing, aFile, aDirectory, find, Place, stepDown, directoryAt, targetOf, shown}
 use Rattle.rules.specs.Format.{format}
 use Rattle.rules.specs.Put.{writable}
 use Rattle.rules.specs.Delete.{present}
@@ -114,7 +114,7 @@ pub label-faults : (most p : ℕ) (e : Entry) → p < most → Refuses 2 12 most
 unfolding judgeLabel
 label-faults most p e h = refuses-test _ 9 _ _ tt h (refuses-unless _ 10 _ tt h)
 
--- ---- paths, read-only, room, output: 14 to 18 tell page 0
+-- ---- paths, read-only, room, output, hidden directories: 14 to 18 and 22 tell page 0
 path-faults : (b : List ℕ) → Refuses 14 14 1 (pathOf b)
 unfolding pathOf
 path-faults b = let z : 0 < 1 = omega arith in refuses-test _ 14 _ _ tt z (refuses-test _ 14 _ _ tt z (refuses-test _ 14 _ _ tt z refuses-ok))
@@ -133,6 +133,10 @@ unfolding targetOf
 target-faults path t =
     refuses-then _ _ (refuses-within 14 15 1 (omega arith) (omega arith) (omega arith) (path-faults path)) λ q _.
     refuses-then _ _ (refuses-within 14 15 1 (omega arith) (omega arith) (omega arith) (place-faults (q .directories) _)) λ d _. refuses-ok
+
+pub shown-faults : (p : Place) → Refuses 22 22 1 (shown p)
+unfolding shown
+shown-faults p = refuses-unless _ 22 _ tt (omega arith)
 
 pub writable-faults : (f : Found) → Refuses 16 16 1 (writable f)
 unfolding writable

@@ -1,13 +1,28 @@
 -- A path in a tree: first the path is judged, then its directories, then what stands there.
 use mathlib.Core.Path.{_≡_, _∙_, subst}
+use mathlib.Core.Bool.{Bool, true, false}
 use mathlib.Core.List.{List}
 use Prim.Native.Nat.{ℕ}
+use borrow.Author.Tests.{not-true}
 use Rattle.rules.specs.Result.{Res, ok, err, andThen}
-use Rattle.rules.specs.ResultLaws.{ok-inj, on-then, then-ok, then-err, then-assoc, then-cong}
+use Rattle.rules.specs.ResultLaws.{ok-inj, on-then, refuse-inv, refuse-true, refuse-false, then-ok, then-err, then-assoc, then-cong}
 use Rattle.rules.specs.Tree.{Items}
-use Rattle.rules.specs.Paths.{Path, pathOf, fileKey, find, Place, rootPlace, directoryAt, Target, targetOf}
+use Rattle.rules.specs.Paths.{Path, pathOf, fileKey, find, Place, rootPlace, directoryAt, Target, targetOf, shown}
 use Rattle.rules.specs.Put.{writable, putTarget}
 use Rattle.rules.specs.Delete.{present, deleteTarget}
+
+-- no directory on the way to a place is hidden, or one is
+pub is-shown : (p : Place) → p .hidden ≡ false → shown p ≡ ok tt
+unfolding shown
+is-shown p h = simp (h, refuse-true)
+
+pub not-shown : (p : Place) → p .hidden ≡ true → shown p ≡ err 22 0
+unfolding shown
+not-shown p h = simp (h, refuse-false)
+
+pub shown-inv : (p : Place) (u : Unit {0}) → shown p ≡ ok u → p .hidden ≡ false
+unfolding shown
+shown-inv p u e = not-true (p .hidden) (refuse-inv _ _ _ _ e)
 
 -- what a path that leads to a directory has met
 pub record Reached (path : List ℕ) (t : Items) (x : Target) : Type 0 where
@@ -48,33 +63,52 @@ module _ (path : List ℕ) (t : Items) where
   delete-target-none n p e = simp (e, then-err)
 
   module _ (x : Target) (at : targetOf path t ≡ ok x) where
-    pub put-target-is : writable (find (fileKey (x .to)) (x .place .items)) ≡ ok tt → putTarget path t ≡ ok x
+    pub put-target-hidden : x .place .hidden ≡ true → putTarget path t ≡ err 22 0
     unfolding putTarget
-    put-target-is w = simp (at, then-ok, w)
-
-    pub put-target-kept : (n p : ℕ) → writable (find (fileKey (x .to)) (x .place .items)) ≡ err n p → putTarget path t ≡ err n p
-    unfolding putTarget
-    put-target-kept n p w = simp (at, then-ok, w, then-err)
-
-    pub delete-target-is : present (find (fileKey (x .to)) (x .place .items)) ≡ ok tt → writable (find (fileKey (x .to)) (x .place .items)) ≡ ok tt → deleteTarget path t ≡ ok x
-    unfolding deleteTarget
-    delete-target-is h w = simp (at, then-ok, h, w)
+    put-target-hidden h = simp (at, then-ok, not-shown (x .place) h, then-err)
 
     pub delete-target-absent : (n p : ℕ) → present (find (fileKey (x .to)) (x .place .items)) ≡ err n p → deleteTarget path t ≡ err n p
     unfolding deleteTarget
     delete-target-absent n p h = simp (at, then-ok, h, then-err)
 
-    pub delete-target-kept : (n p : ℕ) → present (find (fileKey (x .to)) (x .place .items)) ≡ ok tt → writable (find (fileKey (x .to)) (x .place .items)) ≡ err n p → deleteTarget path t ≡ err n p
+    pub delete-target-hidden : present (find (fileKey (x .to)) (x .place .items)) ≡ ok tt → x .place .hidden ≡ true → deleteTarget path t ≡ err 22 0
     unfolding deleteTarget
-    delete-target-kept n p h w = simp (at, then-ok, h, w, then-err)
+    delete-target-hidden h s = simp (at, then-ok, h, not-shown (x .place) s, then-err)
+
+    module _ (seen : x .place .hidden ≡ false) where
+      pub put-target-is : writable (find (fileKey (x .to)) (x .place .items)) ≡ ok tt → putTarget path t ≡ ok x
+      unfolding putTarget
+      put-target-is w = simp (at, then-ok, is-shown (x .place) seen, w)
+
+      pub put-target-kept : (n p : ℕ) → writable (find (fileKey (x .to)) (x .place .items)) ≡ err n p → putTarget path t ≡ err n p
+      unfolding putTarget
+      put-target-kept n p w = simp (at, then-ok, is-shown (x .place) seen, w, then-err)
+
+      pub delete-target-is : present (find (fileKey (x .to)) (x .place .items)) ≡ ok tt → writable (find (fileKey (x .to)) (x .place .items)) ≡ ok tt → deleteTarget path t ≡ ok x
+      unfolding deleteTarget
+      delete-target-is h w = simp (at, then-ok, h, is-shown (x .place) seen, w)
+
+      pub delete-target-kept : (n p : ℕ) → present (find (fileKey (x .to)) (x .place .items)) ≡ ok tt → writable (find (fileKey (x .to)) (x .place .items)) ≡ err n p → deleteTarget path t ≡ err n p
+      unfolding deleteTarget
+      delete-target-kept n p h w = simp (at, then-ok, h, is-shown (x .place) seen, w, then-err)
 
   -- what a target that was given has met
-  pub on-put-target : {C : Type 0} (x : Target) → putTarget path t ≡ ok x → (targetOf path t ≡ ok x → (u : Unit {0}) → writable (find (fileKey (x .to)) (x .place .items)) ≡ ok u → C) → C
-  unfolding putTarget
-  on-put-target {C} x e k = on-then _ _ _ e λ y f e. on-then _ _ _ e λ u w e.
-      subst (λ (z : Target). (targetOf path t ≡ ok z → (u : Unit {0}) → writable (find (fileKey (z .to)) (z .place .items)) ≡ ok u → C) → C) (ok-inj e) (λ k. k f u w) k
+  pub record PutMet (x : Target) : Type 0 where
+    pub at : targetOf path t ≡ ok x
+    pub seen : x .place .hidden ≡ false
+    pub may : writable (find (fileKey (x .to)) (x .place .items)) ≡ ok tt
 
-  pub on-delete-target : {C : Type 0} (x : Target) → deleteTarget path t ≡ ok x → (targetOf path t ≡ ok x → (u : Unit {0}) → present (find (fileKey (x .to)) (x .place .items)) ≡ ok u → C) → C
+  pub put-met : (x : Target) → putTarget path t ≡ ok x → PutMet x
+  unfolding putTarget
+  put-met x e = on-then _ _ _ e λ y f e. on-then _ _ _ e λ u s e. on-then _ _ _ e λ u₂ w e. subst PutMet (ok-inj e) (record { at = f; seen = shown-inv (y .place) u s; may = w })
+
+  pub record DeleteMet (x : Target) : Type 0 where
+    pub at : targetOf path t ≡ ok x
+    pub is : present (find (fileKey (x .to)) (x .place .items)) ≡ ok tt
+    pub seen : x .place .hidden ≡ false
+    pub may : writable (find (fileKey (x .to)) (x .place .items)) ≡ ok tt
+
+  pub delete-met : (x : Target) → deleteTarget path t ≡ ok x → DeleteMet x
   unfolding deleteTarget
-  on-delete-target {C} x e k = on-then _ _ _ e λ y f e. on-then _ _ _ e λ u h e. on-then _ _ _ e λ u₂ w e.
-      subst (λ (z : Target). (targetOf path t ≡ ok z → (u : Unit {0}) → present (find (fileKey (z .to)) (z .place .items)) ≡ ok u → C) → C) (ok-inj e) (λ k. k f u h) k
+  delete-met x e = on-then _ _ _ e λ y f e. on-then _ _ _ e λ u h e. on-then _ _ _ e λ u₂ s e. on-then _ _ _ e λ u₃ w e.
+      subst DeleteMet (ok-inj e) (record { at = f; is = h; seen = shown-inv (y .place) u₂ s; may = w })

@@ -11,6 +11,7 @@ use geometry::LENGTH_BYTES;
 use geometry::MAP_OWNER;
 use geometry::MOST_LEVELS;
 use geometry::RECORD_BYTES;
+use geometry::ROOT;
 use geometry::ROOT_OWNER;
 use geometry::Shape;
 use packet::Judged;
@@ -30,9 +31,6 @@ ghost use Rattle.rules.specs.Answers.{checkResult};
 ghost use Rattle.volume.specs.Scans.{rootOf, MapClaimed, RootWalked, Scanned, IsScanned, BitsCompared, TableChecked};
 ghost use Rattle.volume.specs.Surveyed.{BitsSurveyed, TableSurveyed};
 ghost use Rattle.rules.specs.Calls.{checkCall};
-
-// `ROOT`, the first byte lowest.
-const ROOT: u32 = 0x544F4F52;
 
 // Where the four bitmap bytes stand in page 0, past the map address.
 const FIELD_AT: usize = LENGTH_BYTES + BITMAP_FIELD_PAST;

@@ -62,7 +62,7 @@ pub struct Mended {
     pub cleared: u32,
 }
 
-/// The refusals by name; the value of each is its number in document 01.
+/// The refusals by name; the value of each is its number in document 01, that of a hidden directory in document 02 (A6).
 #[derive(Clone, Copy, Debug, PartialEq, Eq)]
 pub(crate) enum Fault {
     Arguments = 1,
@@ -84,6 +84,7 @@ pub(crate) enum Fault {
     Room = 17,
     Output = 18,
     Dump = 19,
+    Hidden = 22,
 }
 
 impl Fault {

@@ -27,7 +27,7 @@ enum EntryPlace {
     NewPage(usize),
 }
 
-/// The writes of a careful put: path (14), missing directory (15), read-only (16), no room besides the old chain (17).
+/// The writes of a careful put: path (14), missing directory (15), hidden directory (22), read-only (16), no room besides the old chain (17).
 pub(crate) fn put<'a>(
     geometry: &'a Geometry,
     image: &[u8],
@@ -36,7 +36,9 @@ pub(crate) fn put<'a>(
     bytes: &[u8],
 ) -> Result<WriteList<'a>, Answer> {
     let path = edit::parse(path)?;
-    let directory = edit::find_directory(tree, &path)?;
+    let target = edit::find_target(tree, &path)?;
+    edit::refuse_hidden(&target)?;
+    let directory = target.directory;
     let list = WriteList::new(geometry, image, tree);
     match directory.find(&path.name, path.extension) {
         Some(entry) if entry.fields.attribute() => Err(Fault::ReadOnly.at(0)),
@@ -45,7 +47,7 @@ pub(crate) fn put<'a>(
     }
 }
 
-/// The writes of a careful delete: path (14), place (15), read-only (16).
+/// The writes of a careful delete: path (14), place (15), hidden directory (22), read-only (16).
 pub(crate) fn delete<'a>(
     geometry: &'a Geometry,
     image: &[u8],
@@ -53,7 +55,9 @@ pub(crate) fn delete<'a>(
     path: &[u8],
 ) -> Result<WriteList<'a>, Answer> {
     let path = edit::parse(path)?;
-    let entry = edit::existing_file(edit::find_directory(tree, &path)?, &path)?;
+    let target = edit::find_target(tree, &path)?;
+    let entry = edit::existing_file(&target, &path)?;
+    edit::refuse_hidden(&target)?;
     if entry.fields.attribute() {
         return Err(Fault::ReadOnly.at(0));
     }

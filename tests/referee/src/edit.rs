@@ -7,7 +7,7 @@ use crate::entry::Fields;
 use crate::geometry::Geometry;
 use crate::packet::{self, Written};
 use crate::path::{self, Path};
-use crate::tree::{Content, Directory, Entry, Tree};
+use crate::tree::{Content, Directory, Entry, Target, Tree};
 
 /// Writes page 0 and, if asked, the bitmap file from page 1 upward; a local bitmap with N above 32 is 4.
 pub(crate) fn format(geometry: &Geometry, image: &mut [u8], local: bool) -> Result<(), Answer> {
@@ -42,7 +42,7 @@ pub(crate) fn read(
     out: &mut [u8],
 ) -> Result<usize, Answer> {
     let path = parse(path)?;
-    let entry = existing_file(find_directory(tree, &path)?, &path)?;
+    let entry = existing_file(&find_target(tree, &path)?, &path)?;
     let Content::File { pages, length } = &entry.content else {
         return Err(Fault::Absent.at(0));
     };
@@ -58,7 +58,7 @@ pub(crate) fn read(
     Ok(*length)
 }
 
-/// Makes or replaces a file: path (14), missing directory (15), read-only (16), no room (17).
+/// Makes or replaces a file: path (14), missing directory (15), hidden directory (22), read-only (16), no room (17).
 pub(crate) fn put(
     geometry: &Geometry,
     image: &mut [u8],
@@ -67,7 +67,9 @@ pub(crate) fn put(
     bytes: &[u8],
 ) -> Result<(), Answer> {
     let path = parse(path)?;
-    let directory = find_directory(tree, &path)?;
+    let target = find_target(tree, &path)?;
+    refuse_hidden(&target)?;
+    let directory = target.directory;
     match directory.find(&path.name, path.extension) {
         Some(entry) if entry.fields.attribute() => Err(Fault::ReadOnly.at(0)),
         Some(entry) => replace(geometry, image, tree, entry, bytes),
@@ -75,7 +77,7 @@ pub(crate) fn put(
     }
 }
 
-/// Removes a file's entry and frees its pages: path (14), place (15), read-only (16).
+/// Removes a file's entry and frees its pages: path (14), place (15), hidden directory (22), read-only (16).
 pub(crate) fn delete(
     geometry: &Geometry,
     image: &mut [u8],
@@ -83,7 +85,9 @@ pub(crate) fn delete(
     path: &[u8],
 ) -> Result<(), Answer> {
     let path = parse(path)?;
-    let entry = existing_file(find_directory(tree, &path)?, &path)?;
+    let target = find_target(tree, &path)?;
+    let entry = existing_file(&target, &path)?;
+    refuse_hidden(&target)?;
     if entry.fields.attribute() {
         return Err(Fault::ReadOnly.at(0));
     }
@@ -99,18 +103,24 @@ pub(crate) fn parse(path: &[u8]) -> Result<Path, Answer> {
 }
 
 /// The directory that the path's directory names lead to; a missing one is 15.
-pub(crate) fn find_directory<'a>(tree: &'a Tree, path: &Path) -> Result<&'a Directory, Answer> {
+pub(crate) fn find_target<'a>(tree: &'a Tree, path: &Path) -> Result<Target<'a>, Answer> {
     tree.root
         .resolve(&path.directories)
         .ok_or(Fault::Absent.at(0))
 }
 
+/// A hidden directory on the path is 22 (A6).
+pub(crate) fn refuse_hidden(target: &Target) -> Result<(), Answer> {
+    match target.hidden {
+        true => Err(Fault::Hidden.at(0)),
+        false => Ok(()),
+    }
+}
+
 /// The path's file in its directory; a missing one is 15.
-pub(crate) fn existing_file<'a>(
-    directory: &'a Directory,
-    path: &Path,
-) -> Result<&'a Entry, Answer> {
-    directory
+pub(crate) fn existing_file<'a>(target: &Target<'a>, path: &Path) -> Result<&'a Entry, Answer> {
+    target
+        .directory
         .find(&path.name, path.extension)
         .ok_or(Fault::Absent.at(0))
 }

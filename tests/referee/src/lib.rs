@@ -1,5 +1,6 @@
 //! A second implementation of the file structure of document 01: check, list, read, format, put, delete; and of document 02's careful put, careful
-//! delete and mend (A4), owner records (A8) and stamps, that is extended entries before the entry they belong to (A2).
+//! delete and mend (A4), owner records (A8), stamps, that is extended entries before the entry they belong to (A2), and hidden directories, which
+//! refuse edits (A6).
 //!
 //! It is written from the specification alone and serves as a referee for another implementation.
 //! Numbers are `u32` as a C caller gives them; the owner table is bytes, four for each page.

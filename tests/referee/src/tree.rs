@@ -36,6 +36,14 @@ pub(crate) struct Entry {
     pub(crate) content: Content,
 }
 
+/// The directory that a path's directory names lead to.
+#[derive(Debug)]
+pub(crate) struct Target<'a> {
+    pub(crate) directory: &'a Directory,
+    /// Whether any of the directories named, the last one too, is hidden (A6). The root has no entry and is never hidden.
+    pub(crate) hidden: bool,
+}
+
 /// An accepted image: bitmap, root, and for each page whether it is in use, that is in any chain.
 #[derive(Debug)]
 pub(crate) struct Tree {
@@ -76,14 +84,22 @@ impl Directory {
     }
 
     /// The directory that `names` lead to from this one, name by name.
-    pub(crate) fn resolve(&self, names: &[Name]) -> Option<&Directory> {
-        let Some((first, rest)) = names.split_first() else {
-            return Some(self);
+    pub(crate) fn resolve(&self, names: &[Name]) -> Option<Target<'_>> {
+        let mut target = Target {
+            directory: self,
+            hidden: false,
         };
-        match &self.find(first, SUBDIRECTORY)?.content {
-            Content::Directory(directory) => directory.resolve(rest),
-            Content::File { .. } => None,
+        for name in names {
+            let entry = target.directory.find(name, SUBDIRECTORY)?;
+            let Content::Directory(directory) = &entry.content else {
+                return None;
+            };
+            target = Target {
+                directory,
+                hidden: target.hidden || entry.fields.attribute(),
+            };
         }
+        Some(target)
     }
 
     /// Adds the entries in walk order: after a subdirectory's entry all entries below it.

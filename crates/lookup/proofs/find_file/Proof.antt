@@ -4,7 +4,7 @@ use Rattle.rules.specs.Chain.{viewsOf}
 use Rattle.rules.specs.Paths.{rootPlace}
 use Rattle.rules.specs.TargetLaws.{target-malformed}
 use Rattle.lookup.proofs.Parts.{malformed, well-formed}
-use Rattle.lookup.proofs.PathPlace.{root-tree, has-tree, nowhere, file-absent, file-at}
+use Rattle.lookup.proofs.PathPlace.{root-tree, root-reached, has-tree, nowhere, file-absent, file-at}
 use borrow.Author.Needs.{needs}
 use Rattle.lookup.proofs.find_file.Statement.{statement}
 use Rattle.lookup.proofs.find_file.Tie as tie
@@ -30,7 +30,7 @@ find-place-requires c κs =
     let P = well-formed _ _ _ _ _ (at-parse .parse .ensures) (at-names .names .given .1) in (
       s .0,
       has-tree (a .g) (viewsOf (a .g) (a .image .now)) (a .path .now) (s .1 .image) _ _ _ P (at-resolve .resolve .result)
-          (at-resolve .resolve .ensures (rootPlace (s .1 .image .tree)) (root-tree _ _ (s .1 .image) (s .1 .accepted))) _ (start .start .given .1),
+          (at-resolve .resolve .ensures (rootPlace (s .1 .image .tree)) (root-reached _ _ (s .1 .image) (s .1 .accepted))) _ (start .d .given .1),
     )
 
 returns : tie.Need-returns
@@ -46,7 +46,7 @@ returns-2 c =
     let a = start .args in
     let P = well-formed _ _ _ _ _ (at-parse .parse .ensures) (at-names .names .given .1) in
     nowhere (a .g) (viewsOf (a .g) (a .image .now)) (a .path .now) i _ _ _ P (at-resolve .resolve .result)
-    (at-resolve .resolve .ensures (rootPlace (i .tree)) (root-tree _ _ i h)) (c .enum-told2 .given .1)
+    (at-resolve .resolve .ensures (rootPlace (i .tree)) (root-reached _ _ i h)) (c .enum-told2 .given .1)
 
 returns-3 : tie.Need-returns-3
 returns-3 c =
@@ -61,7 +61,7 @@ returns-3 c =
     let a = start′ .args in
     let P = well-formed _ _ _ _ _ (at-parse .parse .ensures) (at-names .names .given .1) in
     file-absent (a .g) (viewsOf (a .g) (a .image .now)) (a .path .now) i _ _ _ P (at-resolve .resolve .result)
-    (at-resolve .resolve .ensures (rootPlace (i .tree)) (root-tree _ _ i h)) _ (start .start .given .1) _ (at-key-of .key-of .ensures) (at-find-place .find-place .result)
+    (at-resolve .resolve .ensures (rootPlace (i .tree)) (root-reached _ _ i h)) _ (start .d .given .1) _ (at-key-of .key-of .ensures) (at-find-place .find-place .result)
     (at-find-place .find-place .ensures) (c .enum-told3 .given .1)
 
 returns-4 : tie.Need-returns-4
@@ -78,7 +78,7 @@ returns-4 c =
     let a = start′ .args in
     let P = well-formed _ _ _ _ _ (at-parse .parse .ensures) (at-names .names .given .1) in
     file-at (a .g) (viewsOf (a .g) (a .image .now)) (a .path .now) i _ _ _ P (at-resolve .resolve .result)
-    (at-resolve .resolve .ensures (rootPlace (i .tree)) (root-tree _ _ i h)) _ (start .start .given .1) _ (at-key-of .key-of .ensures) (at-find-place .find-place .result)
+    (at-resolve .resolve .ensures (rootPlace (i .tree)) (root-reached _ _ i h)) _ (start .d .given .1) _ (at-key-of .key-of .ensures) (at-find-place .find-place .result)
     (at-find-place .find-place .ensures) _ _ _ (at-slot .slot .given .1)
 
 pub find-file-spec : {M : Type 1} → statement M

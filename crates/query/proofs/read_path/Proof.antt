@@ -12,7 +12,7 @@ read-chain-requires c κs =
     let start = at-find-file .before .before .before .before in
     let a = start .args in
     let F = there (a .g) (viewsOf (a .g) (a .image .now)) (a .path .now) (a .out .now) (at-find-file .find-file .result) (at-find-file .find-file .ensures) (start .pre .1 .image)
-    (start .pre .1 .accepted) _ _ _ (at-e .e .given .1) in
+    (start .pre .1 .accepted) _ _ _ _ (at-e .e .given .1) in
     (start .pre .0, record { links = F .links; chain = F .chain })
 
 returns : tie.Need-returns
@@ -47,7 +47,7 @@ returns-4 c =
     let start = at-find-file .before .before .before .before in
     λ i h.
     let a = start .args in
-    read-file (a .g) (viewsOf (a .g) (a .image .now)) (a .path .now) (a .out .now) (at-find-file .find-file .result) (at-find-file .find-file .ensures) i h _ _ _ (at-e .e .given .1)
+    read-file (a .g) (viewsOf (a .g) (a .image .now)) (a .path .now) (a .out .now) (at-find-file .find-file .result) (at-find-file .find-file .ensures) i h _ _ _ _ (at-e .e .given .1)
     (at-read-chain .read-chain .result) _ (at-read-chain .read-chain .ensures)
 
 pub read-path-spec : {M : Type 1} → statement M

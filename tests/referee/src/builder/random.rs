@@ -31,6 +31,8 @@ pub struct Shape {
     pub odd_packet_percent: usize,
     /// The part of entries that have stamps: one to three, or as many as there can be.
     pub stamp_percent: usize,
+    /// The part of directories that are hidden.
+    pub hidden_percent: usize,
     pub fill: Fill,
 }
 
@@ -58,6 +60,7 @@ impl Shape {
             deep: rng.chance(25),
             odd_packet_percent: [0, 15, 60][rng.below(3)],
             stamp_percent: [0, 0, 20, 70][rng.below(4)],
+            hidden_percent: [0, 0, 8, 30][rng.below(4)],
             fill: fill[rng.below(fill.len())],
         }
     }
@@ -364,20 +367,20 @@ impl Generator<'_> {
         let is_directory = wanted && level < 8;
         let (name, extension) = self.new_name(is_directory, names)?;
         let page = self.pool.pop()?;
-        let attribute = self.rng.chance(25);
         if is_directory {
             return Some(Item::Directory {
                 name,
-                hidden: attribute,
+                hidden: self.rng.chance(self.shape.hidden_percent),
                 directory: self.directory(page, level + 1),
             });
         }
+        let read_only = self.rng.chance(25);
         let chain = self.file_chain(page);
         let length = chain.lengths.iter().sum();
         Some(Item::File(FilePlan {
             name,
             extension,
-            read_only: attribute,
+            read_only,
             bytes: self.rng.bytes(length),
             chain,
         }))
