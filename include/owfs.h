@@ -180,6 +180,56 @@ struct owfs_answer owfs_put(uint32_t page_length, uint32_t page_count, uint8_t *
 struct owfs_answer owfs_delete(uint32_t page_length, uint32_t page_count, uint8_t *image, size_t image_length, const uint8_t *path, size_t path_length,
                                uint8_t *owners, size_t owners_length);
 
+/* Checks an image as owfs_check does, then makes a directory at a path: without entries, not hidden. The path is one to eight names of four bytes each,
+ * the highest directory first and the new one's name last, as stored, filled with blanks; no extension number follows. The root has no path (14).
+ * The path is not written. No directory is made below a hidden one, at any depth (22); the last name may be that of a file, and a directory of that
+ * name, hidden or not, is 21.
+ *
+ * number  meaning, in the order in which it is judged              page
+ *      0  done                                                     0
+ *   1-13  the check's faults, as for owfs_check                    as there
+ *     14  path malformed: its length or a name                     0
+ *     15  directory before the last name absent                    0
+ *     22  a directory before the last name is hidden               0
+ *     21  a directory of that name is already there                0
+ *     17  no room                                                  0
+ *
+ * The new entry goes to the end of the first page with space, in chain order, of the directory that holds it, where stamps take space as entries do;
+ * if there is none, the lowest free page joins that directory's end. The new directory then takes the lowest free page, which holds its marker and its
+ * reference back to the directory that holds it. 17 is answered only if no image that keeps every entry with its stamps, every file and page could hold
+ * the new directory, and no such image has fewer pages in use than the one that is left after 0.
+ * Only the packets of the new page, of one page of the directory that holds the entry, of a page that joins it and of the bitmap change; a bitmap file
+ * keeps its packets' lengths. In a page written only the bytes of its new packet change; every other byte of the image stays. A refusal changes no
+ * byte of the image.
+ * `owners` are left as owfs_check leaves them: after 0 they tell of the new image, after 14, 15, 17, 21 and 22 of the image as it stands; at least
+ * 4 * page_count bytes are needed (1); all records are 0 after the faults 2 to 13; after 1 no byte is changed; bytes past the first 4 * page_count
+ * never change. Any arguments are taken. Image and owners must not overlap each other or the path.
+ * Stack: less than 16 KiB, for every page count, however many entries a directory has. */
+struct owfs_answer owfs_make_directory(uint32_t page_length, uint32_t page_count, uint8_t *image, size_t image_length, const uint8_t *path,
+                                       size_t path_length, uint8_t *owners, size_t owners_length);
+
+/* Checks an image as owfs_check does, then removes a directory that has no entries on any of its pages: its entry is removed with its stamps, later
+ * ones of the same directory page move up, and all its pages are free in the bitmap. The path is as for owfs_make_directory and is not written. No
+ * hidden directory is removed, and none below a hidden one (22).
+ *
+ * number  meaning, in the order in which it is judged              page
+ *      0  done                                                     0
+ *   1-13  the check's faults, as for owfs_check                    as there
+ *     14  path malformed: its length or a name                     0
+ *     15  a directory of the path absent                           0
+ *     22  a directory of the path, the last too, is hidden         0
+ *     20  the directory has entries                                0
+ *
+ * Only the packets of the entry's page and of the bitmap change: the directory that held the entry keeps its pages, also one that is left without
+ * entries, and a bitmap file keeps its packets' lengths. In a page written only the bytes of its new packet change; every other byte of the image
+ * stays, those of the removed directory's pages too. A refusal changes no byte of the image.
+ * `owners` are left as owfs_check leaves them: after 0 they tell of the new image, after 14, 15, 20 and 22 of the image as it stands; at least
+ * 4 * page_count bytes are needed (1); all records are 0 after the faults 2 to 13; after 1 no byte is changed; bytes past the first 4 * page_count
+ * never change. Any arguments are taken. Image and owners must not overlap each other or the path.
+ * Stack: less than 16 KiB, for every page count, however many entries a directory has. */
+struct owfs_answer owfs_remove_directory(uint32_t page_length, uint32_t page_count, uint8_t *image, size_t image_length, const uint8_t *path,
+                                         size_t path_length, uint8_t *owners, size_t owners_length);
+
 /* What a careful put or delete answers: number 0, page 0, the page writes made and whether any are left, or a refusal's number and page with both 0. */
 struct owfs_writes {
     uint32_t number;

@@ -251,6 +251,82 @@ pub fn delete(
     done(told.number, told.page)
 }
 
+/// Checks an image and makes a directory at a path: without entries, not hidden.
+///
+/// [`crate::directory_path`] makes the path of a directory. Its entry goes to the end of the first page of the directory that holds it with space,
+/// where stamps take space as entries do; if there is none, the lowest free page joins that directory's end. The new directory then takes the lowest
+/// free page. A file of the same name is no obstacle. In a page written only the bytes of its packet change; every other byte of the image stays. A
+/// refusal changes no byte of the image. The owner table is left as [`check`] leaves it: it tells of the new image, and after 14, 15, 17, 21 and 22
+/// of the image as it stands.
+///
+/// One directory for each boom:
+///
+/// ```
+/// use owfs::{directory_path, make_directory, owner_table, path, put, Bitmap, Geometry, Reason};
+///
+/// let geometry = Geometry::new(32, 16);
+/// let mut image = vec![0; 32 * 16];
+/// let mut owners = owner_table(geometry.page_count);
+/// owfs::format(geometry, &mut image, &mut owners, Bitmap::Local)?;
+///
+/// let boom = directory_path(&["BM01"])?;
+/// make_directory(geometry, &mut image, &boom, &mut owners)?;
+/// put(geometry, &mut image, &path(&["BM01"], "LOG", 7)?, b"12", &mut owners)?;
+///
+/// // It is there already.
+/// let again = make_directory(geometry, &mut image, &boom, &mut owners).unwrap_err();
+/// assert_eq!(again.reason(), Reason::AlreadyThere);
+/// # Ok::<(), Box<dyn std::error::Error>>(())
+/// ```
+///
+/// # Errors
+///
+/// 1 to 13 as for [`check`]; 14 if the path is malformed; 15 if a directory before the last name is absent; 22 if one of those is hidden; 21 if a
+/// directory of that name is already there, hidden or not; 17 if there is no room. The first of these, in this order, is told.
+pub fn make_directory(
+    geometry: Geometry,
+    image: &mut [u8],
+    path: &[u8],
+    owners: &mut [u8],
+) -> Result<(), Refusal> {
+    let told = raw::make_directory(
+        geometry.page_length,
+        geometry.page_count,
+        image,
+        path,
+        owners,
+    );
+    done(told.number, told.page)
+}
+
+/// Checks an image and removes a directory that has no entries: its own entry is removed with its stamps, later ones of the same directory page move
+/// up, and all its pages are free.
+///
+/// [`crate::directory_path`] makes the path of a directory. The directory that held the entry keeps its pages, also one that is left without entries.
+/// In a page written only the bytes of its packet change; every other byte of the image stays, those of the removed directory's pages too. A refusal
+/// changes no byte of the image. The owner table is left as [`check`] leaves it: it tells of the new image, and after 14, 15, 20 and 22 of the image
+/// as it stands.
+///
+/// # Errors
+///
+/// 1 to 13 as for [`check`]; 14 if the path is malformed; 15 if a directory of the path is absent; 22 if one of them, the last too, is hidden; 20 if
+/// the directory has entries. The first of these, in this order, is told.
+pub fn remove_directory(
+    geometry: Geometry,
+    image: &mut [u8],
+    path: &[u8],
+    owners: &mut [u8],
+) -> Result<(), Refusal> {
+    let told = raw::remove_directory(
+        geometry.page_length,
+        geometry.page_count,
+        image,
+        path,
+        owners,
+    );
+    done(told.number, told.page)
+}
+
 /// What a careful call tells.
 fn writes(told: raw::Writes) -> Result<Writes, Refusal> {
     done(told.number, told.page)?;

@@ -3,7 +3,7 @@
 use std::iter::FusedIterator;
 
 use crate::calls::{list, Geometry};
-use crate::path::{path_of, Name};
+use crate::path::{directory_path_of, path_of, Name};
 use crate::raw;
 use crate::refusal::{Reason, Refusal};
 
@@ -66,7 +66,8 @@ impl Entry {
         self.attribute && self.kind() == Kind::File
     }
 
-    /// Whether the entry is a hidden directory's: below it files are listed and read, and neither put nor deleted.
+    /// Whether the entry is a hidden directory's: it is not removed; below it files are listed and read, and neither put nor deleted, and no directory
+    /// is made or removed.
     pub fn is_hidden(&self) -> bool {
         self.attribute && self.kind() == Kind::Directory
     }
@@ -85,6 +86,15 @@ impl Listed {
     /// The path of a file, as [`crate::read`], [`crate::put`] and [`crate::delete`] take it; none for a directory.
     pub fn path(&self) -> Option<Vec<u8>> {
         path_of(&self.directories, self.entry.name, self.entry.extension).ok()
+    }
+
+    /// The path of a directory, as [`crate::make_directory`] and [`crate::remove_directory`] take it; none for a file.
+    pub fn directory_path(&self) -> Option<Vec<u8>> {
+        let names = [self.directories.as_slice(), &[self.entry.name]].concat();
+        match self.entry.kind() {
+            Kind::Directory => directory_path_of(&names).ok(),
+            Kind::File => None,
+        }
     }
 }
 

@@ -1,4 +1,4 @@
-//! Names and paths of files.
+//! Names, and paths of files and of directories.
 
 use std::error::Error;
 use std::fmt;
@@ -25,6 +25,8 @@ pub enum PathError {
     Name(String),
     /// So many directory names are more than eight.
     Directories(usize),
+    /// There is no name: a directory's path has one at least.
+    Empty,
     /// This extension number is above 99.
     Extension(u8),
 }
@@ -48,6 +50,35 @@ pub fn path(directories: &[&str], name: &str, extension: u8) -> Result<Vec<u8>, 
     let names: Result<Vec<Name>, PathError> =
         directories.iter().map(|text| Name::new(text)).collect();
     path_of(&names?, Name::new(name)?, extension)
+}
+
+/// The bytes of a directory's path, as [`crate::make_directory`] and [`crate::remove_directory`] take it: the names of the directories that lead to
+/// it, the highest first, and its own name last. Names shorter than four bytes are filled with blanks.
+///
+/// The library refuses no path made here with 14. The root has no path.
+///
+/// ```
+/// assert_eq!(owfs::directory_path(&["BM01"])?, b"BM01");
+/// assert_eq!(owfs::directory_path(&["LAB", "A1"])?, b"LAB A1  ");
+/// assert!(owfs::directory_path(&[]).is_err());
+/// # Ok::<(), owfs::PathError>(())
+/// ```
+///
+/// # Errors
+///
+/// What cannot be a directory's path: a name that is none, no name, more than eight names.
+pub fn directory_path(names: &[&str]) -> Result<Vec<u8>, PathError> {
+    let names: Result<Vec<Name>, PathError> = names.iter().map(|text| Name::new(text)).collect();
+    directory_path_of(&names?)
+}
+
+/// The bytes of a directory's path of names.
+pub(crate) fn directory_path_of(names: &[Name]) -> Result<Vec<u8>, PathError> {
+    match names.len() {
+        0 => Err(PathError::Empty),
+        1..=MOST_DIRECTORIES => Ok(names.iter().flat_map(|name| name.stored).collect()),
+        count => Err(PathError::Directories(count)),
+    }
 }
 
 /// The bytes of a path of names.
@@ -135,6 +166,7 @@ impl fmt::Display for PathError {
             PathError::Directories(count) => {
                 write!(formatter, "{count} directories are more than eight")
             }
+            PathError::Empty => write!(formatter, "a directory's path has a name at least"),
             PathError::Extension(number) => {
                 write!(formatter, "extension number {number} is above 99")
             }
@@ -146,7 +178,7 @@ impl Error for PathError {}
 
 #[cfg(test)]
 mod tests {
-    use super::{path, Name, PathError};
+    use super::{directory_path, path, Name, PathError};
 
     #[test]
     fn names_are_filled_with_blanks() {
@@ -192,12 +224,33 @@ mod tests {
     }
 
     #[test]
+    fn directory_path_has_one_to_eight_names() {
+        for count in 1..=8 {
+            let path = directory_path(&["A1"; 8][..count]);
+            assert_eq!(path, Ok(b"A1  ".repeat(count)));
+        }
+        assert_eq!(directory_path(&[]), Err(PathError::Empty));
+        assert_eq!(directory_path(&["A"; 9]), Err(PathError::Directories(9)));
+        for text in ["", "a", "A B", "ABCDE", " "] {
+            let error = PathError::Name(String::from(text));
+            assert_eq!(directory_path(&[text]), Err(error.clone()));
+            assert_eq!(directory_path(&["A", text]), Err(error.clone()));
+            // The name comes before their number.
+            assert_eq!(directory_path(&[text; 9]), Err(error));
+        }
+    }
+
+    #[test]
     fn errors_say_what_is_wrong() {
         let text = |error: PathError| error.to_string();
         assert_eq!(text(PathError::Name("a".into())), "\"a\" is no name");
         assert_eq!(
             text(PathError::Directories(9)),
             "9 directories are more than eight"
+        );
+        assert_eq!(
+            text(PathError::Empty),
+            "a directory's path has a name at least"
         );
         assert_eq!(
             text(PathError::Extension(127)),

@@ -1,4 +1,4 @@
-//! The ten functions of `include/owfs.h` over slices, with the answers as C has them: number and page beside every other field.
+//! The twelve functions of `include/owfs.h` over slices, with the answers as C has them: number and page beside every other field.
 //!
 //! This is the only module with unsafe code. The functions of the crate's root are made of these and are what most callers want; these are for
 //! those who compare whole answers, the fields of a refusal too.
@@ -152,6 +152,28 @@ extern "C" {
     ) -> Answer;
 
     fn owfs_delete(
+        page_length: u32,
+        page_count: u32,
+        image: *mut u8,
+        image_length: usize,
+        path: *const u8,
+        path_length: usize,
+        owners: *mut u8,
+        owners_length: usize,
+    ) -> Answer;
+
+    fn owfs_make_directory(
+        page_length: u32,
+        page_count: u32,
+        image: *mut u8,
+        image_length: usize,
+        path: *const u8,
+        path_length: usize,
+        owners: *mut u8,
+        owners_length: usize,
+    ) -> Answer;
+
+    fn owfs_remove_directory(
         page_length: u32,
         page_count: u32,
         image: *mut u8,
@@ -326,6 +348,52 @@ pub fn delete(
     // SAFETY: any numbers are taken; pointers and lengths are those of slices, and those that are written overlap no other.
     unsafe {
         owfs_delete(
+            page_length,
+            page_count,
+            image.as_mut_ptr(),
+            image.len(),
+            path.as_ptr(),
+            path.len(),
+            owners.as_mut_ptr(),
+            owners.len(),
+        )
+    }
+}
+
+/// [`crate::make_directory`] with the whole answer.
+pub fn make_directory(
+    page_length: u32,
+    page_count: u32,
+    image: &mut [u8],
+    path: &[u8],
+    owners: &mut [u8],
+) -> Answer {
+    // SAFETY: any numbers are taken; pointers and lengths are those of slices, and those that are written overlap no other.
+    unsafe {
+        owfs_make_directory(
+            page_length,
+            page_count,
+            image.as_mut_ptr(),
+            image.len(),
+            path.as_ptr(),
+            path.len(),
+            owners.as_mut_ptr(),
+            owners.len(),
+        )
+    }
+}
+
+/// [`crate::remove_directory`] with the whole answer.
+pub fn remove_directory(
+    page_length: u32,
+    page_count: u32,
+    image: &mut [u8],
+    path: &[u8],
+    owners: &mut [u8],
+) -> Answer {
+    // SAFETY: any numbers are taken; pointers and lengths are those of slices, and those that are written overlap no other.
+    unsafe {
+        owfs_remove_directory(
             page_length,
             page_count,
             image.as_mut_ptr(),

@@ -16,7 +16,7 @@ use std::fmt;
 /// ```
 #[derive(Clone, Copy, Debug, PartialEq, Eq, Hash)]
 pub struct Refusal {
-    /// The number, 1 to 18 or 22.
+    /// The number, 1 to 18 or 20 to 22.
     pub number: u32,
     /// The page, as the reason's description says; 0 if it tells none.
     pub page: u32,
@@ -61,14 +61,18 @@ pub enum Reason {
     NoRoom,
     /// 18: output is too short. No page.
     Output,
+    /// 20: the directory to be removed has entries. No page.
+    NotEmpty,
+    /// 21: a directory of that name is already there. No page.
+    AlreadyThere,
     /// 22: a directory on the path is hidden. No page.
     Hidden,
     /// Any other number; no call is refused with one.
     Other(u32),
 }
 
-/// The reasons with their numbers; 19 is the program `list`'s, 20 and 21 are no call's.
-const REASONS: [(u32, Reason); 19] = [
+/// The reasons with their numbers; 19 is the program `list`'s.
+const REASONS: [(u32, Reason); 21] = [
     (1, Reason::Arguments),
     (2, Reason::Packet),
     (3, Reason::Marker),
@@ -87,6 +91,8 @@ const REASONS: [(u32, Reason); 19] = [
     (16, Reason::ReadOnly),
     (17, Reason::NoRoom),
     (18, Reason::Output),
+    (20, Reason::NotEmpty),
+    (21, Reason::AlreadyThere),
     (22, Reason::Hidden),
 ];
 
@@ -147,6 +153,8 @@ impl Reason {
             Reason::ReadOnly => "file is read-only",
             Reason::NoRoom => "there is no room",
             Reason::Output => "output is too short",
+            Reason::NotEmpty => "directory has entries",
+            Reason::AlreadyThere => "a directory of that name is already there",
             Reason::Hidden => "a directory on the path is hidden",
             Reason::Other(_) => "reason is not known",
         }
@@ -163,6 +171,8 @@ impl Reason {
                 | Reason::ReadOnly
                 | Reason::NoRoom
                 | Reason::Output
+                | Reason::NotEmpty
+                | Reason::AlreadyThere
                 | Reason::Hidden
         )
     }
@@ -198,7 +208,7 @@ mod tests {
             assert_eq!(reason.number(), number);
             assert_eq!(u32::from(reason), number);
         }
-        for number in [0, 19, 20, 21, 23, 256, 278, u32::MAX] {
+        for number in [0, 19, 23, 256, 276, 277, 278, u32::MAX] {
             assert_eq!(Reason::from(number), Reason::Other(number));
             assert_eq!(Reason::Other(number).number(), number);
         }
@@ -213,6 +223,8 @@ mod tests {
             (14, Reason::Path),
             (17, Reason::NoRoom),
             (18, Reason::Output),
+            (20, Reason::NotEmpty),
+            (21, Reason::AlreadyThere),
             (22, Reason::Hidden),
         ];
         for (number, reason) in known {
@@ -238,6 +250,11 @@ mod tests {
         assert_eq!(text(3, 0), "marker is wrong, page 0 (refusal 3)");
         assert_eq!(text(5, 0), "work is in progress (refusal 5)");
         assert_eq!(text(17, 0), "there is no room (refusal 17)");
+        assert_eq!(text(20, 0), "directory has entries (refusal 20)");
+        assert_eq!(
+            text(21, 0),
+            "a directory of that name is already there (refusal 21)"
+        );
         assert_eq!(
             text(22, 0),
             "a directory on the path is hidden (refusal 22)"

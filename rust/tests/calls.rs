@@ -4,9 +4,9 @@
 //! The archive is made by `rt staticlib owfs`.
 
 use owfs::{
-    careful_delete, careful_put, check, crc16, delete, entries, list, mend, owner_of, owner_table,
-    path, put, read, read_to_vec, Bitmap, Geometry, Kind, Listed, Name, Owner, Reason, Record,
-    Refusal, Totals, Writes,
+    careful_delete, careful_put, check, crc16, delete, directory_path, entries, list,
+    make_directory, mend, owner_of, owner_table, path, put, read, read_to_vec, remove_directory,
+    Bitmap, Geometry, Kind, Listed, Name, Owner, Reason, Record, Refusal, Totals, Writes,
 };
 
 /// The geometry of most images here.
@@ -265,6 +265,81 @@ fn files_below_a_hidden_directory_are_not_changed() {
     assert_eq!(told, Ok(()));
 }
 
+/// A directory is made, has a file put into it, is not removed while the file is there, and is removed once it is empty.
+#[test]
+fn directory_is_made_and_removed() {
+    let mut image = formatted();
+    let mut owners = owner_table(16);
+    let boom = directory_path(&["BM01"]).expect("a path");
+    let log = path(&["BM01"], "LOG", 7).expect("a path");
+    let absent = refusal(15, 0);
+    assert_eq!(
+        put(GEOMETRY, &mut image, &log, b"12", &mut owners),
+        Err(absent)
+    );
+    let told = remove_directory(GEOMETRY, &mut image, &boom, &mut owners);
+    assert_eq!(told, Err(absent));
+    assert_eq!(image, formatted());
+
+    let told = make_directory(GEOMETRY, &mut image, &boom, &mut owners);
+    assert_eq!(told, Ok(()));
+    assert_eq!(
+        image[..18],
+        *b"\x0F\xAA\x00\x80\x03\x00\x00\x00BM01\x7F\x01\x00\x00\x43\x7C"
+    );
+    assert_eq!(image[32..43], *b"\x08\xAAROOT\x00\x00\x00\x27\xAC");
+    assert_eq!(owner_of(&owners, 1), record(Owner::Entry(0), 0));
+    let all: Vec<Listed> = entries(GEOMETRY, &image, &mut owners)
+        .map(|listed| listed.expect("accepted"))
+        .collect();
+    assert_eq!(all.len(), 1);
+    assert_eq!(all[0].directory_path(), Some(boom.clone()));
+    assert_eq!(all[0].path(), None);
+    assert!(!all[0].entry.is_hidden());
+
+    let again = make_directory(GEOMETRY, &mut image, &boom, &mut owners).expect_err("there");
+    assert_eq!(
+        (again, again.reason()),
+        (refusal(21, 0), Reason::AlreadyThere)
+    );
+    assert_eq!(put(GEOMETRY, &mut image, &log, b"12", &mut owners), Ok(()));
+    let full = remove_directory(GEOMETRY, &mut image, &boom, &mut owners).expect_err("a file");
+    assert_eq!((full, full.reason()), (refusal(20, 0), Reason::NotEmpty));
+    assert_eq!(delete(GEOMETRY, &mut image, &log, &mut owners), Ok(()));
+    let told = remove_directory(GEOMETRY, &mut image, &boom, &mut owners);
+    assert_eq!(told, Ok(()));
+    assert_eq!(owner_of(&owners, 1), record(Owner::Free, 0));
+    assert_eq!(image[..11], formatted()[..11]);
+}
+
+/// A hidden directory is not removed, none is made below it, and its name is taken.
+#[test]
+fn hidden_directories_stay_as_they_are() {
+    let mut image = nested();
+    let mut owners = owner_table(16);
+    let lab = directory_path(&["LAB"]).expect("a path");
+    let below = directory_path(&["LAB", "A1"]).expect("a path");
+    let new = directory_path(&["LAB", "NEW"]).expect("a path");
+    for path in [&below, &new] {
+        let told = make_directory(GEOMETRY, &mut image, path, &mut owners);
+        assert_eq!(told, Err(refusal(22, 0)));
+    }
+    let told = make_directory(GEOMETRY, &mut image, &lab, &mut owners);
+    assert_eq!(told, Err(refusal(21, 0)));
+    for path in [&lab, &below] {
+        let told = remove_directory(GEOMETRY, &mut image, path, &mut owners);
+        assert_eq!(told, Err(refusal(22, 0)));
+    }
+    let told = remove_directory(GEOMETRY, &mut image, &new, &mut owners);
+    assert_eq!(told, Err(refusal(15, 0)));
+    // A file's path is no directory's.
+    let told = make_directory(GEOMETRY, &mut image, b"NEW \x01", &mut owners);
+    assert_eq!(told, Err(refusal(14, 0)));
+    let told = remove_directory(GEOMETRY, &mut image, b"", &mut owners);
+    assert_eq!(told, Err(refusal(14, 0)));
+    assert_eq!(image, nested());
+}
+
 /// Two stamps before A.1, and one that looks like an entry before the directory LAB, which has none.
 fn stamped() -> Vec<u8> {
     let mut image = vec![0; 32 * 16];
@@ -352,6 +427,12 @@ fn fault_of_an_image_is_told_by_each_call_and_ends_the_entries() {
         Err(fault)
     );
     assert_eq!(delete(GEOMETRY, &mut image, &full, &mut owners), Err(fault));
+    for path in [&b"LAB "[..], b"NEW ", b"bad"] {
+        let told = make_directory(GEOMETRY, &mut image, path, &mut owners);
+        assert_eq!(told, Err(fault));
+        let told = remove_directory(GEOMETRY, &mut image, path, &mut owners);
+        assert_eq!(told, Err(fault));
+    }
     assert_eq!(image, before);
 }
 
@@ -384,6 +465,10 @@ fn arguments_that_do_not_fit_are_1_and_change_nothing() {
             Err(wrong)
         );
         assert_eq!(delete(geometry, &mut image, path, &mut owners), Err(wrong));
+        let told = make_directory(geometry, &mut image, &path[..4], &mut owners);
+        assert_eq!(told, Err(wrong));
+        let told = remove_directory(geometry, &mut image, &path[..4], &mut owners);
+        assert_eq!(told, Err(wrong));
         let mut all = entries(geometry, &image, &mut owners);
         assert_eq!(all.next(), Some(Err(wrong)));
         assert_eq!(all.next(), None);

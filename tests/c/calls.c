@@ -1,5 +1,5 @@
-/* Calls check, list, read, format, put, delete, careful put, careful delete, mend and the check sum as firmware calls them, with numbers and byte slices,
- * each on a stack of 16 KiB, and prints each answer and each byte lent.
+/* Calls check, list, read, format, put, delete, careful put, careful delete, mend, the making and removing of a directory and the check sum as firmware
+ * calls them, with numbers and byte slices, each on a stack of 16 KiB, and prints each answer and each byte lent.
  *
  * The argument names a file: page length and page count (4 bytes each, low byte first), then the image, which ends the file.
  * Standard input has the calls; a number is 4 bytes, low byte first:
@@ -13,11 +13,13 @@
  *   P  bytes of the owner table, bytes of the path, bytes of the file, writes allowed, then the path and the file's bytes
  *   D  bytes of the owner table, bytes of the path, writes allowed, then the path
  *   m  bytes of the owner table
+ *   n  bytes of the owner table, bytes of the path, then the path of the directory to make
+ *   x  bytes of the owner table, bytes of the path, then the path of the directory to remove
  *   k  start of the check sum, number of bytes, then the bytes
  *   s  bytes of stack to use in blocks of 1,024, to show that the limit of the stack holds
  *
  * For each call it prints the letter and the fields of the answer, then a line with the owner table, for `r` one with the output and for `f`, `p`,
- * `d`, `P`, `D` and `m` one with the image, in hexadecimal; for `k` and `s` the first line alone. The calls after an edit have the image as it left it.
+ * `d`, `P`, `D`, `m`, `n` and `x` one with the image, in hexadecimal; for `k` and `s` the first line alone. The calls after an edit have the image as it left it.
  * Owner table and output hold the byte C7 before each call. A slice of no bytes has no address. In the end it tells on standard error the most bytes
  * of stack that a call has used.
  * It ends with 1 if a call changed the path, the file's bytes, bytes next to a lent slice, or the image where it must not (c, l, r and every
@@ -217,6 +219,16 @@ static void make_mend(void)
     mended = owfs_mend(page_length, page_count, image.bytes, image.length, owners.bytes, owners.length);
 }
 
+static void make_new_directory(void)
+{
+    answer = owfs_make_directory(page_length, page_count, image.bytes, image.length, path.bytes, path.length, owners.bytes, owners.length);
+}
+
+static void make_removal(void)
+{
+    answer = owfs_remove_directory(page_length, page_count, image.bytes, image.length, path.bytes, path.length, owners.bytes, owners.length);
+}
+
 static void make_sum(void)
 {
     sum = owfs_crc16((uint16_t)argument, file.bytes, file.length);
@@ -284,7 +296,7 @@ static void after_change(uint32_t number)
     print_bytes(&image);
 }
 
-/* After a format, a put or a delete: prints its answer, the owner table and the image. */
+/* After a format, a put, a delete or the making or removing of a directory: prints its answer, the owner table and the image. */
 static void after_edit(char letter)
 {
     printf("%c %" PRIu32 " %" PRIu32 "\n", letter, answer.number, answer.page);
@@ -387,6 +399,26 @@ static void call_mend(void)
     after_change(mended.number);
 }
 
+/* n: a directory made. */
+static void call_make_directory(void)
+{
+    lend_owners();
+    read_path(length_up_to(MOST_PATH));
+    make(make_new_directory);
+    see_path();
+    after_edit('n');
+}
+
+/* x: a directory removed. */
+static void call_remove_directory(void)
+{
+    lend_owners();
+    read_path(length_up_to(MOST_PATH));
+    make(make_removal);
+    see_path();
+    after_edit('x');
+}
+
 /* k: a check sum. */
 static void call_sum(void)
 {
@@ -436,6 +468,8 @@ int main(int count, char **arguments)
         case 'P': call_careful_put(); break;
         case 'D': call_careful_delete(); break;
         case 'm': call_mend(); break;
+        case 'n': call_make_directory(); break;
+        case 'x': call_remove_directory(); break;
         case 'k': call_sum(); break;
         case 's': call_stack(); break;
         default: wrong_input("no such call");

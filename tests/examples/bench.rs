@@ -408,6 +408,47 @@ impl Bench {
         )
     }
 
+    /// Times the making of a directory in the root.
+    fn make_directory(&mut self) -> Times {
+        let (p, n) = (self.built.page_length, self.built.page_count);
+        edit_times(
+            &self.built.image,
+            |image| library::make_directory(p, n, image, b"NEW'", &mut self.owners),
+            |image| referee::make_directory(p, n, image, b"NEW'", &mut self.second_owners),
+        )
+    }
+
+    /// Times the removal of a directory that was made in the root.
+    fn remove_directory(&mut self) -> Times {
+        let (p, n) = (self.built.page_length, self.built.page_count);
+        let mut made = self.built.image.clone();
+        let told = referee::make_directory(p, n, &mut made, b"NEW'", &mut self.owners);
+        assert_eq!(told.number, 0);
+        edit_times(
+            &made,
+            |image| library::remove_directory(p, n, image, b"NEW'", &mut self.owners),
+            |image| referee::remove_directory(p, n, image, b"NEW'", &mut self.second_owners),
+        )
+    }
+
+    /// Times and prints a directory made and removed, each beside one check of its image. If the image is of directories, one file less may leave a
+    /// page too few; then there is nothing to time.
+    fn print_directories(&mut self) {
+        let mut bench = self.without_last_file();
+        let (p, n) = (bench.built.page_length, bench.built.page_count);
+        let mut image = bench.built.image.clone();
+        if referee::make_directory(p, n, &mut image, b"NEW'", &mut bench.owners).number != 0 {
+            return println!("no room for a directory, {}", bench.what);
+        }
+        let check = bench.check();
+        let make = bench.make_directory();
+        make.print("making of a directory", &bench.what);
+        make.print_over_check(&check, "making of a directory", &bench.what);
+        let remove = bench.remove_directory();
+        remove.print("removal of a directory", &bench.what);
+        remove.print_over_check(&check, "removal of a directory", &bench.what);
+    }
+
     /// Times a delete of the last file.
     fn delete(&mut self) -> Times {
         let (p, n) = (self.built.page_length, self.built.page_count);
@@ -470,7 +511,7 @@ fn print_method() {
          and an output of the file's length, all written before."
     );
     println!(
-        "Edits: each format, put, delete, careful put, careful delete and mend gets a fresh copy of the image; making the copy is part of neither time. \
+        "Edits: each format, put, delete, careful put, careful delete, mend, making and removal of a directory gets a fresh copy of the image; making the copy is part of neither time. \
          Both programs leave the same image. A put is of a file as long as the last, of other bytes; its time over one check's \
          is that of the same image in the same run."
     );
@@ -500,6 +541,7 @@ fn main() {
             bench.list().print("list of the last entry", &bench.what);
             bench.read().print("read of the last file", &bench.what);
             bench.print_puts(&check);
+            bench.print_directories();
             bench.delete().print("delete of the last file", &bench.what);
             let careful = bench.careful_delete();
             careful.print("careful delete of the last file", &bench.what);

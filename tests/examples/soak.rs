@@ -35,7 +35,7 @@ const MINUTES: f64 = 10.0;
 const REPORT: Duration = Duration::from_secs(60);
 
 /// The calls that are counted.
-const CALLS: [&str; 9] = [
+const CALLS: [&str; 11] = [
     "check",
     "list",
     "read",
@@ -45,6 +45,8 @@ const CALLS: [&str; 9] = [
     "careful put",
     "careful delete",
     "mend",
+    "make directory",
+    "remove directory",
 ];
 
 /// What was done so far.
@@ -251,7 +253,7 @@ impl Soak {
         );
         println!("answers by call, each number with its count:");
         for call in CALLS {
-            println!("  {call:<16}{}", self.numbers(call));
+            println!("  {call:<18}{}", self.numbers(call));
         }
         println!("program list, 0 or the number refused:");
         println!("  {}{}", self.numbers("accepted"), self.numbers("refused"));

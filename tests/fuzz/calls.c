@@ -15,6 +15,8 @@
  *     is accepted and empty; the owner table is the one that a check leaves
  *   - a careful put or delete makes no more writes than allowed, and all of them if any are left; a check of what it leaves finds no fault but marks,
  *     which a mend clears; then the file is as before or as new, and as new if nothing was left
+ *   - a directory that is made is accepted, has no entries, can be removed, and cannot be made again; one that is removed is absent and can be made
+ *     again; making and removing agree on what a path leads to, and a file may be put into a directory exactly if its names lead to one
  *   - careful calls refuse what the plain ones refuse, and besides only a put for which there is no room; a mend refuses what a check refuses, but
  *     for marks that no chain has
  *   - format is refused with 4 exactly if a local bitmap is asked for with more than 32 pages; no image of more has one and is accepted
@@ -33,7 +35,7 @@ enum { BEFORE = 0xC7, MARGIN = 64 };
 
 /* Numbers of answers. */
 enum { DONE = 0, ARGUMENTS = 1, CONTROL = 4, LAST_FAULT = 13, MARKS = 13, MALFORMED = 14, ABSENT = 15, READ_ONLY = 16, NO_ROOM = 17, TOO_SHORT = 18,
-       HIDDEN = 22 };
+       NOT_EMPTY = 20, ALREADY_THERE = 21, HIDDEN = 22 };
 
 /* Memory that is lent: a slice just before a page that may not be touched. */
 struct lent {
@@ -117,7 +119,8 @@ static void see_owners(uint32_t number, int is_format)
 static void after_call(enum kind kind, uint32_t number, uint32_t page)
 {
     meet(kind, number * PAGES_TOLD + (page < PAGES_TOLD ? page : PAGES_TOLD - 1));
-    demand(number <= TOO_SHORT, "a number of the table");
+    demand(number <= TOO_SHORT || (number >= NOT_EMPTY && number <= HIDDEN), "a number of the table");
+    demand(number <= LAST_FAULT || page == 0, "page 0 of a number above 13");
     demand(number != DONE || page == 0, "page 0 if done");
     const struct lent *every[] = {&image, &owners, &out, &path, &file};
     for (size_t place = 0; place < sizeof every / sizeof *every; place++)
@@ -293,6 +296,77 @@ static uint32_t see_delete(struct owfs_totals before)
     return told.number;
 }
 
+/* Makes or removes a directory in an image, by the front of the path that is whole names, or by the whole path. */
+static struct owfs_answer edit_directory(const uint8_t *bytes, int is_make, size_t path_length)
+{
+    lend_all(bytes);
+    if (is_make)
+        return owfs_make_directory(arguments.page_length, arguments.page_count, image.bytes, image.length, path.bytes, path_length, owners.bytes,
+                                   owners.length);
+    return owfs_remove_directory(arguments.page_length, arguments.page_count, image.bytes, image.length, path.bytes, path_length, owners.bytes,
+                                 owners.length);
+}
+
+/* A directory made, and what it leaves; its number. */
+static uint32_t see_make(struct owfs_totals before, size_t path_length)
+{
+    static uint8_t edited[MOST_IMAGE];
+    struct owfs_answer told = edit_directory(dump.image, 1, path_length);
+    struct owfs_totals after = after_edit(DIRECTORY_MADE, told, edited);
+    see_fault(before, told);
+    if (told.number != DONE)
+        return told.number;
+    demand(after.files == before.files && after.directories == before.directories + 1, "one directory more");
+    demand(after.used == before.used + 1 || after.used == before.used + 2, "a page for it, and perhaps one for its entry");
+    demand(edit_directory(edited, 1, path_length).number == ALREADY_THERE, "a directory that was made is there");
+    demand(edit_directory(edited, 0, path_length).number == DONE, "a directory that was made is empty");
+    struct owfs_totals removed = check(memcpy(edited, image.bytes, image.length));
+    demand(removed.number == DONE && removed.directories == before.directories && removed.used + 1 == after.used, "its page is free again");
+    return told.number;
+}
+
+/* A directory removed, and what it leaves; its number. */
+static uint32_t see_remove(struct owfs_totals before, size_t path_length)
+{
+    static uint8_t edited[MOST_IMAGE];
+    struct owfs_answer told = edit_directory(dump.image, 0, path_length);
+    struct owfs_totals after = after_edit(DIRECTORY_REMOVED, told, edited);
+    see_fault(before, told);
+    if (told.number != DONE)
+        return told.number;
+    demand(after.files == before.files && after.directories + 1 == before.directories, "one directory less");
+    demand(after.used < before.used, "pages are free");
+    demand(edit_directory(edited, 0, path_length).number == ABSENT, "a directory that was removed is absent");
+    demand(edit_directory(edited, 1, path_length).number == DONE, "a directory that was removed can be made again");
+    return told.number;
+}
+
+/* A directory made and removed by the path as it is, and by its whole names; they agree on what the names lead to. */
+static void see_directories(struct owfs_totals before, uint32_t put)
+{
+    size_t names = arguments.path_length / 4 * 4;
+    if (names < arguments.path_length) {
+        uint32_t make = see_make(before, arguments.path_length), remove = see_remove(before, arguments.path_length);
+        demand(before.number != DONE || (make == MALFORMED && remove == MALFORMED), "a path that is not whole names");
+    }
+    uint32_t make = see_make(before, names), remove = see_remove(before, names);
+    if (before.number != DONE)
+        return;
+    demand((make == MALFORMED) == (remove == MALFORMED), "a malformed path of a directory");
+    demand(make != ALREADY_THERE || remove == DONE || remove == NOT_EMPTY || remove == HIDDEN, "a directory that is there");
+    demand(remove != DONE || make == ALREADY_THERE, "a directory that can be removed is there");
+    demand(remove != NOT_EMPTY || make == ALREADY_THERE, "a directory that has entries is there");
+    demand(make != ABSENT || remove == ABSENT, "a directory whose parent is absent");
+    demand(make != HIDDEN || remove == HIDDEN || remove == ABSENT, "a directory below a hidden one");
+    demand(make != DONE || remove == ABSENT, "a new directory");
+    /* The names before a file's, as a path of a directory: they lead to one exactly if a put does not miss it. */
+    if (put != MALFORMED && names > 4) {
+        uint32_t parent = edit_directory(dump.image, 0, names - 4).number;
+        demand((put == ABSENT) == (parent == ABSENT), "a directory that a put misses");
+        demand((put == HIDDEN) == (parent == HIDDEN), "a directory that hides a put");
+    }
+}
+
 /* A format, and what it leaves. */
 static void see_format(struct owfs_totals before)
 {
@@ -453,6 +527,7 @@ static void make_calls(void)
     see_mend(dump.image, totals, mended);
     see_careful_put(totals, put);
     see_careful_delete(totals, deleted);
+    see_directories(totals, put);
     if (totals.number == DONE)
         see_path(length.number, put, deleted);
     else

@@ -254,6 +254,60 @@ pub fn delete(
     told
 }
 
+/// Makes a directory without entries.
+pub fn make_directory(
+    page_length: u32,
+    page_count: u32,
+    image: &mut [u8],
+    path: &[u8],
+    owners: &mut [u8],
+) -> Answer {
+    let (p, n, table) = (page_length, page_count, owners.len());
+    let mut lent_path = Lent::of(path);
+    let told = edit(
+        format_args!(
+            "making of the directory {path:?}, {n} pages of {p} bytes, {table} owner bytes"
+        ),
+        image,
+        owners,
+        |image, owners| library::make_directory(p, n, image, lent_path.slice(), owners),
+        |image, owners| referee::make_directory(p, n, image, path, owners),
+    );
+    lent_path.demand(
+        "path",
+        format_args!("making of the directory {path:?}"),
+        path,
+    );
+    told
+}
+
+/// Removes a directory that has no entries.
+pub fn remove_directory(
+    page_length: u32,
+    page_count: u32,
+    image: &mut [u8],
+    path: &[u8],
+    owners: &mut [u8],
+) -> Answer {
+    let (p, n, table) = (page_length, page_count, owners.len());
+    let mut lent_path = Lent::of(path);
+    let told = edit(
+        format_args!(
+            "removal of the directory {path:?}, {n} pages of {p} bytes, {table} owner bytes"
+        ),
+        image,
+        owners,
+        |image, owners| library::remove_directory(p, n, image, lent_path.slice(), owners),
+        |image, owners| referee::remove_directory(p, n, image, path, owners),
+    );
+    lent_path.demand(
+        "path",
+        format_args!("removal of the directory {path:?}"),
+        path,
+    );
+    told
+}
+
 /// Makes or replaces a file by at most `allowed` page writes.
 pub fn careful_put(
     page_length: u32,

@@ -67,6 +67,28 @@ pub fn delete(button: &mut Button, owner_bytes: usize, path: &[u8], rng: &mut Rn
     agreed::delete(p, n, image, path, &mut rng.bytes(owner_bytes))
 }
 
+/// Makes a directory without entries.
+pub fn make_directory(
+    button: &mut Button,
+    owner_bytes: usize,
+    path: &[u8],
+    rng: &mut Rng,
+) -> Answer {
+    let (p, n, image) = (button.page_length, button.page_count, &mut button.image);
+    agreed::make_directory(p, n, image, path, &mut rng.bytes(owner_bytes))
+}
+
+/// Removes a directory that has no entries.
+pub fn remove_directory(
+    button: &mut Button,
+    owner_bytes: usize,
+    path: &[u8],
+    rng: &mut Rng,
+) -> Answer {
+    let (p, n, image) = (button.page_length, button.page_count, &mut button.image);
+    agreed::remove_directory(p, n, image, path, &mut rng.bytes(owner_bytes))
+}
+
 /// Makes or replaces a file by at most `allowed` page writes.
 pub fn careful_put(
     button: &mut Button,

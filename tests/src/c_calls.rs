@@ -44,6 +44,14 @@ pub enum Call {
     Mend {
         owner_bytes: usize,
     },
+    MakeDirectory {
+        owner_bytes: usize,
+        path: Vec<u8>,
+    },
+    RemoveDirectory {
+        owner_bytes: usize,
+        path: Vec<u8>,
+    },
 }
 
 impl Call {
@@ -58,6 +66,8 @@ impl Call {
             | Call::Delete { owner_bytes, .. }
             | Call::CarefulPut { owner_bytes, .. }
             | Call::CarefulDelete { owner_bytes, .. }
+            | Call::MakeDirectory { owner_bytes, .. }
+            | Call::RemoveDirectory { owner_bytes, .. }
             | Call::Mend { owner_bytes } => *owner_bytes,
         }
     }
@@ -69,7 +79,9 @@ impl Call {
             | Call::Put { path, .. }
             | Call::Delete { path, .. }
             | Call::CarefulPut { path, .. }
-            | Call::CarefulDelete { path, .. } => path,
+            | Call::CarefulDelete { path, .. }
+            | Call::MakeDirectory { path, .. }
+            | Call::RemoveDirectory { path, .. } => path,
             _ => &[],
         }
     }
@@ -109,6 +121,8 @@ impl Call {
             Call::CarefulPut { allowed, .. } => request(b'P', &[owners, path, file, allowed]),
             Call::CarefulDelete { allowed, .. } => request(b'D', &[owners, path, allowed]),
             Call::Mend { .. } => request(b'm', &[owners]),
+            Call::MakeDirectory { .. } => request(b'n', &[owners, path]),
+            Call::RemoveDirectory { .. } => request(b'x', &[owners, path]),
         };
         [&request, self.path(), self.file()].concat()
     }
@@ -148,6 +162,12 @@ impl Call {
                 careful_line('D', told)
             }
             Call::Mend { .. } => mend_line(referee::mend(p, n, image, owners)),
+            Call::MakeDirectory { .. } => {
+                edit_line('n', referee::make_directory(p, n, image, path, owners))
+            }
+            Call::RemoveDirectory { .. } => {
+                edit_line('x', referee::remove_directory(p, n, image, path, owners))
+            }
         }
     }
 }
@@ -178,7 +198,7 @@ fn read_line(told: Length) -> String {
     line('r', told.number, &[told.page, told.length])
 }
 
-/// The line of a format, a put or a delete.
+/// The line of a format, a put, a delete or the making or removing of a directory.
 fn edit_line(letter: char, told: Answer) -> String {
     line(letter, told.number, &[told.page])
 }

@@ -1,13 +1,15 @@
-//! Long runs of calls on one image: the library and the second program format, put, delete, check, list and read alike, after each other's edits;
-//! careful puts and deletes are made too, some of them stopped and mended.
+//! Long runs of calls on one image: the library and the second program format, put, delete, make and remove directories, check, list and read alike,
+//! after each other's edits; careful puts and deletes are made too, some of them stopped and mended.
 //! Every answer and every lent byte is compared, and each is known by construction: the image has a plan, which the edits change.
 
-use crate::generators::files;
+use crate::generators::{files, random_directory_path, subdirectories};
 use crate::plans::{
-    directories, formatted_plan, is_hidden, may_be_local, overlaid, plan_with, plan_without, Room,
+    directories, formatted_plan, geometry, is_hidden, may_be_local, overlaid, page_with_space,
+    plan_with, plan_with_directory, plan_without, plan_without_directory, Room,
 };
 use crate::puts::{
-    careful_bytes, count_room, done_features, labelled_path, path_in, random_bytes, tight_bytes,
+    careful_bytes, count_room, done_features, labelled_path, make_features, path_in, random_bytes,
+    tight_bytes,
 };
 use crate::stops::{careful_edit, Careful, Edit};
 use crate::trials::random_allowed;
@@ -124,7 +126,8 @@ impl<'a> Run<'a> {
         self.put_bytes(path, &bytes);
     }
 
-    /// Puts of small files with both until a directory must grow, then two that have just enough pages, or one too few.
+    /// Puts of small files with both until a directory must grow, then perhaps a directory made there, then two puts that have just enough pages, or one
+    /// too few.
     fn crowd(&mut self) {
         let directories = directories(&self.plan);
         let names = directories[self.rng.below(directories.len())].0.clone();
@@ -136,6 +139,9 @@ impl<'a> Run<'a> {
                 }
                 _ => break,
             }
+        }
+        if self.rng.chance(50) {
+            self.make_directory(&[names.as_slice(), b"CROW"].concat());
         }
         for _ in 0..2 {
             let path = path_in(&names, self.rng);
@@ -224,6 +230,114 @@ impl<'a> Run<'a> {
         self.check();
     }
 
+    /// A path to make a directory at: most often of one of a few names in a directory that is there, which often has no space for an entry.
+    fn new_directory(&mut self) -> Vec<u8> {
+        if self.rng.chance(25) {
+            return random_directory_path(&self.built, self.rng);
+        }
+        let mut parents = directories(&self.plan);
+        if self.rng.chance(40) {
+            let sizes = geometry(self.plan.page_length, self.plan.page_count);
+            let all = parents.clone().into_iter();
+            let full: Vec<_> = all
+                .filter(|(_, directory)| page_with_space(&sizes, directory).is_none())
+                .collect();
+            if !full.is_empty() {
+                parents = full;
+            }
+        }
+        let mut path = parents[self.rng.below(parents.len())].0.clone();
+        if self.rng.chance(5) {
+            path.extend(*b"NONE");
+        }
+        path.extend([b'A' + self.rng.below(6) as u8, b'D', b' ', b' ']);
+        path
+    }
+
+    /// The path of a directory that is there, often of one without entries; else any.
+    fn old_directory(&mut self) -> Vec<u8> {
+        let all = subdirectories(&self.built).into_iter();
+        let mut paths: Vec<Vec<u8>> = all.map(|entry| entry.path.clone()).collect();
+        if self.rng.chance(60) {
+            let is_removed = |path: &Vec<u8>| plan_without_directory(&self.plan, path).is_ok();
+            let removed: Vec<Vec<u8>> = paths
+                .iter()
+                .filter(|path| is_removed(path))
+                .cloned()
+                .collect();
+            if !removed.is_empty() {
+                paths = removed;
+            }
+        }
+        match self.rng.pick(&paths) {
+            Some(path) if self.rng.chance(85) => path.clone(),
+            _ => self.new_directory(),
+        }
+    }
+
+    /// A directory made with both.
+    fn make_directory(&mut self, path: &[u8]) {
+        let before = self.button.clone();
+        let table = self.table();
+        let told = both::make_directory(&mut self.button, table, path, self.rng);
+        self.tally.add(format!("make directory {}", told.number));
+        if let Ok(room) = Room::of_directory(&self.plan, path) {
+            for label in make_features(&room) {
+                self.tally.add(format!("{label}: {}", told.number));
+            }
+        }
+        let plan = match plan_with_directory(&self.plan, path) {
+            Ok(plan) => plan,
+            Err(number) => return assert_eq!(told, answer(number, 0), "known by construction"),
+        };
+        assert_eq!(told, answer(0, 0), "known by construction");
+        if path.len() == 32 {
+            self.tally.add("directory made at level eight");
+        }
+        self.edited(&before, plan);
+    }
+
+    /// A directory removed with both.
+    fn remove_directory(&mut self, path: &[u8]) {
+        let before = self.button.clone();
+        let table = self.table();
+        let told = both::remove_directory(&mut self.button, table, path, self.rng);
+        self.tally.add(format!("remove directory {}", told.number));
+        let plan = match plan_without_directory(&self.plan, path) {
+            Ok(plan) => plan,
+            Err(number) => return assert_eq!(told, answer(number, 0), "known by construction"),
+        };
+        assert_eq!(told, answer(0, 0), "known by construction");
+        let directories = subdirectories(&self.built);
+        let removed = directories.iter().find(|entry| entry.path == path);
+        let removed = removed.expect("the plan has the directory");
+        if removed.stamps > 0 {
+            self.tally.add("directory with stamps removed");
+        }
+        if self.built.chains[removed.chain].pages.len() > 1 {
+            self.tally.add("directory of several pages removed");
+        }
+        self.edited(&before, plan);
+    }
+
+    /// A directory with both that has files put into it until it has several pages, or there is no room, and loses them again; then it is removed.
+    fn grown_directory(&mut self) {
+        let path = self.new_directory();
+        self.make_directory(&path);
+        let mut files = Vec::new();
+        for _ in 0..self.rng.between(4, 40) {
+            let file = path_in(&path, self.rng);
+            self.put_bytes(&file, b"");
+            files.push(file);
+        }
+        self.remove_directory(&path);
+        self.rng.shuffle(&mut files);
+        for file in files {
+            self.delete(&file);
+        }
+        self.remove_directory(&path);
+    }
+
     /// A mend with both, after a careful edit that was stopped.
     fn mend(&mut self) {
         let table = self.table();
@@ -297,7 +411,7 @@ impl<'a> Run<'a> {
             0 => self.file_path(),
             _ => self.path(),
         };
-        match self.rng.below(200) {
+        match self.rng.below(240) {
             0..=74 => self.put(&path),
             75..=119 => self.delete(&path),
             120..=143 => self.careful(&path),
@@ -311,11 +425,20 @@ impl<'a> Run<'a> {
                 self.format(local);
             }
             198 if self.rng.chance(30) => self.format(0),
+            200..=219 => {
+                let path = self.new_directory();
+                self.make_directory(&path);
+            }
+            220..=237 => {
+                let path = self.old_directory();
+                self.remove_directory(&path);
+            }
+            238 => self.grown_directory(),
             _ => self.check(),
         }
     }
 
-    /// So many random calls, then a read and a delete of every file that is left.
+    /// So many random calls, then a read and a delete of every file that is left, and a removal of every directory, the deepest first.
     pub fn run(&mut self, steps: usize) {
         self.check();
         for _ in 0..steps {
@@ -332,5 +455,12 @@ impl<'a> Run<'a> {
         let mut left = files(&self.built).into_iter();
         let is_kept = |path: &[u8]| is_hidden(&self.plan, path);
         assert!(left.all(|file| file.listing.attribute == 1 || is_kept(&file.path)));
+        let left = subdirectories(&self.built).into_iter();
+        let mut paths: Vec<Vec<u8>> = left.map(|entry| entry.path.clone()).collect();
+        paths.sort_by_key(|path| usize::MAX - path.len());
+        for path in paths {
+            self.remove_directory(&path);
+        }
+        self.check();
     }
 }

@@ -636,7 +636,7 @@ pub fn files(built: &Built) -> Vec<&BuiltEntry> {
 /// A path for a built image: of a file that is there, of something near it, or of any bytes.
 pub fn random_path(built: &Built, rng: &mut Rng) -> Wanted {
     let files = files(built);
-    let directories = entries_of(built, ChainOf::Directory);
+    let directories = subdirectories(built);
     if rng.chance(25) {
         return any_path(rng);
     }
@@ -644,6 +644,50 @@ pub fn random_path(built: &Built, rng: &mut Rng) -> Wanted {
         (Some(file), _) if rng.chance(75) => path_near_file(built, file, rng),
         (_, Some(directory)) => path_near_directory(directory, rng),
         _ => any_path(rng),
+    }
+}
+
+/// The directories of a built image in walk order, the root left out.
+pub fn subdirectories(built: &Built) -> Vec<&BuiltEntry> {
+    entries_of(built, ChainOf::Directory)
+}
+
+/// The path of a directory for a built image: of one that is there, of a new one, of a file, of something near them, or of any bytes.
+pub fn random_directory_path(built: &Built, rng: &mut Rng) -> Vec<u8> {
+    let directories = subdirectories(built);
+    let there = rng.pick(&directories).map(|entry| entry.path.clone());
+    match rng.below(20) {
+        0..=5 => there.unwrap_or_default(),
+        6..=10 => [there.unwrap_or_default(), random_name(rng).to_vec()].concat(),
+        11 | 12 => random_name(rng).to_vec(),
+        13 | 14 => match rng.pick(&files(built)) {
+            // A file's name, which a directory may have too.
+            Some(file) => file.path[..file.path.len() - 1].to_vec(),
+            None => random_name(rng).to_vec(),
+        },
+        15 => [
+            there.unwrap_or_default(),
+            b"NONE".to_vec(),
+            random_name(rng).to_vec(),
+        ]
+        .concat(),
+        16 => {
+            let mut path = there.unwrap_or_default();
+            if !path.is_empty() {
+                let place = rng.below(path.len());
+                path[place] ^= 1 << rng.below(8);
+            }
+            path
+        }
+        17 => {
+            let mut path = there.unwrap_or_default();
+            path.truncate(rng.below(path.len() + 1));
+            path
+        }
+        18 => (0..rng.between(1, 10))
+            .flat_map(|_| random_name(rng))
+            .collect(),
+        _ => random_path(built, rng).path,
     }
 }
 

@@ -7,13 +7,15 @@
 //! `generators` has what they are called with, `trials` makes the calls with generated images, `edit_runs` makes long runs of calls on one image,
 //! `plans` works out what edits leave, `puts` has what puts are called with and what they meet, `write_orders` works out the page writes of careful
 //! edits, `stops` stops them after each, `trees` has small trees, `dumps` makes dumps and runs the program `list`, `c_programs` compiles and runs the C
-//! programs of `tests/c`, `c_calls` has the calls that one of them makes, `declarations` reads the header and what must agree with it.
+//! programs of `tests/c`, `c_calls` has the calls that one of them makes, `declarations` reads the header and what must agree with it,
+//! `directory_edits` makes and removes directories by one of the programs alone.
 
 pub mod agreed;
 pub mod both;
 pub mod c_calls;
 pub mod c_programs;
 pub mod declarations;
+pub mod directory_edits;
 pub mod dumps;
 pub mod edit_runs;
 pub mod generators;
@@ -326,6 +328,20 @@ impl Button {
         })
     }
 
+    /// Make a directory, with the owner table; a refusal changes nothing.
+    pub fn make_directory(&mut self, path: &[u8]) -> (Answer, Vec<Record>) {
+        self.edit(|page_length, page_count, image, table| {
+            agreed::make_directory(page_length, page_count, image, path, table)
+        })
+    }
+
+    /// Remove a directory, with the owner table; a refusal changes nothing.
+    pub fn remove_directory(&mut self, path: &[u8]) -> (Answer, Vec<Record>) {
+        self.edit(|page_length, page_count, image, table| {
+            agreed::remove_directory(page_length, page_count, image, path, table)
+        })
+    }
+
     /// Careful put with so many writes allowed, with the owner table; a refusal changes nothing.
     pub fn careful_put(
         &mut self,
@@ -406,6 +422,10 @@ impl Button {
         assert_eq!(self.clone().delete(b"A   \x01").0, refusal);
         // A malformed path is met after the image's fault.
         assert_eq!(self.clone().put(b"bad", b"x").0, refusal);
+        for path in [&b"A   "[..], b"bad"] {
+            assert_eq!(self.clone().make_directory(path).0, refusal);
+            assert_eq!(self.clone().remove_directory(path).0, refusal);
+        }
         let writes = no_writes(number, page);
         for allowed in [0, 1, u32::MAX] {
             let put = self.clone().careful_put(b"A   \x01", b"x", allowed).0;

@@ -109,6 +109,30 @@ pub fn delete(
     answer(raw::delete(page_length, page_count, image, path, owners))
 }
 
+/// Makes a directory without entries.
+pub fn make_directory(
+    page_length: u32,
+    page_count: u32,
+    image: &mut [u8],
+    path: &[u8],
+    owners: &mut [u8],
+) -> Answer {
+    let (p, n) = (page_length, page_count);
+    answer(raw::make_directory(p, n, image, path, owners))
+}
+
+/// Removes a directory that has no entries.
+pub fn remove_directory(
+    page_length: u32,
+    page_count: u32,
+    image: &mut [u8],
+    path: &[u8],
+    owners: &mut [u8],
+) -> Answer {
+    let (p, n) = (page_length, page_count);
+    answer(raw::remove_directory(p, n, image, path, owners))
+}
+
 /// Makes or replaces a file by at most `allowed` page writes.
 pub fn careful_put(
     page_length: u32,

@@ -1,4 +1,5 @@
-//! What format, put and delete make of an image, worked out on its plan: the answer and every byte afterwards are known by construction.
+//! What format, put, delete, and making and removing a directory make of an image, worked out on its plan: the answer and every byte afterwards are
+//! known by construction.
 
 use crate::Button;
 use referee::builder::plan::{
@@ -49,6 +50,11 @@ pub fn is_path(path: &[u8]) -> bool {
     };
     let whole = names.len() % 4 == 0 && (4..=36).contains(&names.len());
     whole && extension <= 99 && names.chunks(4).all(is_name)
+}
+
+/// Whether the path of a directory is well formed: one to eight names, four bytes each.
+pub fn is_directory_path(path: &[u8]) -> bool {
+    path.len().is_multiple_of(4) && (4..=32).contains(&path.len()) && path.chunks(4).all(is_name)
 }
 
 /// Whether four bytes are a name: one to four allowed bytes, then blanks.
@@ -115,6 +121,19 @@ pub fn file_place(directory: &DirectoryPlan, name: &[u8]) -> Option<usize> {
         Item::File(file) => file.name == name[..4] && file.extension == name[4],
         Item::Directory { .. } => false,
     })
+}
+
+/// The place of a directory among another's entries, by its name.
+fn directory_place(directory: &DirectoryPlan, name: &[u8]) -> Option<usize> {
+    directory.items.iter().position(|item| match item {
+        Item::Directory { name: own, .. } => own == name,
+        Item::File(_) => false,
+    })
+}
+
+/// The names that lead to a directory's parent, and the four bytes of its own name.
+pub fn split_directory(path: &[u8]) -> (&[u8], &[u8]) {
+    path.split_at(path.len() - 4)
 }
 
 /// The names of a path's directories, and the five bytes of its file's name and extension number.
@@ -217,6 +236,32 @@ impl Room {
         })
     }
 
+    /// What making a directory at this path meets in an image of this plan; or the number of its refusal: 14, 15, 22 or 21, in this order. It is
+    /// what a put of a new file without bytes would meet.
+    pub fn of_directory(plan: &ImagePlan, path: &[u8]) -> Result<Room, u32> {
+        if !is_directory_path(path) {
+            return Err(14);
+        }
+        let (names, name) = split_directory(path);
+        let parent = directory(&plan.root, names).ok_or(15_u32)?;
+        if is_any_hidden(&plan.root, names) {
+            return Err(22);
+        }
+        if directory_place(parent, name).is_some() {
+            return Err(21);
+        }
+        let geometry = geometry(plan.page_length, plan.page_count);
+        Ok(Room {
+            geometry,
+            counts: parent.slots(),
+            stamps: parent.stamps.values().map(Vec::len).sum(),
+            space: page_with_space(&geometry, parent),
+            old: None,
+            old_stamps: 0,
+            free: free_pages(plan),
+        })
+    }
+
     /// What a careful put of this path meets: no page of the replaced file may be taken.
     pub fn careful(plan: &ImagePlan, path: &[u8]) -> Result<Room, u32> {
         Ok(Room::of(plan, path)?.beside_the_old(plan))
@@ -292,10 +337,79 @@ pub fn plan_with_room(
         return Ok(plan);
     }
     let page = room.space.unwrap_or(directory.pages.len() - 1);
+    insert_at_end(directory, page, file);
+    Ok(plan)
+}
+
+/// Inserts an entry at the end of a directory's page with this place in its chain.
+fn insert_at_end(directory: &mut DirectoryPlan, page: usize, item: Item) {
     directory.counts[page] += 1;
     let place: usize = directory.counts[..=page].iter().sum();
-    directory.items.insert(place - 1, file);
+    directory.items.insert(place - 1, item);
+}
+
+/// The plan after a directory is made, or the number of the refusal, 14, 15, 22, 21 or 17. Its entry goes where that of a new file would go. If the
+/// parent must grow, the lowest free page joins it, and the directory has the next; else the directory has the lowest.
+pub fn plan_with_directory(plan: &ImagePlan, path: &[u8]) -> Result<ImagePlan, u32> {
+    let room = Room::of_directory(plan, path)?;
+    if room.pages_needed(0) > room.free.len() {
+        return Err(17);
+    }
+    let mut plan = plan.clone();
+    let (names, name) = split_directory(path);
+    let parent = directory_mut(&mut plan.root, names).ok_or(15_u32)?;
+    let mut free = room.free.iter().copied();
+    if room.grows() {
+        parent.pages.extend(free.next());
+        parent.counts.push(0);
+    }
+    let made = Item::Directory {
+        name: [name[0], name[1], name[2], name[3]],
+        hidden: false,
+        directory: DirectoryPlan {
+            pages: free.take(1).collect(),
+            counts: vec![0],
+            ..DirectoryPlan::default()
+        },
+    };
+    let page = room.space.unwrap_or(parent.pages.len() - 1);
+    insert_at_end(parent, page, made);
     Ok(plan)
+}
+
+/// The plan after a directory is removed with its stamps, or the number of the refusal, 14, 15, 22 or 20. The page that held its entry has one less.
+pub fn plan_without_directory(plan: &ImagePlan, path: &[u8]) -> Result<ImagePlan, u32> {
+    if !is_directory_path(path) {
+        return Err(14);
+    }
+    let removed = directory(&plan.root, path).ok_or(15_u32)?;
+    if is_any_hidden(&plan.root, path) {
+        return Err(22);
+    }
+    if !removed.items.is_empty() {
+        return Err(20);
+    }
+    let mut plan = plan.clone();
+    let (names, name) = split_directory(path);
+    let parent = directory_mut(&mut plan.root, names).ok_or(15_u32)?;
+    let place = directory_place(parent, name).ok_or(15_u32)?;
+    remove_item(parent, place).ok_or(15_u32)?;
+    Ok(plan)
+}
+
+/// Removes the entry with this place in a directory, and its stamps; the page that held it has one less.
+fn remove_item(directory: &mut DirectoryPlan, place: usize) -> Option<()> {
+    let removed = directory.items.remove(place);
+    directory.stamps.remove(&removed.key());
+    let mut place = place;
+    for count in &mut directory.counts {
+        if place < *count {
+            *count -= 1;
+            return Some(());
+        }
+        place -= *count;
+    }
+    None
 }
 
 /// The plan without the file of this path and its stamps; none if there is no such file. The page that held its entry has one less.
@@ -303,17 +417,9 @@ pub fn plan_without(plan: &ImagePlan, path: &[u8]) -> Option<ImagePlan> {
     let mut plan = plan.clone();
     let (names, name) = split(path);
     let directory = directory_mut(&mut plan.root, names)?;
-    let mut place = file_place(directory, name)?;
-    let removed = directory.items.remove(place);
-    directory.stamps.remove(&removed.key());
-    for count in &mut directory.counts {
-        if place < *count {
-            *count -= 1;
-            return Some(plan);
-        }
-        place -= *count;
-    }
-    None
+    let place = file_place(directory, name)?;
+    remove_item(directory, place)?;
+    Some(plan)
 }
 
 /// An image with the packets of another laid over it: each page in use there has its packet, every other byte stays.

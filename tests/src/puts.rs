@@ -308,6 +308,32 @@ pub fn room_features(room: &Room, bytes: &[u8]) -> Vec<String> {
     labels
 }
 
+/// What the room for a new directory is like.
+pub fn make_features(room: &Room) -> Vec<String> {
+    let labels = room_features(room, b"").into_iter();
+    let of_make = |label: String| {
+        let label = label.replace("directory must grow", "parent must grow");
+        label.replace("new file", "new directory")
+    };
+    labels.map(of_make).collect()
+}
+
+/// The labels of the pages that are free and needed for a new directory, with the answers of the makes.
+pub const MAKE_ROOM: [&str; 12] = [
+    "new directory, pages to spare: 0",
+    "new directory, just enough pages: 0",
+    "new directory, one page too few: 17",
+    "parent must grow, pages to spare: 0",
+    "parent must grow, just enough pages: 0",
+    "parent must grow, one page too few: 17",
+    "parent must grow, more pages too few: 17",
+    "every page in use, new directory: 17",
+    "every page in use, parent must grow: 17",
+    "one page free, new directory: 0",
+    "one page free, parent must grow: 17",
+    "new directory, stamps in its directory: 0",
+];
+
 /// What the stamps in the directory of a put are to it, if there are any.
 pub fn stamp_feature(room: &Room) -> Option<&'static str> {
     match (&room.old, room.old_stamps) {

@@ -2,7 +2,7 @@
 
 use crate::generators::{
     counted_owner_bytes, files, is_enough, labelled_local, labelled_out_bytes, labelled_position,
-    random_path, Case, Made, Wanted,
+    random_directory_path, random_path, Case, Made, Wanted,
 };
 use crate::plans::{formatted_plan, may_be_local, overlaid};
 use crate::{answer, both, mended, not_mended, table_bytes, Button, Tally};
@@ -18,7 +18,8 @@ pub struct Trial<'a> {
 }
 
 impl Trial<'_> {
-    /// Every call: those that only read, a format, a mend, and some puts and deletes, plain and careful, each of a copy of the image.
+    /// Every call: those that only read, a format, a mend, some puts and deletes, plain and careful, and some directories made and removed, each of a
+    /// copy of the image.
     pub fn all_calls(&mut self) {
         self.reads();
         self.format();
@@ -28,6 +29,8 @@ impl Trial<'_> {
             self.delete();
             self.careful_put();
             self.careful_delete();
+            self.make_directory();
+            self.remove_directory();
         }
     }
 
@@ -167,6 +170,26 @@ impl Trial<'_> {
         let owner_bytes = self.owner_bytes();
         let told = both::delete(&mut button, owner_bytes, &path, self.rng);
         self.tally.add(format!("delete {}", told.number));
+        self.demand(owner_bytes, told);
+    }
+
+    /// A directory made.
+    fn make_directory(&mut self) {
+        let path = random_directory_path(&self.case.built, self.rng);
+        let mut button = self.case.button.clone();
+        let owner_bytes = self.owner_bytes();
+        let told = both::make_directory(&mut button, owner_bytes, &path, self.rng);
+        self.tally.add(format!("make directory {}", told.number));
+        self.demand(owner_bytes, told);
+    }
+
+    /// A directory removed.
+    fn remove_directory(&mut self) {
+        let path = random_directory_path(&self.case.built, self.rng);
+        let mut button = self.case.button.clone();
+        let owner_bytes = self.owner_bytes();
+        let told = both::remove_directory(&mut button, owner_bytes, &path, self.rng);
+        self.tally.add(format!("remove directory {}", told.number));
         self.demand(owner_bytes, told);
     }
 

@@ -84,15 +84,17 @@ impl Lent {
         }
     }
 
-    /// Calls put and delete: they refuse what the check refuses.
+    /// Calls put and delete, and makes and removes a directory: they refuse what the check refuses.
     fn call_edits(&mut self, verdict: Answer, bytes: &[u8]) {
         let put = self.edit(
             |told: &Answer| told.number,
             |p, n, image, path, table| agreed::put(p, n, image, path, bytes, table),
         );
         let delete = self.edit(|told: &Answer| told.number, agreed::delete);
+        let make = self.edit(|told: &Answer| told.number, agreed::make_directory);
+        let remove = self.edit(|told: &Answer| told.number, agreed::remove_directory);
         if verdict.number != 0 {
-            assert_eq!((put, delete), (verdict, verdict));
+            assert_eq!([put, delete, make, remove], [verdict; 4]);
         }
     }
 
@@ -208,6 +210,15 @@ fn use_image(button: &mut Button, rng: &mut Rng) -> u32 {
         assert_eq!(button.list_all().len(), after);
         assert_eq!(button.delete(&path).0, answer(0, 0));
         assert_eq!(button.list_all().len(), after - 1);
+    }
+    let path = [b'A' + rng.below(6) as u8, b' ', b' ', b' '];
+    let before = button.list_all().len();
+    if button.make_directory(&path).0 == answer(0, 0) {
+        assert_eq!(button.list_all().len(), before + 1);
+        assert_eq!(button.make_directory(&path).0, answer(21, 0));
+        assert_eq!(button.remove_directory(&path).0, answer(0, 0));
+        assert_eq!(button.list_all().len(), before);
+        assert_eq!(button.remove_directory(&path).0, answer(15, 0));
     }
     0
 }

@@ -1,7 +1,7 @@
-//! The library called by a C program, each call on a stack of 16 KiB, and two examples of firmware with what they print.
+//! The library called by a C program, each call on a stack of 16 KiB, and three examples of firmware with what they print.
 //!
 //! Programs: the library, by the C program `tests/c/calls.c`, compiled here with warnings as errors, and the second program, whose answers and lent
-//! bytes the C program must print; `tests/c/firmware.c` and `tests/c/pulled.c`, which call the library alone and print known texts.
+//! bytes the C program must print; `tests/c/firmware.c`, `tests/c/booms.c` and `tests/c/pulled.c`, which call the library alone and print known texts.
 //! The archive is made by `rt staticlib owfs`.
 
 use std::path::Path;
@@ -11,7 +11,7 @@ use common::c_calls::{request, Call};
 use common::c_programs::{compiled, printed, stack_used, Caller, SMALL_STACK};
 use common::generators::{
     damaged_case, fault_case, labelled_local, labelled_out_bytes, labelled_owner_bytes,
-    labelled_position, random_path, sound_case, Case, Made,
+    labelled_position, random_directory_path, random_path, sound_case, Case, Made,
 };
 use common::trials::random_allowed;
 use common::{run_seeds, Button, Seed, Tally};
@@ -83,7 +83,7 @@ fn random_format(owner_bytes: usize, rng: &mut Rng, tally: &mut Tally) -> Call {
 
 /// Any call but a format.
 fn random_call(case: &Case, owner_bytes: usize, rng: &mut Rng, tally: &mut Tally) -> Call {
-    match rng.below(16) {
+    match rng.below(19) {
         0 => Call::Check { owner_bytes },
         1..=3 => {
             let (path, bytes) = random_put(case, rng);
@@ -100,11 +100,20 @@ fn random_call(case: &Case, owner_bytes: usize, rng: &mut Rng, tally: &mut Tally
         6 | 7 => random_list(case, owner_bytes, rng, tally),
         10..=13 => random_careful(case, owner_bytes, rng),
         14 | 15 => Call::Mend { owner_bytes },
+        16 => Call::MakeDirectory {
+            owner_bytes,
+            path: random_directory_path(&case.built, rng),
+        },
+        17 | 18 => Call::RemoveDirectory {
+            owner_bytes,
+            path: random_directory_path(&case.built, rng),
+        },
         _ => random_read(case, owner_bytes, rng, tally),
     }
 }
 
-/// Some calls with a generated image, puts, deletes, careful ones and mends among them; near the end there may be a format.
+/// Some calls with a generated image, puts, deletes, careful ones, mends and directories made and removed among them; near the end there may be a
+/// format.
 fn random_calls(case: &Case, rng: &mut Rng, tally: &mut Tally) -> Vec<Call> {
     let mut calls = Vec::new();
     let format_at = if rng.chance(50) { 22 } else { usize::MAX };
@@ -162,6 +171,8 @@ fn answers_in_c_are_the_second_programs() {
     tally.demand_numbers("P", 5, (0..=17).chain([22]));
     tally.demand_numbers("D", 5, (0..=16).chain([22]));
     tally.demand_numbers("m", 5, 0..=13);
+    tally.demand_numbers("n", 1, (0..=15).chain([17, 21, 22]));
+    tally.demand_numbers("x", 1, (0..=15).chain([20, 22]));
 }
 
 /// Check sums of any bytes, started with any number.
@@ -206,6 +217,34 @@ fn example_of_firmware_is_c99_and_prints_each_step() {
     let program = compiled(folder(), "firmware.c", &["-std=c99", "-pedantic"]);
     let output = Command::new(program).output().expect("the example runs");
     printed(&output, FIRMWARE);
+}
+
+/// What the example of one directory for each boom prints.
+const BOOMS: &str = "\
+format: 0
+make BM01: 0
+make BM02: 0
+make BM03: 0
+make BM02: 21
+put of 9 bytes to BM01: 0
+put of 10 bytes to BM02: 0
+put of 8 bytes to BM04: 15
+remove BM02: 20
+remove BM03: 0
+remove BM03: 15
+delete from BM02: 0
+remove BM02: 0
+BM01 127, level 0, page 2
+CNT 007, level 1, page 5, 9 bytes
+pages in use 4, files 1, directories 1
+";
+
+/// The example is C99 without a warning, and every step is as it expects.
+#[test]
+fn example_of_a_directory_for_each_boom_is_c99_and_prints_each_step() {
+    let program = compiled(folder(), "booms.c", &["-std=c99", "-pedantic"]);
+    let output = Command::new(program).output().expect("the example runs");
+    printed(&output, BOOMS);
 }
 
 /// What the example with a button that is pulled prints.

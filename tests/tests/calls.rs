@@ -42,7 +42,7 @@ fn queries_refused_with_1(p: u32, n: u32, image: &[u8], table: &mut [u8]) {
     assert_eq!(out, [0x77; 16]);
 }
 
-/// Format, put and delete answer 1.
+/// Format, put and delete answer 1, and so does the making and the removing of a directory.
 fn edits_refused_with_1(p: u32, n: u32, image: &mut [u8], table: &mut [u8]) {
     let one = answer(1, 0);
     for local in [0, 1, u32::MAX] {
@@ -51,6 +51,10 @@ fn edits_refused_with_1(p: u32, n: u32, image: &mut [u8], table: &mut [u8]) {
     let path = b"A   \x01";
     assert_eq!(agreed::put(p, n, image, path, b"x", table), one);
     assert_eq!(agreed::delete(p, n, image, path, table), one);
+    for path in [&b"A   "[..], b"bad"] {
+        assert_eq!(agreed::make_directory(p, n, image, path, table), one);
+        assert_eq!(agreed::remove_directory(p, n, image, path, table), one);
+    }
 }
 
 /// Careful put, careful delete and mend answer 1.

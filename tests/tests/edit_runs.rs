@@ -1,4 +1,4 @@
-//! Long seeded runs on one image of format, put, delete, check, list and read. Each answer is known by construction: the image has a plan, which the
+//! Long seeded runs on one image of format, put, delete, making and removing directories, careful calls, check, list and read. Each answer is known by construction: the image has a plan, which the
 //! edits change.
 //!
 //! Programs: the library and the second program. Each call is made by both; every answer and every lent byte is compared.
@@ -6,7 +6,7 @@
 
 use common::edit_runs::Run;
 use common::generators::stamped_plan;
-use common::puts::{used_plan, DONE, ENTRIES, ROOM, STAMPED};
+use common::puts::{used_plan, DONE, ENTRIES, MAKE_ROOM, ROOM, STAMPED};
 use common::{run_seeds, Seed, Tally};
 use referee::rng::Rng;
 
@@ -43,7 +43,7 @@ fn runs_on_formatted_images_are_as_planned() {
         let seed = 0xB000_0000 + place as u64;
         let _seed = Seed(seed);
         let mut rng = Rng::new(seed);
-        Run::formatted(page_length, page_count, local, &mut rng, &mut tally).run(800);
+        Run::formatted(page_length, page_count, local, &mut rng, &mut tally).run(1_100);
     }
     tally.print();
     tally.demand(6_000, &["puts"]);
@@ -56,6 +56,9 @@ fn runs_on_formatted_images_are_as_planned() {
     tally.demand_numbers("careful put", 50, [0, 15, 17]);
     tally.demand_numbers("careful delete", 50, [0, 15]);
     tally.demand(100, &["careful edits stopped"]);
+    tally.demand_numbers("make directory", 50, [0, 14, 15, 17, 21]);
+    tally.demand_numbers("remove directory", 50, [0, 14, 15, 20]);
+    tally.demand(20, &["directory of several pages removed"]);
 }
 
 /// Runs on images with many stamps.
@@ -63,7 +66,7 @@ fn runs_on_formatted_images_are_as_planned() {
 fn runs_on_images_with_stamps_are_as_planned() {
     let mut tally = Tally::default();
     run_seeds(0xB200_0000..0xB200_0000 + 400, |_, rng| {
-        Run::generated(stamped_plan(rng), rng, &mut tally).run(40);
+        Run::generated(stamped_plan(rng), rng, &mut tally).run(55);
     });
     tally.print();
     tally.demand(5_000, &["puts"]);
@@ -73,6 +76,15 @@ fn runs_on_images_with_stamps_are_as_planned() {
     tally.demand_numbers("delete", 100, [0, 14, 15, 16, 22]);
     tally.demand_numbers("careful put", 50, [0, 15, 16, 17, 22]);
     tally.demand_numbers("careful delete", 20, [0, 15, 16, 22]);
+    tally.demand_numbers("make directory", 50, [0, 14, 15, 17, 21, 22]);
+    tally.demand_numbers("remove directory", 50, [0, 14, 15, 20, 22]);
+    tally.demand(
+        20,
+        &[
+            "directory with stamps removed",
+            "parent must grow because of stamps: 0",
+        ],
+    );
 }
 
 /// Runs on generated images: nested directories, hidden ones too, scattered chains, odd packets, read-only files.
@@ -80,7 +92,7 @@ fn runs_on_images_with_stamps_are_as_planned() {
 fn runs_on_generated_images_are_as_planned() {
     let mut tally = Tally::default();
     run_seeds(0xB100_0000..0xB100_0000 + 300, |seed, rng| {
-        Run::generated(used_plan(seed, rng), rng, &mut tally).run(80);
+        Run::generated(used_plan(seed, rng), rng, &mut tally).run(100);
     });
     tally.print();
     tally.demand(10_000, &["puts"]);
@@ -96,4 +108,14 @@ fn runs_on_generated_images_are_as_planned() {
     tally.demand_numbers("careful put", 50, (14..=17).chain([22]));
     tally.demand_numbers("careful delete", 20, (14..=16).chain([22]));
     tally.demand(300, &["careful edits stopped"]);
+    tally.demand(1, &MAKE_ROOM);
+    tally.demand_numbers("make directory", 100, [0, 14, 15, 17, 21, 22]);
+    tally.demand_numbers("remove directory", 100, [0, 14, 15, 20, 22]);
+    tally.demand(
+        10,
+        &[
+            "directory of several pages removed",
+            "directory made at level eight",
+        ],
+    );
 }

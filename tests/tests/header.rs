@@ -31,7 +31,7 @@ fn rattle() -> Declarations {
 }
 
 #[test]
-fn the_header_declares_ten_functions_and_six_structs() {
+fn the_header_declares_twelve_functions_and_six_structs() {
     let declared = of_header(&header());
     let names: Vec<&str> = declared.keys().map(String::as_str).collect();
     let expected = [
@@ -42,9 +42,11 @@ fn the_header_declares_ten_functions_and_six_structs() {
         "owfs_delete",
         "owfs_format",
         "owfs_list",
+        "owfs_make_directory",
         "owfs_mend",
         "owfs_put",
         "owfs_read",
+        "owfs_remove_directory",
         "struct owfs_answer",
         "struct owfs_entry",
         "struct owfs_length",
@@ -54,7 +56,9 @@ fn the_header_declares_ten_functions_and_six_structs() {
     ];
     assert_eq!(names, expected);
     let counts: Vec<usize> = declared.values().map(|one| one.items.len()).collect();
-    assert_eq!(counts, [9, 11, 6, 3, 8, 7, 7, 6, 10, 10, 2, 9, 3, 3, 5, 4]);
+    let functions = [9, 11, 6, 3, 8, 7, 7, 8, 6, 10, 10, 8];
+    let structs = [2, 9, 3, 3, 5, 4];
+    assert_eq!(counts, [&functions[..], &structs].concat());
 }
 
 /// Each call but the check sum has its stack in its comment, and twice what its owner table needs; careful delete names careful put instead.
@@ -62,13 +66,13 @@ fn the_header_declares_ten_functions_and_six_structs() {
 fn the_header_tells_stack_and_owner_table_of_each_call() {
     let text = header();
     let stack = "Stack: less than 16 KiB, for every page count,";
-    assert_eq!(text.matches(stack).count(), 9);
-    assert_eq!(text.matches("Stack: ").count(), 10);
-    assert_eq!(text.matches("4 * page_count").count(), 2 * 8);
+    assert_eq!(text.matches(stack).count(), 11);
+    assert_eq!(text.matches("Stack: ").count(), 12);
+    assert_eq!(text.matches("4 * page_count").count(), 2 * 10);
     assert_eq!(text.matches("2 * page_count").count(), 0);
 }
 
-/// Put, delete and their careful forms have 22 in their tables of refusals, after 15 and before 16; no other call has it.
+/// Put, delete and their careful forms have 22 in their tables of refusals, after 15 and before 16; besides, making and removing a directory have it.
 #[test]
 fn the_header_tells_22_of_the_four_edits() {
     let text = header();
@@ -81,11 +85,32 @@ fn the_header_tells_22_of_the_four_edits() {
         text.matches(&both).count()
     });
     assert_eq!(lines, [2, 2]);
-    assert_eq!(text.matches(" 22  ").count(), 4);
+    assert_eq!(text.matches(" 22  ").count(), 6);
     for call in ["put", "delete", "careful_put", "careful_delete"] {
         let end = text.find(&format!(" owfs_{call}(")).expect("the call");
         let comment = text[..end].rfind("/* ").expect("its comment");
         assert!(text[comment..end].contains(hidden), "{call}");
+    }
+}
+
+/// Making a directory has 14, 15, 22, 21, 17 in its table of refusals, removing one has 14, 15, 22, 20, in this order; no other call has 20 or 21.
+#[test]
+fn the_header_tells_the_refusals_of_directories_in_order() {
+    let text = header();
+    let numbers = |call: &str| -> Vec<&str> {
+        let end = text.find(&format!(" owfs_{call}(")).expect("the call");
+        let comment = &text[text[..end].rfind("/* ").expect("its comment")..end];
+        let table = comment.split("number  meaning").nth(1).expect("a table");
+        let table = table.split(" *\n").next().expect("its lines");
+        let lines = table.lines().skip(1).map(|line| &line[2..9]);
+        lines.map(str::trim).collect()
+    };
+    let make = ["0", "1-13", "14", "15", "22", "21", "17"];
+    assert_eq!(numbers("make_directory"), make);
+    let remove = ["0", "1-13", "14", "15", "22", "20"];
+    assert_eq!(numbers("remove_directory"), remove);
+    for (row, times) in [(" *     20  ", 1), (" *     21  ", 1)] {
+        assert_eq!(text.matches(row).count(), times);
     }
 }
 
@@ -102,7 +127,7 @@ fn the_rattle_exports_are_the_headers() {
 }
 
 /// Changes of the header, each with the start of a line that must tell it.
-const CHANGES: [(&str, &str, &str); 13] = [
+const CHANGES: [(&str, &str, &str); 14] = [
     (
         "uint32_t used;",
         "uint16_t used;",
@@ -146,6 +171,11 @@ const CHANGES: [(&str, &str, &str); 13] = [
         "uint32_t allowed);",
         "size_t allowed);",
         "owfs_careful_put, item 10",
+    ),
+    (
+        "owfs_remove_directory(",
+        "owfs_delete_directory(",
+        "owfs_remove_directory: the header does not",
     ),
     (
         "owfs_delete(",

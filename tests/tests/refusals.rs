@@ -1,11 +1,12 @@
 //! Each refusal that a call can give: number and page, every other field 0, and what it leaves in the lent memory. A test's name has the calls, an
-//! edit being a put or a delete, the number, and what is wrong.
+//! edit being a put, a delete, or the making or removing of a directory, the number, and what is wrong.
 //!
 //! Programs: the library and the second program. Each call is made by both; every answer and every lent byte is compared.
 //! The archive is made by `rt staticlib owfs`.
 
 use common::generators::{
-    damaged_case, deep_image, directories_of, fault_case, files, is_below_hidden, Case, Made,
+    damaged_case, deep_image, directories_of, fault_case, files, hidden_plan, is_below_hidden,
+    subdirectories, Case, Made,
 };
 use common::plans::{geometry, may_be_local};
 use common::{agreed, answer, table_bytes, Button, Seed};
@@ -25,6 +26,10 @@ enum Edit<'a> {
     Delete,
     /// With the file's bytes.
     Put(&'a [u8]),
+    /// Of a directory.
+    Make,
+    /// Of a directory.
+    Remove,
 }
 
 /// A put of a few bytes.
@@ -94,13 +99,15 @@ impl<'a> Lent<'a> {
         )
     }
 
-    /// A put or a delete.
+    /// A put, a delete, or the making or removing of a directory.
     fn edit(&mut self, edit: Edit, path: &[u8]) -> Answer {
         let (p, n) = (self.button.page_length, self.button.page_count);
         let (image, owners) = (&mut self.image, &mut self.owners);
         match edit {
             Edit::Delete => agreed::delete(p, n, image, path, owners),
             Edit::Put(bytes) => agreed::put(p, n, image, path, bytes, owners),
+            Edit::Make => agreed::make_directory(p, n, image, path, owners),
+            Edit::Remove => agreed::remove_directory(p, n, image, path, owners),
         }
     }
 
@@ -169,6 +176,7 @@ fn edit_refused_by_image(edit: Edit, case: &Case, refusal: Answer, rng: &mut Rng
     let paths = case.built.entries.iter().map(|entry| entry.path.clone());
     let mut paths: Vec<Vec<u8>> = paths.take(5).collect();
     paths.extend([b"".to_vec(), b"bad".to_vec(), b"NONE\x01".to_vec()]);
+    paths.push(b"NONE".to_vec());
     for length in [5, 9, rng.below(50)] {
         paths.push(rng.bytes(length));
     }
@@ -179,7 +187,7 @@ fn edit_refused_by_image(edit: Edit, case: &Case, refusal: Answer, rng: &mut Rng
     }
 }
 
-/// Demands a put's or a delete's refusal with this number (2 to 13) and the page known by construction.
+/// Demands an edit's refusal with this number (2 to 13) and the page known by construction.
 fn edits_refused_with(number: u32) {
     let first = 0x6600_0000 + 1_000 * u64::from(number);
     for seed in first..first + 40 {
@@ -190,7 +198,11 @@ fn edits_refused_with(number: u32) {
             panic!("a case with one fault");
         };
         assert_eq!(refusal.number, number);
-        for edit in [Edit::Delete, PUT, Edit::Put(b""), Edit::Put(&[7; 3_000])] {
+        let puts = [PUT, Edit::Put(b""), Edit::Put(&[7; 3_000])];
+        for edit in puts
+            .into_iter()
+            .chain([Edit::Delete, Edit::Make, Edit::Remove])
+        {
             edit_refused_by_image(edit, &case, refusal, &mut rng);
         }
     }
@@ -354,7 +366,7 @@ fn edit_number_1_arguments() {
         let _seed = Seed(seed);
         let mut rng = Rng::new(seed);
         let case = damaged_case(Made::Misfit, &mut rng);
-        for edit in [Edit::Delete, PUT] {
+        for edit in [Edit::Delete, PUT, Edit::Make, Edit::Remove] {
             edit_refused_by_image(edit, &case, answer(1, 0), &mut rng);
         }
     }
@@ -369,8 +381,8 @@ fn edit_number_1_owner_table() {
     let needed = table_bytes(button.page_count);
     for owner_bytes in too_short(needed) {
         let paths = built.entries.iter().map(|entry| entry.path.as_slice());
-        for path in paths.chain([&b"bad"[..], b"NONE\x01"]) {
-            for edit in [Edit::Delete, PUT] {
+        for path in paths.chain([&b"bad"[..], b"NONE\x01", b"NONE"]) {
+            for edit in [Edit::Delete, PUT, Edit::Make, Edit::Remove] {
                 let mut lent = Lent::new(&button, 0);
                 lent.owners.truncate(owner_bytes);
                 assert_eq!(lent.edit(edit, path), answer(1, 0));
@@ -453,7 +465,7 @@ fn edits_of_any_bytes_tell_the_fault_of_the_check() {
         let totals = Lent::new(&case.button, 0).check();
         if totals.number != 0 {
             let refusal = answer(totals.number, totals.page);
-            for edit in [Edit::Delete, PUT] {
+            for edit in [Edit::Delete, PUT, Edit::Make, Edit::Remove] {
                 edit_refused_by_image(edit, &case, refusal, &mut rng);
             }
         }
@@ -661,6 +673,190 @@ fn edit_number_22_hidden() {
                 for edit in [Edit::Delete].into_iter().chain(puts) {
                     edit_refused(edit, &built, &below, 15);
                 }
+            }
+        }
+    }
+    assert!(met.iter().all(|&times| times >= 50), "met {met:?} times");
+}
+
+/// Demands 14 for a path from the making and the removing of a directory.
+fn malformed_directory(built: &Built, path: &[u8]) {
+    for edit in [Edit::Make, Edit::Remove] {
+        edit_refused(edit, built, path, 14);
+    }
+}
+
+/// Each length but those of one to eight names, and each name that is none, whatever the others lead to.
+#[test]
+fn directory_number_14_path() {
+    for seed in 0x6880_0000..0x6880_0000 + 20 {
+        let _seed = Seed(seed);
+        let mut rng = Rng::new(seed);
+        let built = deep_image(&mut rng);
+        for length in 0..=60 {
+            if length % 4 != 0 || !(4..=32).contains(&length) {
+                malformed_directory(&built, &rng.bytes(length));
+                malformed_directory(&built, &b"ROOT".repeat(16)[..length]);
+            }
+        }
+        let no_names = [
+            b"a   ", b" A  ", b"A B ", b"    ", b"A.B ", b"\xC1   ", b"A\0  ", b"AB\x7F ",
+        ];
+        for name in no_names {
+            malformed_directory(&built, name);
+            malformed_directory(&built, &[name, &b"ROOT"[..]].concat());
+            malformed_directory(&built, &[&b"ROOT"[..], name].concat());
+        }
+        for entry in &built.entries {
+            // A byte more, as a file's path has it, and nine names.
+            let names = entry.path[..entry.path.len() / 4 * 4].to_vec();
+            for byte in [0, 1, 99, 127, b' ', b'A', 255] {
+                malformed_directory(&built, &[names.as_slice(), &[byte]].concat());
+            }
+            let nine = [names.as_slice(), &b"ROOT".repeat(9)].concat();
+            malformed_directory(&built, &nine[..36]);
+        }
+    }
+}
+
+/// A missing directory before the last name, for a removal the last one too; also below a hidden directory, and if there is no room.
+#[test]
+fn directory_number_15_absent() {
+    let mut met = 0;
+    for seed in 0x6980_1000..0x6980_1000 + 20 {
+        let _seed = Seed(seed);
+        let built = deep_image(&mut Rng::new(seed));
+        let is_directory = |names: &[u8]| {
+            let mut all = subdirectories(&built).into_iter();
+            all.any(|entry| entry.path == names)
+        };
+        edit_refused(Edit::Remove, &built, b"NONE", 15);
+        for entry in &built.entries {
+            // A missing name, and a file's name in the place of a directory.
+            let names = entry.path[..entry.path.len() / 4 * 4].to_vec();
+            for parent in [[names.as_slice(), b"NONE"].concat(), names] {
+                if parent.len() > 32 || is_directory(&parent) {
+                    continue;
+                }
+                edit_refused(Edit::Remove, &built, &parent, 15);
+                if parent.len() < 32 {
+                    let below = [parent.as_slice(), b"NEW'"].concat();
+                    edit_refused(Edit::Make, &built, &below, 15);
+                    edit_refused(Edit::Remove, &built, &below, 15);
+                    met += 1;
+                }
+            }
+        }
+    }
+    assert!(met >= 100, "met {met} times");
+}
+
+/// No page free, or one if the parent has no space: 17.
+#[test]
+fn make_number_17_no_room() {
+    let mut met = 0;
+    for seed in 0x6A80_1000..0x6A80_1000 + 60 {
+        let _seed = Seed(seed);
+        let built = deep_image(&mut Rng::new(seed));
+        // A file on all free pages, if there is room for its entry.
+        let mut button = Button::from(&built);
+        let free = (built.page_count - built.totals.used) as usize;
+        let geometry = geometry(built.page_length, built.page_count);
+        for pages in [free, free.saturating_sub(1)] {
+            if button
+                .put(b"FULL\x07", &vec![7; pages * geometry.max_data()])
+                .0
+                .number
+                == 0
+            {
+                break;
+            }
+        }
+        let owners = button.check().1;
+        let directories = subdirectories(&built).into_iter();
+        let names = directories.filter(|entry| !is_in_hidden(&built, entry));
+        for parent in names.map(|entry| entry.path.clone()).chain([Vec::new()]) {
+            let path = [parent.as_slice(), b"NEW'"].concat();
+            let (before, totals) = (button.clone(), button.check().0);
+            if path.len() > 32 || totals.used < button.page_count {
+                continue;
+            }
+            let (told, after) = button.make_directory(&path);
+            assert_eq!((told, &after), (answer(17, 0), &owners), "{path:?}");
+            assert!(button == before);
+            met += 1;
+        }
+    }
+    assert!(met >= 50, "met {met} times");
+}
+
+/// A directory with entries, of files or of directories, is not removed.
+#[test]
+fn remove_number_20_not_empty() {
+    let mut met = 0;
+    for seed in 0x6A20_0000..0x6A20_0000 + 40 {
+        let _seed = Seed(seed);
+        let built = deep_image(&mut Rng::new(seed));
+        for directory in subdirectories(&built) {
+            let has_entries = |path: &[u8]| {
+                let mut all = built.entries.iter();
+                all.any(|entry| {
+                    entry.path.len() > path.len()
+                        && entry.path.starts_with(path)
+                        && entry.listing.level as usize * 4 == path.len()
+                })
+            };
+            if !is_in_hidden(&built, directory) && has_entries(&directory.path) {
+                edit_refused(Edit::Remove, &built, &directory.path, 20);
+                met += 1;
+            }
+        }
+    }
+    assert!(met >= 100, "met {met} times");
+}
+
+/// A directory that is there, hidden or not, is not made, also if there is no room.
+#[test]
+fn make_number_21_already_there() {
+    let mut met = [0; 2];
+    for seed in 0x6A30_0000..0x6A30_0000 + 160 {
+        let _seed = Seed(seed);
+        let built = hidden_plan(&mut Rng::new(seed)).build();
+        for directory in subdirectories(&built) {
+            if !is_hidden(&built, directory) {
+                edit_refused(Edit::Make, &built, &directory.path, 21);
+                met[directory.listing.attribute as usize] += 1;
+            }
+        }
+    }
+    assert!(met.iter().all(|&times| times >= 50), "met {met:?} times");
+}
+
+/// Below a hidden directory none is made, whether there is one of that name or not, and none removed, whether it has entries or not; a hidden one is
+/// not removed either. What is missing is 15.
+#[test]
+fn directory_number_22_hidden() {
+    let mut met = [0; 3];
+    for seed in 0x6A50_0000..0x6A50_0000 + 60 {
+        let _seed = Seed(seed);
+        let built = deep_image(&mut Rng::new(seed));
+        for directory in subdirectories(&built) {
+            let path = &directory.path;
+            if !is_in_hidden(&built, directory) {
+                continue;
+            }
+            edit_refused(Edit::Remove, &built, path, 22);
+            met[0] += 1;
+            if is_hidden(&built, directory) {
+                edit_refused(Edit::Make, &built, path, 22);
+                met[1] += 1;
+            }
+            malformed_directory(&built, &[path, &b"\x01"[..]].concat());
+            if path.len() < 32 {
+                let new = [path, &b"NEW'"[..]].concat();
+                edit_refused(Edit::Make, &built, &new, 22);
+                edit_refused(Edit::Remove, &built, &new, 15);
+                met[2] += 1;
             }
         }
     }

@@ -1,4 +1,4 @@
-//! "No room" (17) against a search over all ways to place a put, on small images.
+//! "No room" (17) against a search over all ways to place a put, or a new directory, on small images.
 //!
 //! Document 01, "Words of demand 3", says which images could hold the file of a put. Such an image, a candidate, is accepted and reads the
 //! asked bytes at the path. Every other entry stands in the same directory with the same bytes, in any order. Every other file reads as
@@ -14,14 +14,20 @@
 //!
 //! A put must be answered with 17 exactly if no pair fits, and else leave a candidate; none has fewer pages in use.
 //!
+//! So it is for making a directory (document 02, A1): in place of the file a candidate holds the new directory, without entries and with pages of its
+//! own, and the parent is the target.
+//!
 //! Programs: the library and the second program. Each call is made by both; every answer and every lent byte is compared.
 //! The images that the search builds are checked, listed and read by both too. That every pair of sets is tried is a test of the search alone.
 //! The archive is made by `rt staticlib owfs`.
 
 use std::collections::{BTreeMap, BTreeSet};
 
-use common::plans::{directories, directory_mut, file_place, geometry, plan_with, split, Room};
-use common::puts::{room_features, ROOM, STAMPED};
+use common::plans::{
+    directories, directory_mut, file_place, geometry, plan_with, plan_with_directory, split,
+    split_directory, Room,
+};
+use common::puts::{make_features, room_features, MAKE_ROOM, ROOM, STAMPED};
 use common::trees::{page_order, trees, Most, Tree, PAGE_LENGTH};
 use common::{answer, both, chain_of, table_bytes, Button, Seed, Tally};
 use referee::builder::plan::{Chain, DirectoryPlan, FilePlan, ImagePlan, Item, Stamps};
@@ -33,6 +39,53 @@ type PageSet = BTreeSet<usize>;
 
 /// The bytes of the stamps before each entry of a directory that has any, in order, by the entry's name and extension number.
 type StampsOf = BTreeMap<Vec<u8>, Vec<Vec<u8>>>;
+
+/// What is asked for: a put of these bytes to a file, or the making of a directory.
+#[derive(Clone, Copy)]
+struct Asked<'a> {
+    path: &'a [u8],
+    /// The file's bytes; none for a directory.
+    bytes: Option<&'a [u8]>,
+}
+
+impl<'a> Asked<'a> {
+    /// A put.
+    fn put(path: &'a [u8], bytes: &'a [u8]) -> Asked<'a> {
+        Asked {
+            path,
+            bytes: Some(bytes),
+        }
+    }
+
+    /// The making of a directory.
+    fn make(path: &'a [u8]) -> Asked<'a> {
+        Asked { path, bytes: None }
+    }
+
+    /// The names that lead to the target, and what follows them.
+    fn split(self) -> (&'a [u8], &'a [u8]) {
+        match self.bytes {
+            Some(_) => split(self.path),
+            None => split_directory(self.path),
+        }
+    }
+
+    /// Whether an accepted image has the file with its bytes, or the directory without entries and with pages of its own.
+    fn is_held(self, new: &Contents) -> bool {
+        let found = new.entries.get(self.path);
+        match self.bytes {
+            Some(bytes) => found.is_some_and(|file| file.bytes == bytes),
+            None => {
+                let is_below =
+                    |path: &&Vec<u8>| path.len() > self.path.len() && path.starts_with(self.path);
+                // A file of the same name has an extension number behind it, and is no entry of the directory.
+                let own = |path: &&Vec<u8>| path.len() >= self.path.len() + 4;
+                let below = new.entries.keys().filter(is_below).filter(own).count();
+                found.is_some_and(|directory| !directory.pages.is_empty()) && below == 0
+            }
+        }
+    }
+}
 
 /// What an entry is and leads to.
 struct Found {
@@ -108,7 +161,7 @@ impl Contents {
         }
     }
 
-    /// The pages that a put of this path need not keep: those of the file that is replaced, and those of nothing.
+    /// The pages that a put of this path, or the making of a directory, need not keep: those of the file that is replaced, and those of nothing.
     fn other_pages(&self, path: &[u8]) -> Vec<usize> {
         let others = self.entries.iter().filter(|(other, _)| *other != path);
         let mut kept: PageSet = others
@@ -169,13 +222,11 @@ fn has_its_pages(old: &PageSet, new: &PageSet, is_target: bool) -> bool {
     old == new || (is_target && old.is_subset(new))
 }
 
-/// Whether an image that is accepted is a candidate for a put, by the words of demand 3.
-fn is_candidate(old: &Contents, new: &Contents, path: &[u8], bytes: &[u8]) -> bool {
-    let (target, _) = split(path);
-    let reads = new
-        .entries
-        .get(path)
-        .is_some_and(|file| file.bytes == bytes);
+/// Whether an image that is accepted is a candidate for what is asked, by the words of demand 3.
+fn is_candidate(old: &Contents, new: &Contents, asked: Asked) -> bool {
+    let (target, _) = asked.split();
+    let path = asked.path;
+    let holds = asked.is_held(new);
     let bitmap = old.local_bitmap == new.local_bitmap && old.bitmap == new.bitmap;
     let root = has_its_pages(&old.root, &new.root, target.is_empty());
     let mut others = old.entries.iter().filter(|(other, _)| *other != path);
@@ -189,10 +240,10 @@ fn is_candidate(old: &Contents, new: &Contents, path: &[u8], bytes: &[u8]) -> bo
         let new = new.entries.get(path);
         new.is_some_and(|new| new.stamps == old.stamps)
     });
-    reads && bitmap && root && kept && stamps
+    holds && bitmap && root && kept && stamps
 }
 
-/// A way to place a put: the pages of the file, and those that join the target.
+/// A way to place what is asked: the pages of the file or the new directory, and those that join the target.
 #[derive(Clone, Default)]
 struct Way {
     file: Vec<usize>,
@@ -257,22 +308,44 @@ fn lay_entries(geometry: &Geometry, directory: &mut DirectoryPlan) -> Option<()>
     Some(())
 }
 
-/// The image of a plan with the file placed in this way, as a plan; none if the way does not fit.
-fn placed(plan: &ImagePlan, path: &[u8], bytes: &[u8], way: &Way) -> Option<ImagePlan> {
+/// The new entry with its pages: a file of these bytes, packets filled to the brim, or a directory without entries; none if they do not hold it.
+fn new_item(geometry: &Geometry, asked: Asked, pages: &[usize]) -> Option<Item> {
+    let (_, own) = asked.split();
+    let name = [own[0], own[1], own[2], own[3]];
+    let Some(bytes) = asked.bytes else {
+        return (!pages.is_empty()).then(|| Item::Directory {
+            name,
+            hidden: false,
+            directory: DirectoryPlan {
+                pages: pages.to_vec(),
+                counts: vec![0; pages.len()],
+                ..DirectoryPlan::default()
+            },
+        });
+    };
+    let chain = chain_over(geometry, pages, bytes.len())?;
+    Some(Item::File(FilePlan::new(name, own[4], bytes, chain)))
+}
+
+/// The image of a plan with the file or the directory placed in this way, as a plan; none if the way does not fit.
+fn placed(plan: &ImagePlan, asked: Asked, way: &Way) -> Option<ImagePlan> {
     let geometry = geometry(plan.page_length, plan.page_count);
-    let chain = chain_over(&geometry, &way.file, bytes.len())?;
+    let item = new_item(&geometry, asked, &way.file)?;
     let mut plan = plan.clone();
-    let (names, own) = split(path);
+    let (names, own) = asked.split();
     let target = directory_mut(&mut plan.root, names)?;
-    if let Some(place) = file_place(target, own) {
+    if let Some(place) = replaced_place(target, asked, own) {
         target.items.remove(place);
     }
-    let four = [own[0], own[1], own[2], own[3]];
-    let file = FilePlan::new(four, own[4], bytes, chain);
-    target.items.push(Item::File(file));
+    target.items.push(item);
     target.pages.extend(&way.joining);
     lay_entries(&geometry, target)?;
     Some(plan)
+}
+
+/// The place of the file that a put replaces; none for a directory.
+fn replaced_place(target: &DirectoryPlan, asked: Asked, own: &[u8]) -> Option<usize> {
+    asked.bytes.and_then(|_| file_place(target, own))
 }
 
 /// What the search for candidates found.
@@ -284,17 +357,17 @@ struct Search {
     least: Option<u32>,
 }
 
-/// Tries every way to place a put; the image of each that fits is a candidate.
-fn search(plan: &ImagePlan, old: &Contents, path: &[u8], bytes: &[u8]) -> Search {
+/// Tries every way to place what is asked; the image of each that fits is a candidate.
+fn search(plan: &ImagePlan, old: &Contents, asked: Asked) -> Search {
     let mut search = Search::default();
-    for way in ways(&old.other_pages(path)) {
+    for way in ways(&old.other_pages(asked.path)) {
         search.ways += 1;
-        let Some(image) = placed(plan, path, bytes, &way) else {
+        let Some(image) = placed(plan, asked, &way) else {
             continue;
         };
         search.fitting += 1;
         let new = Contents::of(&Button::from(&image.build())).expect("accepted");
-        assert!(is_candidate(old, &new, path, bytes), "a candidate");
+        assert!(is_candidate(old, &new, asked), "a candidate");
         let least = search.least.unwrap_or(new.used);
         search.least = Some(least.min(new.used));
     }
@@ -324,18 +397,40 @@ impl Trial<'_> {
 
     /// Demands the answer and the number of pages in use that the search finds.
     fn put(&mut self, path: &[u8], bytes: &[u8]) {
-        let found = search(self.plan, &self.old, path, bytes);
+        let asked = Asked::put(path, bytes);
+        let found = search(self.plan, &self.old, asked);
         let mut button = self.button.clone();
         let table = table_bytes(self.plan.page_count);
         let told = both::put(&mut button, table, path, bytes, self.rng);
         self.count(path, bytes, &found, told);
+        self.demand(asked, &found, told, &button);
+    }
+
+    /// Makes a directory; demands the answer and the number of pages in use that the search finds.
+    fn make(&mut self, path: &[u8]) {
+        let asked = Asked::make(path);
+        let found = search(self.plan, &self.old, asked);
+        let mut button = self.button.clone();
+        let table = table_bytes(self.plan.page_count);
+        let told = both::make_directory(&mut button, table, path, self.rng);
+        self.tally.add("makes");
+        self.tally.add_times("ways to make that fit", found.fitting);
+        let room = Room::of_directory(self.plan, path).expect("nothing but room could refuse");
+        for label in make_features(&room) {
+            self.tally.add(format!("{label}: {}", told.number));
+        }
+        self.demand(asked, &found, told, &button);
+    }
+
+    /// Demands the answer of what is asked and the number of pages in use that the search finds.
+    fn demand(&self, asked: Asked, found: &Search, told: Answer, button: &Button) {
         let Some(least) = found.least else {
             assert_eq!(told, answer(17, 0), "no way fits");
             return;
         };
         assert_eq!(told, answer(0, 0), "{} ways fit", found.fitting);
-        let new = Contents::of(&button).expect("accepted");
-        assert!(is_candidate(&self.old, &new, path, bytes), "a candidate");
+        let new = Contents::of(button).expect("accepted");
+        assert!(is_candidate(&self.old, &new, asked), "a candidate");
         assert_eq!(new.used, least, "the least pages in use");
     }
 
@@ -351,7 +446,7 @@ impl Trial<'_> {
     }
 }
 
-/// Judges every put to an image of a tree, if the pages are enough for it.
+/// Judges every put to an image of a tree, and the making of directories, if the pages are enough for it.
 fn judge(tree: &Tree, pages: &[usize], tally: &mut Tally, rng: &mut Rng) {
     let Some(plan) = tree.plan(pages) else {
         return;
@@ -367,6 +462,8 @@ fn judge(tree: &Tree, pages: &[usize], tally: &mut Tally, rng: &mut Rng) {
     };
     for path in tree.paths(&plan) {
         trial.put_all(&path);
+        // A directory of a new name, or of a file's.
+        trial.make(&path[..path.len() - 1]);
     }
 }
 
@@ -375,6 +472,12 @@ fn room_labels() -> Vec<&'static str> {
     let far = ["new file, more pages", "replaced file, more pages"];
     let is_met = |label: &&str| !far.iter().any(|far| label.starts_with(far));
     ROOM.into_iter().filter(is_met).collect()
+}
+
+/// The labels of room that the making of directories meets; those of stamps if there are any.
+fn make_labels(stamps: bool) -> Vec<&'static str> {
+    let is_met = |label: &&str| stamps || !label.contains("stamps");
+    MAKE_ROOM.into_iter().filter(is_met).collect()
 }
 
 /// Every tree on 2 to 8 pages.
@@ -403,6 +506,9 @@ fn no_room_in_small_images_exactly_if_no_way_fits() {
     tally.demand(50_000, &["puts"]);
     tally.demand(500_000, &["ways that fit"]);
     tally.demand(20, &room_labels());
+    tally.demand(5_000, &["makes"]);
+    tally.demand(40_000, &["ways to make that fit"]);
+    tally.demand(20, &make_labels(false));
 }
 
 /// Images of 256 pages, and of 257, whose page numbers have two bytes: a large file leaves few pages for the tree and the put.
@@ -428,6 +534,8 @@ fn no_room_in_few_pages_of_many_exactly_if_no_way_fits() {
     tally.print();
     tally.demand(2_000, &["puts"]);
     tally.demand(10, &room_labels());
+    tally.demand(300, &["makes"]);
+    tally.demand(5, &make_labels(false));
 }
 
 /// The labels of room that puts to images with stamps meet.
@@ -458,6 +566,10 @@ fn no_room_in_small_images_with_stamps_exactly_if_no_way_fits() {
     tally.demand(20_000, &["puts"]);
     tally.demand(50_000, &["ways that fit"]);
     tally.demand(20, &stamped_labels());
+    tally.demand(2_000, &["makes"]);
+    tally.demand(4_000, &["ways to make that fit"]);
+    tally.demand(20, &make_labels(true));
+    tally.demand(20, &["parent must grow because of stamps: 0"]);
 }
 
 /// Images of 256 and 257 pages with stamps: a large file leaves few pages for the tree and the put.
@@ -483,9 +595,12 @@ fn no_room_in_few_pages_of_many_with_stamps_exactly_if_no_way_fits() {
     tally.print();
     tally.demand(1_000, &["puts"]);
     tally.demand(5, &stamped_labels());
+    tally.demand(100, &["makes"]);
+    tally.demand(1, &make_labels(true));
 }
 
-/// Ways that give away pages which must be kept, too: no candidate comes of them in which such a page is the file's or has joined the target.
+/// Ways that give away pages which must be kept, too: no candidate comes of them in which such a page is the file's or the new directory's, or has
+/// joined the target.
 #[test]
 fn no_candidate_gives_away_pages_that_must_be_kept() {
     for (most_pages, stamps) in [(5, 0), (4, 3)] {
@@ -501,7 +616,9 @@ fn no_candidate_gives_away_pages_that_must_be_kept() {
             for tree in trees(page_count, 0, most) {
                 if let Some(plan) = tree.plan(&all[1..]) {
                     for path in tree.paths(&plan) {
-                        give_away(&plan, &all, &path, &mut tally);
+                        give_away(&plan, &all, Asked::put(&path, b"new"), &mut tally);
+                        let directory = Asked::make(&path[..path.len() - 1]);
+                        give_away(&plan, &all, directory, &mut tally);
                     }
                 }
             }
@@ -511,24 +628,25 @@ fn no_candidate_gives_away_pages_that_must_be_kept() {
     }
 }
 
-/// Tries every way to give these pages to the file and the target, whether they must be kept or not.
-fn give_away(plan: &ImagePlan, pages: &[usize], path: &[u8], tally: &mut Tally) {
+/// Tries every way to give these pages to what is asked and the target, whether they must be kept or not.
+fn give_away(plan: &ImagePlan, pages: &[usize], asked: Asked, tally: &mut Tally) {
     let old = Contents::of(&Button::from(&plan.build())).expect("accepted");
-    let others: PageSet = old.other_pages(path).into_iter().collect();
+    let others: PageSet = old.other_pages(asked.path).into_iter().collect();
     for way in ways(pages) {
-        let Some(image) = placed(plan, path, b"new", &way) else {
+        let Some(image) = placed(plan, asked, &way) else {
             continue;
         };
         let new = Contents::of(&Button::from(&image.build()));
-        let Some(new) = new.filter(|new| is_candidate(&old, new, path, b"new")) else {
+        let Some(new) = new.filter(|new| is_candidate(&old, new, asked)) else {
             tally.add("no candidate");
             continue;
         };
         tally.add("candidate");
-        let (target, _) = split(path);
+        let (target, _) = asked.split();
         let joined: PageSet = &new.directory_pages(target) - &old.directory_pages(target);
         assert!(joined.is_subset(&others), "pages that joined the target");
-        assert!(new.entries[path].pages.is_subset(&others), "file's pages");
+        let own = &new.entries[asked.path].pages;
+        assert!(own.is_subset(&others), "its pages");
     }
 }
 
@@ -571,17 +689,21 @@ fn other_stamps(directory: &DirectoryPlan) -> Vec<(&'static str, Stamps)> {
         .collect()
 }
 
-/// Demands of a put's image that it is a candidate, and of each like it but for stamps that it is none.
-fn change_stamps(plan: &ImagePlan, path: &[u8], tally: &mut Tally) {
+/// Demands of the image that what is asked leaves that it is a candidate, and of each like it but for stamps that it is none.
+fn change_stamps(plan: &ImagePlan, asked: Asked, tally: &mut Tally) {
     let old = Contents::of(&Button::from(&plan.build())).expect("accepted");
-    let Ok(put) = plan_with(plan, path, b"new") else {
+    let edited = match asked.bytes {
+        Some(bytes) => plan_with(plan, asked.path, bytes),
+        None => plan_with_directory(plan, asked.path),
+    };
+    let Ok(put) = edited else {
         return;
     };
     let is_candidate = |plan: &ImagePlan| {
         let new = Contents::of(&Button::from(&plan.build())).expect("accepted");
-        is_candidate(&old, &new, path, b"new")
+        is_candidate(&old, &new, asked)
     };
-    assert!(is_candidate(&put), "the put's image");
+    assert!(is_candidate(&put), "the image after it");
     tally.add("candidate");
     for (names, directory) in directories(&put) {
         for (label, stamps) in other_stamps(directory) {
@@ -607,7 +729,8 @@ fn no_candidate_has_other_stamps() {
     for tree in trees(9, 0, most) {
         if let Some(plan) = tree.plan(&[1, 2, 3, 4, 5, 6, 7, 8]) {
             for path in tree.paths(&plan) {
-                change_stamps(&plan, &path, &mut tally);
+                change_stamps(&plan, Asked::put(&path, b"new"), &mut tally);
+                change_stamps(&plan, Asked::make(&path[..path.len() - 1]), &mut tally);
             }
         }
     }
@@ -620,6 +743,42 @@ fn no_candidate_has_other_stamps() {
         "stamps before another entry",
     ];
     tally.demand(50, &labels);
+}
+
+/// A candidate for a new directory has it without entries: with a file in it, or with a file of its name in its place, an image is none.
+#[test]
+fn no_candidate_has_entries_in_the_new_directory() {
+    let plan = ImagePlan {
+        page_length: PAGE_LENGTH,
+        ..Tree {
+            page_count: 9,
+            local_bitmap: true,
+            large_pages: 0,
+            root: vec![vec![1]],
+            sub: None,
+            in_sub: false,
+            first_pages: 1,
+        }
+        .plan(&[1, 2, 3, 4, 5, 6, 7, 8])
+        .expect("a plan")
+    };
+    let old = Contents::of(&Button::from(&plan.build())).expect("accepted");
+    let asked = Asked::make(b"NEW ");
+    let is_candidate = |plan: &ImagePlan| {
+        let new = Contents::of(&Button::from(&plan.build())).expect("accepted");
+        is_candidate(&old, &new, asked)
+    };
+    let made = plan_with_directory(&plan, b"NEW ").expect("made");
+    assert!(is_candidate(&made));
+    let with_file = plan_with(&made, b"NEW IN  \x01", b"").expect("put");
+    assert!(!is_candidate(&with_file));
+    let with_directory = plan_with_directory(&made, b"NEW IN  ").expect("made");
+    assert!(!is_candidate(&with_directory));
+    let file_of_its_name = plan_with(&plan, b"NEW \x01", b"").expect("put");
+    assert!(!is_candidate(&file_of_its_name));
+    let both = plan_with(&made, b"NEW \x01", b"").expect("put");
+    assert!(is_candidate(&both), "a file of its name more is allowed");
+    assert!(!is_candidate(&plan));
 }
 
 /// Every pair of sets without a common page is tried, and each once.

@@ -1,4 +1,5 @@
-//! Long seeded runs of format, put, delete and read against a model of what the button holds, with what must hold after each call.
+//! Long seeded runs of format, put, delete, making and removing directories, and read against a model of what the button holds, with what must hold
+//! after each call.
 //!
 //! Programs: the library and the second program. Each call is made by both; every answer and every lent byte is compared.
 //! The archive is made by `rt staticlib owfs`.
@@ -321,6 +322,100 @@ impl World {
         0
     }
 
+    /// Where a directory must go: its entry and its page as those of a new file without bytes, but for the entry's number of pages, which is 0.
+    fn expect_make(&self, path: &[u8]) -> Option<Expected> {
+        let key = [path, &[127]].concat();
+        let mut expected = self.expect_put(&key, 0)?;
+        let (place, slot) = find_entry(&expected.layout, &key[key.len() - 5..])?;
+        let number_length = self.button.pages().geometry.number_length();
+        let entry = &mut expected.layout[place].1[slot];
+        let length = entry.len();
+        entry[length - number_length..].fill(0);
+        Some(expected)
+    }
+
+    /// Makes a directory and demands what must hold afterwards.
+    fn make_directory(&mut self, path: &[u8]) -> u32 {
+        let names = &path[..path.len() - 4];
+        let number = match self.directories.contains(names) {
+            false => 15,
+            true if self.is_hidden(path) => 22,
+            true if self.directories.contains(path) => 21,
+            true => 17,
+        };
+        let expected = match number {
+            17 => self.expect_make(path),
+            _ => None,
+        };
+        let before = self.button.clone();
+        let (done, owners) = self.button.make_directory(path);
+        self.owners = owners;
+        let Some(expected) = expected else {
+            assert_eq!(done, answer(number, 0));
+            return done.number;
+        };
+        assert_eq!(done, answer(0, 0));
+        self.directories.insert(path.to_vec());
+        let start = self.directory_start(names);
+        assert_eq!(self.layout(start), expected.layout);
+        let chain = self.chain(self.directory_start(path));
+        assert_eq!(chain, expected.file_pages);
+        let pages = self.button.pages();
+        let parent = match names.len() {
+            0 => String::from("ROOT"),
+            length => String::from_utf8(names[length - 4..].to_vec()).expect("ASCII"),
+        };
+        assert_eq!(pages.body(chain[0]), pages.sub_control(&parent, start));
+        let mut written = self.bitmap_pages();
+        written.extend(&chain);
+        written.extend(expected.layout.iter().map(|(page, _)| *page));
+        only_packets_changed(&before, &self.button, &written);
+        self.bitmap_file_keeps_lengths(&before);
+        0
+    }
+
+    /// Removes a directory and demands what must hold afterwards.
+    fn remove_directory(&mut self, path: &[u8]) -> u32 {
+        let is_below = |other: &Vec<u8>| other.len() > path.len() + 3 && other.starts_with(path);
+        let has_entries = self.files.keys().any(is_below) || self.directories.iter().any(is_below);
+        let number = match self.directories.contains(path) {
+            false => 15,
+            true if self.is_hidden(path) || self.hidden.contains(path) => 22,
+            true if has_entries => 20,
+            true => 0,
+        };
+        let before = self.button.clone();
+        if number != 0 {
+            assert_eq!(self.button.remove_directory(path).0, answer(number, 0));
+            return number;
+        }
+        let (names, name) = path.split_at(path.len() - 4);
+        let key = [name, &[127]].concat();
+        let start = self.directory_start(names);
+        let mut layout = self.layout(start);
+        let (place, slot) = find_entry(&layout, &key).expect("the entry is there");
+        let stamps = stamps_of(&layout, &key);
+        layout[place].1.drain(slot - stamps..=slot);
+        let freed = self.chain(self.directory_start(path));
+        if freed.len() > 1 {
+            self.stamped.add("directory of several pages removed");
+        }
+        if stamps > 0 {
+            self.stamped.add("directory with stamps removed");
+        }
+        let (done, owners) = self.button.remove_directory(path);
+        assert_eq!(done, answer(0, 0));
+        self.owners = owners;
+        self.directories.remove(path);
+        assert_eq!(self.layout(start), layout);
+        assert!(freed.iter().all(|&page| self.owners[page] == FREE));
+        let mut written = self.bitmap_pages();
+        written.insert(layout[place].0);
+        only_packets_changed(&before, &self.button, &written);
+        self.bitmap_file_keeps_lengths(&before);
+        0
+    }
+
     /// Reads a file, or finds it absent, with an output that may be too short.
     fn read(&self, path: &[u8], out_length: usize) {
         let (length, owners) = {
@@ -468,6 +563,28 @@ fn random_path(world: &World, rng: &mut Rng) -> Vec<u8> {
     path
 }
 
+/// A path of a directory that is there, or of a new one in a directory that is there or missing; it has one to eight names.
+fn random_directory(world: &World, rng: &mut Rng) -> Vec<u8> {
+    let mut directories: Vec<&Vec<u8>> = world.directories.iter().collect();
+    directories.retain(|path| !path.is_empty());
+    if rng.chance(50) {
+        if let Some(path) = rng.pick(&directories) {
+            return path.to_vec();
+        }
+    }
+    let parent = rng.pick(&directories).filter(|path| path.len() <= 24);
+    let mut path = match rng.chance(60) {
+        true => parent.map(|path| path.to_vec()).unwrap_or_default(),
+        false => Vec::new(),
+    };
+    if rng.chance(5) {
+        path.extend(*b"NONE");
+    }
+    // Files have such names too.
+    path.extend([b'A' + rng.below(6) as u8, b'0', b' ', b' ']);
+    path
+}
+
 /// A malformed path made from a well-formed one.
 fn malformed_path(world: &World, rng: &mut Rng) -> Vec<u8> {
     let mut path = random_path(world, rng);
@@ -491,7 +608,15 @@ fn malformed_path(world: &World, rng: &mut Rng) -> Vec<u8> {
 /// One random call.
 fn step(world: &mut World, rng: &mut Rng) -> u32 {
     let path = random_path(world, rng);
-    match rng.below(100) {
+    match rng.below(118) {
+        100..=109 => {
+            let path = random_directory(world, rng);
+            world.make_directory(&path)
+        }
+        110..=117 => {
+            let path = random_directory(world, rng);
+            world.remove_directory(&path)
+        }
         0..=54 => {
             let length = random_length(&world.button.pages(), rng);
             let bytes = rng.bytes(length);
@@ -574,7 +699,7 @@ fn runs_on_formatted_buttons_agree_with_the_model() {
             }
         }
     }
-    for number in [0, 14, 15, 17] {
+    for number in [0, 14, 15, 17, 20, 21] {
         assert!(counts[number] > 100, "number {number}: {}", counts[number]);
     }
 }
@@ -596,7 +721,7 @@ fn runs_on_generated_buttons_agree_with_the_model() {
         let mut world = World::generated(&built);
         run(&mut world, 40, &mut rng, &mut counts);
     }
-    for number in [0, 14, 15, 16, 17, 22] {
+    for number in [0, 14, 15, 16, 17, 20, 21, 22] {
         assert!(counts[number] > 100, "number {number}: {}", counts[number]);
     }
 }
@@ -608,13 +733,14 @@ fn runs_on_buttons_with_stamps_agree_with_the_model() {
     let mut stamped = Tally::default();
     run_seeds(25_000..25_300, |_, rng| {
         let mut world = World::generated(&stamped_plan(rng).build());
-        run(&mut world, 30, rng, &mut counts);
+        run(&mut world, 40, rng, &mut counts);
         stamped.add_all(&world.stamped);
     });
     stamped.print();
-    for number in [0, 14, 15, 16, 17, 22] {
-        assert!(counts[number] > 100, "number {number}: {}", counts[number]);
+    for number in [0, 14, 15, 16, 17, 20, 21, 22] {
+        assert!(counts[number] > 50, "number {number}: {}", counts[number]);
     }
+    stamped.demand(3, &["directory with stamps removed"]);
     let labels = [
         "file with stamps replaced",
         "file beside stamps put",

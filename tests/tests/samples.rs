@@ -1,7 +1,7 @@
 //! Every dump in `samples/` with the text that stands beside it.
 //!
 //! Programs: the second program in one test, the program `list` in another; both the second program and the library make the samples of a stopped put
-//! and of a bad page, and judge those of owner stamps and of a hidden directory.
+//! of a bad page and of a new directory, and judge those of owner stamps and of a hidden directory.
 //! `rt check` and `rt ci` make `list`, `rt staticlib owfs` the archive.
 
 use std::fs;
@@ -213,4 +213,25 @@ fn files_below_a_hidden_directory_are_read_and_not_changed() {
     let crew = path(&["CREW"], "CNT", 7);
     assert_eq!(edited.put(&crew, b"Friday 14").0, answer(0, 0));
     assert_eq!(edited.delete(&crew).0, answer(0, 0));
+}
+
+/// The sample with a directory for each of three booms: BM01 has a file, BM02 and BM03 have none yet. The entry of BM03, which was made last, stands on
+/// the page that joined the root, since page 0 is full, and its own page is the next.
+#[test]
+fn new_directories_are_made_and_an_empty_one_is_removed() {
+    let mut button = Button::formatted(32, 16, true);
+    let count = path(&["BM01"], "CNT", 7);
+    assert_eq!(button.put(&path(&[], "DEMO", 12), b"TEST").0, answer(0, 0));
+    assert_eq!(button.make_directory(b"BM01").0, answer(0, 0));
+    assert_eq!(button.put(&count, b"Monday 12").0, answer(0, 0));
+    assert_eq!(button.make_directory(b"BM02").0, answer(0, 0));
+    let (done, owners) = button.make_directory(b"BM03");
+    assert_eq!(done, answer(0, 0));
+    assert_eq!(chain_of(&owners, 1), [0, 5]);
+    assert_eq!(chain_of(&owners, 7), [6]);
+    assert_eq!(dump(32, 16, 8, &button.image), sample("new-directory.dump"));
+    assert_eq!(button.make_directory(b"BM03").0, answer(21, 0));
+    assert_eq!(button.remove_directory(b"BM01").0, answer(20, 0));
+    assert_eq!(button.remove_directory(b"BM02").0, answer(0, 0));
+    assert_eq!(button.read(&count), (0, b"Monday 12".to_vec()));
 }

@@ -169,6 +169,29 @@ fn careful_put_to_50000_entries_runs_on_a_small_stack() {
     }
 }
 
+/// A directory made, one made in it and removed, then the first removed.
+#[test]
+fn make_and_remove_directory_beside_50000_entries_run_on_a_small_stack() {
+    let owner_bytes = owner_bytes(0);
+    let (outer, inner) = (b"NEW'".to_vec(), b"NEW'IN  ".to_vec());
+    let make = |path: &[u8]| Call::MakeDirectory {
+        owner_bytes,
+        path: path.to_vec(),
+    };
+    let remove = |path: &[u8]| Call::RemoveDirectory {
+        owner_bytes,
+        path: path.to_vec(),
+    };
+    let calls = [
+        make(&outer),
+        make(&inner),
+        remove(&outer),
+        remove(&inner),
+        remove(&outer),
+    ];
+    in_largest(&calls, "directories");
+}
+
 /// A mend of what a stopped delete leaves.
 #[test]
 fn mend_of_50000_entries_runs_on_a_small_stack() {
@@ -191,7 +214,8 @@ fn format_over_50000_entries_runs_on_a_small_stack() {
 }
 
 /// Every call with an image, one after the other: those that only read, a put and a careful put beside a file, its deletion in two steps with a mend,
-/// its replacement and deletion, a format that is refused and one that is done.
+/// its replacement and deletion, a directory made and removed beside it or, at level eight, beside its directory, a format that is refused and one
+/// that is done.
 fn every_call(built: &Built, file: &[u8]) -> Vec<Call> {
     let owner_bytes = owner_bytes(0);
     let last = built.entries.len() as u32 - 1;
@@ -199,6 +223,8 @@ fn every_call(built: &Built, file: &[u8]) -> Vec<Call> {
         file.to_vec(),
         [&file[..file.len() - 5], b"NEW'\x63"].concat(),
     );
+    let names = file[..file.len() - 5].len().min(28);
+    let directory = [&file[..names], b"NEW'"].concat();
     let bytes = vec![0x7E; 4_000];
     let allowed = u32::MAX;
     vec![
@@ -239,6 +265,14 @@ fn every_call(built: &Built, file: &[u8]) -> Vec<Call> {
             owner_bytes,
             path: new,
             allowed,
+        },
+        Call::MakeDirectory {
+            owner_bytes,
+            path: directory.clone(),
+        },
+        Call::RemoveDirectory {
+            owner_bytes,
+            path: directory,
         },
         Call::Format {
             owner_bytes,

@@ -5,12 +5,14 @@
 
 use common::generators::{
     any_case, counted_owner_bytes, deep_image, faulty_case, files, labelled_out_bytes,
-    labelled_position, random_path, sound_case, Case, Wanted,
+    labelled_position, random_directory_path, random_path, sound_case, Case, Wanted,
 };
-use common::plans::is_path;
+use common::plans::{is_directory_path, is_path};
 use common::trials::random_allowed;
 use common::{run_seeds, Button, Tally};
-use owfs::{Bitmap, Entry, Geometry, Kind, Listed, Name, Owner, Record, Refusal, Totals, Writes};
+use owfs::{
+    Bitmap, Entry, Geometry, Kind, Listed, Name, Owner, PathError, Record, Refusal, Totals, Writes,
+};
 use referee::builder::plan::{Built, BuiltEntry, ChainOf};
 use referee::builder::random::random_name;
 use referee::rng::Rng;
@@ -171,6 +173,26 @@ impl<'a> Pair<'a> {
         self.same("delete", expected.number);
     }
 
+    /// A directory made.
+    fn make_directory(&mut self, path: &[u8]) {
+        let (p, n) = (self.geometry.page_length, self.geometry.page_count);
+        let (image, owners) = (&mut self.expected_image, &mut self.expected_owners);
+        let expected = referee::make_directory(p, n, image, path, owners);
+        let told = owfs::make_directory(self.geometry, &mut self.image, path, &mut self.owners);
+        assert_eq!(told, result(expected.number, expected.page, ()));
+        self.same("make directory", expected.number);
+    }
+
+    /// A directory removed.
+    fn remove_directory(&mut self, path: &[u8]) {
+        let (p, n) = (self.geometry.page_length, self.geometry.page_count);
+        let (image, owners) = (&mut self.expected_image, &mut self.expected_owners);
+        let expected = referee::remove_directory(p, n, image, path, owners);
+        let told = owfs::remove_directory(self.geometry, &mut self.image, path, &mut self.owners);
+        assert_eq!(told, result(expected.number, expected.page, ()));
+        self.same("remove directory", expected.number);
+    }
+
     /// A careful put.
     fn careful_put(&mut self, path: &[u8], bytes: &[u8], allowed: u32) {
         let (p, n) = (self.geometry.page_length, self.geometry.page_count);
@@ -228,6 +250,12 @@ impl<'a> Pair<'a> {
             self.mend();
             self.careful_delete(&random_path(built, rng).path, random_allowed(rng));
             self.mend();
+            let path = random_directory_path(built, rng);
+            self.make_directory(&path);
+            self.remove_directory(&random_directory_path(built, rng));
+            if rng.chance(50) {
+                self.remove_directory(&path);
+            }
         }
         self.format([Bitmap::Local, Bitmap::File][rng.below(2)]);
         self.check();
@@ -245,6 +273,8 @@ fn demand_every_number(tally: &Tally) {
     tally.demand_numbers("delete", 20, (0..=16).chain([22]));
     tally.demand_numbers("careful put", 20, (0..=17).chain([22]));
     tally.demand_numbers("careful delete", 20, (0..=16).chain([22]));
+    tally.demand_numbers("make directory", 20, (0..=15).chain([17, 21, 22]));
+    tally.demand_numbers("remove directory", 20, (0..=15).chain([20, 22]));
     tally.demand_numbers("mend", 20, 0..=13);
     tally.demand(100, &["marks cleared"]);
 }
@@ -291,10 +321,12 @@ fn demand_listed(listed: &Listed, known: &BuiltEntry) {
         assert_eq!(listed.entry.kind(), Kind::Directory);
         assert_eq!(names, known.path);
         assert_eq!(listed.path(), None);
+        assert_eq!(listed.directory_path().as_ref(), Some(&known.path));
         assert_eq!(flags, (false, attribute));
     } else {
         assert_eq!(listed.entry.kind(), Kind::File);
         assert_eq!(listed.path().as_ref(), Some(&known.path));
+        assert_eq!(listed.directory_path(), None);
         assert_eq!(flags, (attribute, false));
     }
 }
@@ -358,7 +390,7 @@ fn entries_come_in_walk_order_with_their_paths() {
 /// Names, extension numbers and numbers of directories make a path exactly if it is well formed.
 #[test]
 fn path_is_made_exactly_if_it_is_well_formed() {
-    let mut made = [0; 2];
+    let mut made = [0; 4];
     run_seeds(0xD200_0000..0xD200_0000 + 20_000, |_, rng| {
         let names = rng.between(1, 11);
         let mut stored: Vec<[u8; 4]> = (0..names).map(|_| random_name(rng)).collect();
@@ -376,6 +408,11 @@ fn path_is_made_exactly_if_it_is_well_formed() {
         let path = owfs::path(directories, name, extension).ok();
         assert_eq!(path, is_path(&bytes).then_some(bytes));
         made[usize::from(path.is_some())] += 1;
+        let names = stored.concat();
+        let path = owfs::directory_path(&texts).ok();
+        assert_eq!(path, is_directory_path(&names).then_some(names));
+        made[2 + usize::from(path.is_some())] += 1;
     });
+    assert_eq!(owfs::directory_path(&[]), Err(PathError::Empty));
     assert!(made.iter().all(|&times| times > 2_000), "{made:?}");
 }

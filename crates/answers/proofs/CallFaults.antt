@@ -9,12 +9,13 @@ use Rattle.geometry.specs.Geometry.{Fit}
 use Rattle.rules.specs.Result.{Res, ok, err}
 use Rattle.rules.specs.ResultLaws.{clash, err-same}
 use Rattle.rules.specs.RefusalLaws.{Refuses, refuses-within, refuses-ok, format-faults}
-use Rattle.rules.specs.CallLaws.{put-faults, delete-faults}
+use Rattle.rules.specs.CallLaws.{put-faults, delete-faults, make-faults, remove-faults}
 use Rattle.rules.specs.CarefulLaws.{careful-put-faults, careful-delete-faults, mend-faults}
 use Rattle.rules.specs.Calls.{Effect, plainly}
 use Rattle.rules.specs.Format.{format}
 use Rattle.rules.specs.Put.{put}
 use Rattle.rules.specs.Delete.{delete}
+use Rattle.rules.specs.Directories.{makeDirectory, removeDirectory}
 use Rattle.rules.specs.Careful.{carefulPut, carefulDelete, mend}
 
 pub some-pages : {g : Geometry} {image : List ℕ} → Fit g image → 0 < g .pages
@@ -38,6 +39,12 @@ module _ (image : List ℕ) where
 
     pub put-told : (bytes : List ℕ) → CallFaults image (λ g. plainly (put g path bytes image))
     put-told bytes g f = refuses-within 1 22 (g .pages + 33) (omega arith) (omega arith) (omega arith) (plain-faults _ (put-faults g (some-pages f) path image bytes))
+
+    pub make-told : CallFaults image (λ g. plainly (makeDirectory g path image))
+    make-told g f = refuses-within 1 22 (g .pages + 33) (omega arith) (omega arith) (omega arith) (plain-faults _ (make-faults g (some-pages f) path image))
+
+    pub remove-told : CallFaults image (λ g. plainly (removeDirectory g path image))
+    remove-told g f = refuses-within 1 22 (g .pages + 33) (omega arith) (omega arith) (omega arith) (plain-faults _ (remove-faults g (some-pages f) path image))
 
     pub careful-delete-told : (k : ℕ) → CallFaults image (λ g. carefulDelete g k path image)
     careful-delete-told k g f = refuses-within 1 22 (g .pages + 33) (omega arith) (omega arith) (omega arith) (careful-delete-faults g (some-pages f) k path image)

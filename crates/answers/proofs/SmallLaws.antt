@@ -23,7 +23,7 @@ use Rattle.rules.specs.Check.{check}
 use Rattle.rules.specs.Soundness.{check-sound}
 use Rattle.rules.specs.Owners.{totals}
 use Rattle.rules.specs.Listing.{linesOf, lineAt}
-use Rattle.rules.specs.Paths.{fileKey, Found, nothing, aFile, aDirectory, find, rootPlace}
+use Rattle.rules.specs.Paths.{pathOf, fileKey, Found, nothing, aFile, aDirectory, find, rootPlace}
 use Rattle.rules.specs.TargetLaws.{reached}
 use Rattle.rules.specs.Calls.{bytesOf, fileAt, readBytes, lengthOf, asked, inGeometry, Effect, plainly, effective, checkCall, listCall, readCall, formatCall, putCall, deleteCall}
 use Rattle.rules.specs.RefusalLaws.{Refuses}
@@ -32,12 +32,13 @@ use Rattle.rules.specs.CallLaws.{asked-fits, asked-invalid, read-faults}
 use Rattle.rules.specs.Format.{format}
 use Rattle.rules.specs.Put.{put}
 use Rattle.rules.specs.Delete.{delete}
+use Rattle.rules.specs.Directories.{makeDirectory, makeCall, removeDirectory, removeCall}
 use Rattle.chain.specs.KnownChain.{ChainAt}
 use Rattle.chain.proofs.Following.{first-stands, small-view}
 use Rattle.listing.specs.KnownTree.{Below}
 use Rattle.listing.proofs.Accepting.{accepted-stands}
 use Rattle.lookup.proofs.Resolving.{FoundAt, find-stands, place-below}
-use Rattle.answers.proofs.CallFaults.{some-pages, CallFaults, format-told, delete-told, put-told}
+use Rattle.answers.proofs.CallFaults.{some-pages, CallFaults, format-told, delete-told, make-told, remove-told, put-told}
 use Rattle.answers.proofs.EffectLaws.{small-effective}
 use Rattle.answers.specs.Small.{Small, TotalsSmall, LineSmall, LengthSmall, DoneSmall}
 
@@ -111,7 +112,7 @@ module _ (g : Geometry) (image : List ℕ) (fit : Fit g image) where
   file-small : (path : List ℕ) (i : Image) → check g vs ≡ ok i → (bytes : List ℕ) → fileAt path i ≡ ok bytes → length bytes < 16777216
   unfolding fileAt
   file-small path i a bytes e = on-then _ _ _ e λ x w e.
-      let r = reached path (i .tree) x w in
+      let r = reached (pathOf path) (i .tree) x w in
       let b = place-below g vs (x .to .directories) (rootPlace (i .tree)) 8 (accepted-stands g vs i a .below) (x .place) (r .there) in
       let k = fileKey (x .to) in
       go (b .0) k (find k (x .place .items)) (find-stands g vs (b .0) k (x .place .items) (b .1)) e
@@ -162,6 +163,14 @@ module _ (P N : ℕ) (image t : List ℕ) where
   pub delete-small : (path : List ℕ) (q : Res (Unit {0})) (after x : List ℕ) → (q, after, x) ≡ deleteCall P N image t path → Small DoneSmall q
   unfolding deleteCall
   delete-small path q after x e = subst (Small DoneSmall) (sym (ap (λ (y : Res (Unit {0}) × List ℕ × List ℕ). y .0) e)) (small-done (λ g. plainly (delete g path image)) (delete-told image path))
+
+  pub make-small : (path : List ℕ) (q : Res (Unit {0})) (after x : List ℕ) → (q, after, x) ≡ makeCall P N image t path → Small DoneSmall q
+  unfolding makeCall
+  make-small path q after x e = subst (Small DoneSmall) (sym (ap (λ (y : Res (Unit {0}) × List ℕ × List ℕ). y .0) e)) (small-done (λ g. plainly (makeDirectory g path image)) (make-told image path))
+
+  pub remove-small : (path : List ℕ) (q : Res (Unit {0})) (after x : List ℕ) → (q, after, x) ≡ removeCall P N image t path → Small DoneSmall q
+  unfolding removeCall
+  remove-small path q after x e = subst (Small DoneSmall) (sym (ap (λ (y : Res (Unit {0}) × List ℕ × List ℕ). y .0) e)) (small-done (λ g. plainly (removeDirectory g path image)) (remove-told image path))
 
   pub put-small : (path bytes : List ℕ) (q : Res (Unit {0})) (after x : List ℕ) → (q, after, x) ≡ putCall P N image t path bytes → Small DoneSmall q
   unfolding putCall

@@ -25,21 +25,22 @@ use Rattle.rules.specs.Listing.{linesOf, lineAt}
 use Rattle.rules.specs.Format.{format}
 use Rattle.rules.specs.Put.{put}
 use Rattle.rules.specs.Delete.{delete}
+use Rattle.rules.specs.Directories.{makeDirectory, makeCall, removeDirectory, removeCall}
 use Rattle.rules.specs.Calls.{readBytes, lengthOf, filled, inGeometry, asked, Effect, plainly, effective, checkCall, listCall, readCall, formatCall, putCall, deleteCall}
 use Rattle.rules.specs.CallLaws.{asked-fits, asked-invalid, read-faults}
-use Rattle.rules.specs.Paths.{pathOf}
-use Rattle.rules.specs.Candidate.{NotReadOnly, PutFile}
-use Rattle.rules.specs.Promises.{Accepts, TellsTree, Formats, Deletes, Puts}
+use Rattle.rules.specs.Paths.{pathOf, directoryPathOf}
+use Rattle.rules.specs.Candidate.{NotReadOnly, Absent, PutFile, EmptyDirectory}
+use Rattle.rules.specs.Promises.{Accepts, TellsTree, Formats, Deletes, Removes, Puts, Makes}
 use Rattle.reading_theorems.specs.CheckCall.{asked-tells, tells-said}
 use Rattle.editing_theorems.specs.Demand3.{demand-said}
-use Rattle.editing_theorems.specs.Promised.{format-stated, delete-stated, put-stated, leaves-said}
-use Rattle.answers.proofs.CallFaults.{some-pages, CallFaults, format-told, delete-told, put-told}
+use Rattle.editing_theorems.specs.Promised.{format-stated, delete-stated, removal-stated, put-stated, make-stated, leaves-said}
+use Rattle.answers.proofs.CallFaults.{some-pages, CallFaults, format-told, delete-told, make-told, remove-told, put-told}
 use Rattle.answers.proofs.EffectLaws.{effective-number}
 use Rattle.answers.specs.declared.OwfsTotals.{OwfsTotals}
 use Rattle.answers.specs.declared.OwfsEntry.{OwfsEntry}
 use Rattle.answers.specs.declared.OwfsLength.{OwfsLength}
 use Rattle.answers.specs.declared.OwfsAnswer.{OwfsAnswer}
-use Rattle.answers.specs.ExportedAnswers.{totalsFor, entryFor, lengthFor, answerFor, asksLocal, checkAnswer, listAnswer, readAnswer, formatAnswer, putAnswer, deleteAnswer}
+use Rattle.answers.specs.ExportedAnswers.{totalsFor, entryFor, lengthFor, answerFor, asksLocal, checkAnswer, listAnswer, readAnswer, formatAnswer, makeAnswer, removeAnswer, putAnswer, deleteAnswer}
 
 -- no refusal has the number 0
 module _ {A : Type 0} (P N : ℕ) (image t : List ℕ) (question : Image → Res A) (h : (i : Image) → Refuses 14 18 1 (question i)) where
@@ -139,6 +140,30 @@ module _ (P N : ℕ) (image owners : List ℕ) (bytes : Bytes image) where
       let told : r ≡ answerFor (effective P N image t f .0) = ap (λ (x : OwfsAnswer × List ℕ × List ℕ). x .0) e in
       let left : after ≡ effective P N image t f .1 = ap (λ (x : OwfsAnswer × List ℕ × List ℕ). x .1) e in
       rw left (leaves-said (edit-done P N image t f h r told) (delete-stated P N image t bytes path))
+
+  pub removes : (path : List ℕ) (r : OwfsAnswer) (after b : List ℕ) → (r, after, b) ≡ removeAnswer P N image owners path
+      → Removes P N image owners path (r .number ≡ 0) after
+  unfolding removeAnswer removeCall
+  removes path r after b e =
+      let t = owners in
+      let f : Geometry → Res (Effect (Unit {0})) = λ g. plainly (removeDirectory g path image) in
+      let h : CallFaults image f = remove-told image path in
+      let told : r ≡ answerFor (effective P N image t f .0) = ap (λ (x : OwfsAnswer × List ℕ × List ℕ). x .0) e in
+      let left : after ≡ effective P N image t f .1 = ap (λ (x : OwfsAnswer × List ℕ × List ℕ). x .1) e in
+      rw left (leaves-said (edit-done P N image t f h r told) (removal-stated P N image t bytes path))
+
+  pub makes : (path : List ℕ) → Bytes path → (r : OwfsAnswer) (after b : List ℕ) → (r, after, b) ≡ makeAnswer P N image owners path
+      → Makes P N image owners path (r .number ≡ 0) (λ x. r ≡ answerFor x) after
+  unfolding makeAnswer makeCall
+  makes path pb r after b e =
+      let t = owners in
+      let f : Geometry → Res (Effect (Unit {0})) = λ g. plainly (makeDirectory g path image) in
+      let h : CallFaults image f = make-told image path in
+      let told : r ≡ answerFor (effective P N image t f .0) = ap (λ (x : OwfsAnswer × List ℕ × List ℕ). x .0) e in
+      let left : after ≡ effective P N image t f .1 = ap (λ (x : OwfsAnswer × List ℕ × List ℕ). x .1) e in
+      let d = edit-done P N image t f h r told in
+      let k = make-stated P N image t bytes path pb in
+      rw left (leaves-said d (k .0), demand-said P N image t (directoryPathOf path) Absent EmptyDirectory d (edit-told P N image t f h r told 17 0 (omega arith)) (k .1))
 
   pub puts : (path text : List ℕ) → Bytes path → Bytes text → (r : OwfsAnswer) (after b : List ℕ) → (r, after, b) ≡ putAnswer P N image owners path text
       → Puts P N image owners path text (r .number ≡ 0) (λ x. r ≡ answerFor x) after

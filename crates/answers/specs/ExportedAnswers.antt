@@ -9,6 +9,7 @@ use Rattle.rules.specs.declared.WriteCount.{WriteCount}
 use Rattle.rules.specs.Result.{Res, ok, err}
 use Rattle.rules.specs.PageSets.{bit}
 use Rattle.rules.specs.Calls.{checkCall, listCall, readCall, formatCall, putCall, deleteCall}
+use Rattle.rules.specs.Directories.{makeCall, removeCall}
 use Rattle.rules.specs.Careful.{carefulPutCall, carefulDeleteCall, mendCall}
 use Rattle.answers.specs.declared.OwfsTotals.{OwfsTotals}
 use Rattle.answers.specs.declared.OwfsEntry.{OwfsEntry}
@@ -79,6 +80,12 @@ module _ (P N : ℕ) (image owners : List ℕ) where
 
   unfoldable pub deleteAnswer : List ℕ → OwfsAnswer × List ℕ × List ℕ
   deleteAnswer path = let r = deleteCall P N image owners path in (answerFor (r .0), r .1, r .2)
+
+  unfoldable pub makeAnswer : List ℕ → OwfsAnswer × List ℕ × List ℕ
+  makeAnswer path = let r = makeCall P N image owners path in (answerFor (r .0), r .1, r .2)
+
+  unfoldable pub removeAnswer : List ℕ → OwfsAnswer × List ℕ × List ℕ
+  removeAnswer path = let r = removeCall P N image owners path in (answerFor (r .0), r .1, r .2)
 
   -- the careful calls, which may make so many page writes, and the mend
   unfoldable pub carefulPutAnswer : List ℕ → List ℕ → ℕ → OwfsWrites × List ℕ × List ℕ

@@ -26,7 +26,7 @@ use Rattle.rules.specs.Delete.{deleteTarget, deleteEdit}
 use Rattle.rules.specs.Answers.{countResult}
 use Rattle.rules.specs.Careful.{haltedAt, carefulWrites, carefulDelete, carefulDeleteCall, countOf}
 use Rattle.rules.specs.CarefulPromises.{IsDone, CarefullyDeletes}
-use Rattle.editing_theorems.specs.DeleteLaws.{FileIn, file-in, delete-shows}
+use Rattle.editing_theorems.specs.DeleteLaws.{stands-in, delete-shows, a-delete}
 use Rattle.careful_theorems.specs.MarkedPages.{marks-stand}
 use Rattle.careful_theorems.specs.CarefulCalls.{careful-delete-stated}
 use Rattle.edit.specs.declared.Outcome.{Outcome}
@@ -41,18 +41,16 @@ unfolding carefulDelete
 delete-fault g k path image n p e = simp (e, then-err)
 
 -- the pages in use after a delete were in use before it
-fewer : (g : Geometry) (path image : List ℕ) (f : FileIn g path image) (i : Image) (q : Path) (d : Place) → f .at .before ≡ i → f .at .to ≡ q → f .at .place ≡ d
-    → (x : ℕ) → 1 ≤ count x (used (edited g (q .directories) (deleteEdit q d) i)) → 1 ≤ count x (used i)
-fewer g path image f i q d a b c = rw (← a, ← b, ← c) (λ x j. omega (arith, delete-shows f .total x, j))
-
 same-writes : (g : Geometry) (path image : List ℕ) → Fit g image → (table : List OwnerRecord) (T : TableOf g image table) (x : Target) → deleteTarget path (T .tree .tree) ≡ ok x
     → carefulWrites g (x .to .directories) (deleteEdit (x .to) (x .place)) (T .tree) ≡ deleteWrites g (T .tree) x
 unfolding carefulWrites
-same-writes g path image fit table T x t = file-in g path image fit (T .bytes) (T .tree) (T .accepted) x t λ f a b c.
+same-writes g path image fit table T x t =
+    let C = a-delete path in
     let i = T .tree in
+    let s = delete-shows C (stands-in C fit (T .bytes) i (T .accepted) x t) in
     let e = deleteEdit (x .to) (x .place) in
     let j = edited g (x .to .directories) e i in
-    ap (λ (m : List ℕ). editWrites g m e i j) (marks-stand g i j (fewer g path image f i (x .to) (x .place) a b c))
+    ap (λ (m : List ℕ). editWrites g m e i j) (marks-stand g i j (λ y h. omega (arith, s .total y, h)))
 
 -- ---- an accepted image
 module _ (g : Geometry) (image : List ℕ) (table : List OwnerRecord) (path : List ℕ) (fit : Fit g image) (T : TableOf g image table) (k : ℕ) (budget : Budget) (b : budget ≡ withLimit k) (after : List ℕ) (o : Outcome)

@@ -66,7 +66,7 @@ module _ {g : Geometry} {image : List ℕ} {table : List OwnerRecord} {bytes : L
   abbrev P : Putting (λ _ i. used i) g image table bytes f
   P = Q .putting
 
-  abbrev a : Asked g image (Q .putting .path) bytes
+  abbrev a : Asked g image bytes (Q .putting .stands)
   a = Q .putting .asked
 
   abbrev tree : Image
@@ -85,7 +85,7 @@ module _ {g : Geometry} {image : List ℕ} {table : List OwnerRecord} {bytes : L
 
   module _ {n : ℕ} (n-is : n ≡ pagesFor (dataCapacity g) (length bytes)) {r : Taken} (T : Takes table (f .extra) n r) {p : Pages} (m : r ≡ took.At p) where
     abbrev C : CarefulEdit g image
-    C = careful.careful-edit g image (P .path) bytes a (room sized P n-is T m)
+    C = careful.careful-edit g image bytes (P .stands) a (room sized P n-is T m)
 
     -- the pages marked: those in use and those taken
     abbrev new : List ℕ
@@ -98,12 +98,12 @@ module _ {g : Geometry} {image : List ℕ} {table : List OwnerRecord} {bytes : L
     all-marked = marks-below table (used tree) all (p .below) (P .represents) (omega (arith, T′ sized P n-is T m .inside, sized)) (λ x. count-append x (used tree) new)
 
     kept-less : (x : ℕ) → count x (keptPages (a .to) tree) ≤ count x (used tree)
-    kept-less x = omega (arith, laws.kept-old g image (P .path) bytes a x)
+    kept-less x = omega (arith, laws.kept-old g image bytes (P .stands) a x)
 
     -- ---- the marks
-    bits-are : bothMarked g tree (laws.result g image (P .path) bytes a (freePages (used tree) (g .pages)) (P .clear) (room sized P n-is T m)) ≡ bitmapOf g all (tree .map)
-    bits-are = marks-new g tree (laws.result g image (P .path) bytes a (freePages (used tree) (g .pages)) (P .clear) (room sized P n-is T m)) (keptPages (a .to) tree) new
-        (λ x. ap (count x) (used-edited g (a .to .directories) (laws.theEdit g image (P .path) bytes a (freePages (used tree) (g .pages))) tree) ∙ left-then sized P n-is T m x) kept-less
+    bits-are : bothMarked g tree (laws.result g image bytes (P .stands) a (freePages (used tree) (g .pages)) (P .clear) (room sized P n-is T m)) ≡ bitmapOf g all (tree .map)
+    bits-are = marks-new g tree (laws.result g image bytes (P .stands) a (freePages (used tree) (g .pages)) (P .clear) (room sized P n-is T m)) (keptPages (a .to) tree) new
+        (λ x. ap (count x) (used-edited g (a .to .directories) (laws.theEdit g image bytes (P .stands) a (freePages (used tree) (g .pages))) tree) ∙ left-then sized P n-is T m x) kept-less
 
     module _ (budget : Budget) (o : Open budget) (mid : List ℕ) (marked : Budget) (w : WritesMap g table (p .below) image budget mid marked) where
       h : _≡_ {A = Progress} (record { image = mid; budget = marked }) (writeAll g (A C) (record { image = image; budget = budget }))
@@ -116,13 +116,13 @@ module _ {g : Geometry} {image : List ℕ} {table : List OwnerRecord} {bytes : L
       rest = linked (C .edit .chain) ++ (es.ws₂ (editA C) ++ es.ws₃ (editA C))
 
       list-from : (now : Progress) → now ≡ writeAll g rest (record { image = mid; budget = marked })
-          → now ≡ writeAll g (carefulWrites g (a .to .directories) (laws.theEdit g image (P .path) bytes a (freePages (used tree) (g .pages))) tree) (record { image = image; budget = budget })
+          → now ≡ writeAll g (carefulWrites g (a .to .directories) (laws.theEdit g image bytes (P .stands) a (freePages (used tree) (g .pages))) tree) (record { image = image; budget = budget })
       list-from now e = e ∙ ap (writeAll g rest) h ∙ sym (all-joined g (A C) rest (record { image = image; budget = budget }))
           ∙ sym (ap (λ (ws : List Write). writeAll g ws (record { image = image; budget = budget })) (four-parts C))
 
       done : (now : Progress) → now ≡ writeAll g rest (record { image = mid; budget = marked }) → Outcomes g writes image budget (now .image) (outcome.Done (now .budget))
       done now e =
-          let x = laws.theEdit g image (P .path) bytes a (freePages (used tree) (g .pages)) in
+          let x = laws.theEdit g image bytes (P .stands) a (freePages (used tree) (g .pages)) in
           (carefulWrites g (a .to .directories) x tree, simp (edit-is sized P n-is T m, then-ok), list-from now e)
 
       -- a write was held back
@@ -147,11 +147,11 @@ module _ {g : Geometry} {image : List ℕ} {table : List OwnerRecord} {bytes : L
         -- a page of the replaced chain is written by none of the steps
         not-written : (x : ℕ) → 1 ≤ count x (pages links) → (count x (ownPages (C .edit .after)) ≡ 0) × (count x (pages (C .edit .chain)) ≡ 0)
         not-written x j =
-            let k = laws.kept-old g image (P .path) bytes a x in
+            let k = laws.kept-old g image bytes (P .stands) a x in
             let e = ap (count x) (Q .pages-are) in
             let u : count x (used tree) ≤ 1 = omega (arith, a .well .holds .apart x, range-le x (g .pages)) in
             let some : 1 ≤ count x (used tree) = omega (arith, k, e) in
-            (omega (arith, C .joinsFree x some, laws.kept-is g image (P .path) bytes a x, k, e, u), C .chainFree x some)
+            (omega (arith, C .joinsFree x some, laws.kept-is g image bytes (P .stands) a x, k, e, u), C .chainFree x some)
 
         old-packets : HasPackets (viewOf g (es.image₂ (editA C))) (linked links)
         old-packets =
@@ -166,7 +166,7 @@ module _ {g : Geometry} {image : List ℕ} {table : List OwnerRecord} {bytes : L
         -- the bitmap keeps its pages
         map-pages : (x : ℕ) → count x (es.left (editA C)) ≡ count x (allPages (changeAt (a .to .directories) (λ _. C .edit .after) (tree .tree)) ++ mapPages (tree .map))
         map-pages x =
-            let then = laws.result g image (P .path) bytes a (freePages (used tree) (g .pages)) (P .clear) (room sized P n-is T m) in
+            let then = laws.result g image bytes (P .stands) a (freePages (used tree) (g .pages)) (P .clear) (room sized P n-is T m) in
             ap (λ (ps : List ℕ). count x (allPages (changeAt (a .to .directories) (λ _. C .edit .after) (tree .tree)) ++ ps)) (pages-remap (bothMarked g tree then) (tree .map))
 
         rest-is : (x : ℕ) → count x (es.left (editA C)) + count x (pages links) ≡ count x all
@@ -174,7 +174,7 @@ module _ {g : Geometry} {image : List ℕ} {table : List OwnerRecord} {bytes : L
           arith,
           map-pages x,
           left-then sized P n-is T m x,
-          laws.kept-old g image (P .path) bytes a x,
+          laws.kept-old g image bytes (P .stands) a x,
           ap (count x) (Q .pages-are),
           count-append x (used tree) new,
         )

@@ -12,7 +12,7 @@ use Rattle.rules.specs.ResultLaws.{ok-inj, then-ok, then-err}
 use Rattle.rules.specs.Chain.{viewsOf}
 use Rattle.rules.specs.Tree.{Image}
 use Rattle.rules.specs.Check.{check}
-use Rattle.rules.specs.Paths.{Target}
+use Rattle.rules.specs.Paths.{Target, aFile}
 use Rattle.rules.specs.Put.{putTarget}
 use Rattle.rules.specs.Owners.{OwnerRecord}
 use Rattle.careful_theorems.specs.CarefulPuts as careful
@@ -23,7 +23,7 @@ use Rattle.edit.specs.Plans.{Outcomes}
 use Rattle.volume.specs.Edits.{TableOf}
 use Rattle.put.specs.declared.Placed.{Placed}
 use Rattle.put.specs.declared.Placed.the-variants as placed
-use Rattle.put.specs.Places.{FilePlace, IsPlaced, Places}
+use Rattle.put.specs.Places.{ItemPlace, IsPlaced, Places}
 use Rattle.put.proofs.PathPuts.{asked, table-used}
 use Rattle.careful.specs.MarkedPuts.{CarefulPutting, carefulPutWrites, CarefullyPutsFile, CarefulPathPut}
 
@@ -33,22 +33,22 @@ module _ (g : Geometry) (image : List ℕ) (table : List OwnerRecord) (path byte
   tree = T .tree
 
   pub refused : (n p : ℕ) → r ≡ placed.Refused n p → CarefulPathPut g image path bytes budget image (outcome.Refused n p)
-  refused n p e i c = let z : putTarget path (i .tree) ≡ err n p = subst (λ (x : Placed). IsPlaced g image path i x) e (h i c) in (simp (z, then-err), refl)
+  refused n p e i c = let z : putTarget path (i .tree) ≡ err n p = subst (λ (x : Placed). IsPlaced g image (putTarget path) i x) e (h i c) in (simp (z, then-err), refl)
 
   module _ (f : NewFile) (e : r ≡ placed.At f) where
-    place : FilePlace g image path tree f
-    place = subst (IsPlaced g image path tree) e (h tree (T .accepted))
+    place : ItemPlace g image (putTarget path) tree f
+    place = subst (IsPlaced g image (putTarget path) tree) e (h tree (T .accepted))
 
     pub to-put : CarefulPutting g image table bytes f
     to-put =
-        let a = asked g image table path bytes fit T pathFits bytesFit (place .target) (place .reached) in
+        let a = asked g image table path bytes fit T pathFits bytesFit (place .goal) (place .reached) in
         record {
           putting = record {
-            path = path;
+            stands = aFile;
             asked = a;
             at = place .at;
-            represents = table-used g image table path bytes fit T pathFits bytesFit (place .target) (place .reached);
-            clear = careful.clear g image path bytes a;
+            represents = table-used g image table path bytes fit T pathFits bytesFit (place .goal) (place .reached);
+            clear = careful.clear g image bytes aFile a;
           };
           old = place .old;
           pages-are = place .pages-are;
@@ -57,7 +57,7 @@ module _ (g : Geometry) (image : List ℕ) (table : List OwnerRecord) (path byte
     pub put-at : (after : List ℕ) (o : Outcome) → CarefullyPutsFile g image table bytes f budget after o → CarefulPathPut g image path bytes budget after o
     unfolding to-put
     put-at after o k i c =
-        let x = place .target in
+        let x = place .goal in
         let same : tree ≡ i = ok-inj (sym (T .accepted) ∙ c) in
         subst (λ (j : Image). Outcomes g (andThen (putTarget path (j .tree)) (carefulPutWrites g bytes j)) image budget after o) same
         (subst (λ (z : Res Target). Outcomes g (andThen z (carefulPutWrites g bytes tree)) image budget after o) (sym (place .reached))

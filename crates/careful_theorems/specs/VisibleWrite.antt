@@ -1,5 +1,5 @@
 -- The packets of a directory that an edit changes: the one that makes the change visible, and before it, in the order of writing, at most one of a page that joins.
-use mathlib.Core.Path.{_≡_, refl, ap, ap₂, sym, _∙_}
+use mathlib.Core.Path.{_≡_, refl, ap, ap₂, sym, _∙_, subst}
 use mathlib.Core.Bool.{Bool, true, false}
 use mathlib.Core.List.{List, [], _∷_, _++_}
 use Prim.Native.Nat.{ℕ, zero, suc, _+_, _-_, _≤_}
@@ -81,18 +81,19 @@ module _ (n : ℕ) where
   touch-group [] e ts us h = touch-entry e ts us h
   touch-group (s ∷ ss) e ts us h = touch-entry s (stampTokens ss (entry e ∷ ts)) (stampTokens ss (entry e ∷ us)) (touch-group ss e ts us h)
 
-  pub insert-touch : (l : Label) (chain : List Link) (most q room r : ℕ) (t : Items) → Touch (tokens t) (tokens (insert (file l chain) most q room r t))
-  insert-touch l chain most q room zero end =
-      let b = tokenBytes n (stampTokens (l .stamps) (entry (fileEntry l chain) ∷ [])) in
-      joins q b refl refl (ap (λ (ls : List Link). link q b ∷ ls) (group-links n [] l (fileEntry l chain) []))
-  insert-touch l chain most q room (suc r) end = inPage (group-links n [] l (fileEntry l chain) [])
-  insert-touch l chain most q room zero (page p t) =
-      later refl (touch-page [] p (tokens t) (tokens (insert (file l chain) most q most room t)) (insert-touch l chain most q most room t))
-  insert-touch l chain most q room (suc r) (page p t) = inPage (group-links n [] l (fileEntry l chain) (tokens (page p t)))
-  insert-touch l chain most q room r (file m ls t) =
-      touch-group (m .stamps) (fileEntry m ls) (tokens t) (tokens (insert (file l chain) most q room (r - width m) t)) (insert-touch l chain most q room (r - width m) t)
-  insert-touch l chain most q room r (dir m d t) =
-      touch-group (m .stamps) (directoryEntry m d) (tokens t) (tokens (insert (file l chain) most q room (r - width m) t)) (insert-touch l chain most q room (r - width m) t)
+  -- a new entry e with the stamps of l, put in front by `new`
+  pub insert-touch : (l : Label) (e : Entry) (new : Items → Items) → ((t : Items) → tokens (new t) ≡ stampTokens (l .stamps) (entry e ∷ tokens t)) → (most q room r : ℕ) (t : Items)
+      → Touch (tokens t) (tokens (insert new most q room r t))
+  insert-touch l e new is most q room zero end =
+      let b = tokenBytes n (stampTokens (l .stamps) (entry e ∷ [])) in
+      subst (λ (ts : List Token). Touch [] (newPage q ∷ ts)) (sym (is end)) (joins q b refl refl (ap (λ (ls : List Link). link q b ∷ ls) (group-links n [] l e [])))
+  insert-touch l e new is most q room (suc r) end = subst (Touch []) (sym (is end)) (inPage (group-links n [] l e []))
+  insert-touch l e new is most q room zero (page p t) = later refl (touch-page [] p (tokens t) (tokens (insert new most q most room t)) (insert-touch l e new is most q most room t))
+  insert-touch l e new is most q room (suc r) (page p t) = subst (Touch (tokens (page p t))) (sym (is (page p t))) (inPage (group-links n [] l e (tokens (page p t))))
+  insert-touch l e new is most q room r (file m ls t) =
+      touch-group (m .stamps) (fileEntry m ls) (tokens t) (tokens (insert new most q room (r - width m) t)) (insert-touch l e new is most q room (r - width m) t)
+  insert-touch l e new is most q room r (dir m d t) =
+      touch-group (m .stamps) (directoryEntry m d) (tokens t) (tokens (insert new most q room (r - width m) t)) (insert-touch l e new is most q room (r - width m) t)
 
   pub replace-touch : (k : ℕ) (new : List Link) (t : Items) → Touch (tokens t) (tokens (replace k new t))
   replace-touch k new end = inPage refl

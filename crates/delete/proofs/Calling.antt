@@ -12,7 +12,7 @@ use Rattle.rules.specs.Result.{Res, ok, err}
 use Rattle.rules.specs.ResultLaws.{then-err}
 use Rattle.rules.specs.Chain.{viewsOf}
 use Rattle.rules.specs.Check.{check}
-use Rattle.rules.specs.Delete.{delete}
+use Rattle.rules.specs.Delete.{removeAt, delete}
 use Rattle.rules.specs.Calls.{deleteCall}
 use Rattle.rules.specs.Promises.{Deletes}
 use Rattle.editing_theorems.specs.Promised.{delete-stated}
@@ -22,7 +22,7 @@ use Rattle.volume.specs.Edits.{EditLeaves}
 use Rattle.volume.proofs.EditLaws.{changed-leaves}
 
 pub delete-fault : (g : Geometry) (path image : List ℕ) (n p : ℕ) → check g (viewsOf g image) ≡ err n p → delete g path image ≡ err n p
-unfolding delete
+unfolding removeAt
 delete-fault g path image n p e = simp (e, then-err)
 
 module _ (P N : ℕ) (image table path : List ℕ) where

@@ -1,4 +1,4 @@
--- The whole delete: the file's pages free again in the table, its entry taken from its page, the bitmap written.
+-- The whole delete: the pages of what goes free again in the table, its entry taken from its page, the bitmap written.
 use mathlib.Core.Path.{_≡_, refl, ap, sym, _∙_, subst}
 use mathlib.Core.List.{List, [], _∷_, _++_}
 use Prim.Native.Nat.{ℕ, _+_}
@@ -11,12 +11,12 @@ use Rattle.packet.specs.declared.Budget.{Budget}
 use Rattle.packet.specs.Budgets.{Progress, writeAll}
 use Rattle.rules.specs.declared.Entry.{Entry}
 use Rattle.rules.specs.Result.{ok}
+use Rattle.rules.specs.PageSets.{count}
 use Rattle.rules.specs.Chain.{pages}
 use Rattle.rules.specs.Tree.{used}
 use Rattle.rules.specs.Bitmap.{bitmapOf}
 use Rattle.rules.specs.WellFormed.{WellFormed}
-use Rattle.rules.specs.Paths.{Path, fileKey, Place, rootPlace, directoryAt}
-use Rattle.rules.specs.TargetLaws.{reached}
+use Rattle.rules.specs.Paths.{Path, fileKey, Place}
 use Rattle.rules.specs.Writes.{edited, editWrites}
 use Rattle.rules.specs.Delete.{deleteEdit}
 use Rattle.rules.specs.Owners.{OwnerRecord}
@@ -32,23 +32,18 @@ use Rattle.edit.specs.Plans.{Removal, RemovesEntry}
 use Rattle.edit.specs.ExchangeLaws.{pointer-is}
 use Rattle.edit.specs.StepLaws.{whole-is}
 use Rattle.lookup.specs.PlaceLaws.{group-shape, group-first, group-last}
-use Rattle.lookup.specs.Targets.{FileAt}
 use Rattle.volume.specs.Edits.{TableOf}
 use Rattle.delete.specs.Deletes.{CanDelete}
 
 module _ {g : Geometry} {image : List ℕ} {table : List OwnerRecord} (fit : Fit g image) {s : Slot} {stamps : ℕ} {e : Entry} (H : CanDelete g image table s stamps e) where
-  open CanDelete H using (known, path, file)
+  open CanDelete H using (known, target, there, at, links, chain, whole)
   open TableOf known using (bytes, tree, accepted, table-is)
-  open FileAt file using (target, label, links, found, chain, at)
 
   abbrev q : Path
   q = target .to
 
   abbrev place : Place
   place = target .place
-
-  pub there : directoryAt (q .directories) (rootPlace (tree .tree)) ≡ ok place
-  there = reached path (tree .tree) target (file .reached) .there
 
   abbrev k : ℕ
   k = fileKey q
@@ -88,7 +83,7 @@ module _ {g : Geometry} {image : List ℕ} {table : List OwnerRecord} (fit : Fit
     };
     kept = subst (λ (t : List OwnerRecord). Represents t (left removal)) (sym (r links chain)) (represents-freed table (used tree) (left removal) (pages links)
         (subst (λ (t : List OwnerRecord). Represents t (used tree)) (sym table-is) (represents-owners (g .pages) tree (well .holds .apart)))
-        (λ x. rw found at (pages-then g image bytes tree well (q .directories) place there k x)));
+        (λ x. ap (λ (n : ℕ). count x (left removal) + n) (whole x) ∙ pages-then g image bytes tree well (q .directories) place there k x));
   }
 
   -- the page writes are the rule's

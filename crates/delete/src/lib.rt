@@ -24,8 +24,8 @@ ghost use Rattle.volume.specs.Edits.{TableOf, EditLeaves};
 ghost use Rattle.packet.specs.Budgets.{Open};
 ghost use Rattle.delete.specs.Deletes.{CanDelete, Unlinks, PathDeleted};
 
-// Deletes the file of an entry within a budget: its pages are free again in the table, its directory's page is written without it, then the bitmap.
-fn unlink(
+// Deletes the file, or the empty directory, of an entry within a budget: its pages are free again in the table, its directory's page is written without it, then the bitmap.
+pub fn unlink(
     image: &mut [u8],
     g: Geometry,
     slot: Slot,

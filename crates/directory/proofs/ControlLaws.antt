@@ -1,21 +1,24 @@
 -- Control fields as the code reads them.
 use mathlib.Core.Path.{_≡_, refl, sym, ap, _∙_}
 use mathlib.Core.Bool.{Bool, true, false}
-use mathlib.Core.List.{List}
+use mathlib.Core.List.{List, [], _∷_, _++_, append-assoc}
 use Prim.Native.Nat.{ℕ, zero, suc, _+_, _-_, _*_, _%_, _≤_, _<_}
 use native.Mathlib.Omega.{arith}
 use lib.Dec.{eqb}
-use lib.ListN.{length, getD, take, drop, length-drop}
+use lib.ListN.{length, getD, take, drop, length-drop, length-append}
 use lib.Seq.{take-take, drop-drop}
 use borrow.Author.Tests.{le-leb, lt-leb, eq-eqb, ne-eqb}
 use Rattle.geometry.specs.declared.Geometry.{Geometry}
 use Rattle.geometry.specs.ChooseLaws.{choose-true, choose-false}
 use Rattle.geometry.specs.Geometry.{controlSize}
 use Rattle.geometry.specs.ListLaws.{drop-take}
-use Rattle.geometry.specs.Number.{number}
+use Rattle.geometry.specs.Number.{number, numberBytes}
+use Rattle.geometry.specs.NumberLaws.{length-number}
+use Rattle.geometry.specs.Page.{overwritten}
+use Rattle.packet.proofs.Fronts.{front, front-more, front-whole}
 use Rattle.rules.specs.Result.{andThen, refuse-unless}
 use Rattle.rules.specs.Chain.{anyPage}
-use Rattle.rules.specs.Control.{marker, Parent, controlAt, fieldAt, mostLocal, placeZeros, headOf, rootPage, subPage}
+use Rattle.rules.specs.Control.{marker, Parent, controlAt, fieldAt, mostLocal, placeZeros, headOf, subControl, rootPage, subPage}
 use Rattle.directory.specs.declared.control.Root.{Root}
 use Rattle.directory.specs.declared.control.Root.the-variants.{Local, Remote, Refused}
 use Rattle.directory.specs.declared.control.Kind.{Kind}
@@ -166,3 +169,32 @@ module _ (g : Geometry) (b : List ℕ) (r : ℕ) where
 
     pub root-first-short : (i : ℕ) → i ≡ 0 → length b < k → WholeFault g 0 r → PageFault g kind.Root i b r
     root-first-short i z h u = let e : length b - k ≡ 0 = omega arith in root-first i z (rw e u)
+
+-- ---- a subdirectory's control field, written in four parts as the code does it
+module _ (n : ℕ) (up : Parent) (b b₀ b₁ b₂ b₃ : List ℕ) (h : (length b ≡ 6 + n) × (n ≤ 2))
+    (e₀ : b₀ ≡ overwritten 0 (numberBytes 1 (0xA9 + n)) b) (e₁ : b₁ ≡ overwritten 1 (numberBytes 4 (up .name)) b₀)
+    (e₂ : b₂ ≡ overwritten 5 (numberBytes 1 0) b₁) (e₃ : b₃ ≡ overwritten 6 (numberBytes n (up .start)) b₂) where
+  abbrev mark : List ℕ
+  mark = (0xA9 + n) ∷ []
+
+  abbrev above : List ℕ
+  above = numberBytes 4 (up .name)
+
+  is₀ : b₀ ≡ front mark b
+  is₀ =
+      let i : (0xA9 + n) % 256 ≡ 0xA9 + n = omega (arith, h .1) in
+      e₀ ∙ front-more [] (numberBytes 1 (0xA9 + n)) b 0 refl ∙ ap (λ (y : ℕ). front (y ∷ []) b) i
+
+  is₁ : b₁ ≡ front (mark ++ above) b
+  is₁ = e₁ ∙ rw is₀ (front-more mark above b 1 refl)
+
+  is₂ : b₂ ≡ front ((mark ++ above) ++ (0 ∷ [])) b
+  is₂ = e₂ ∙ rw is₁ (front-more (mark ++ above) (numberBytes 1 0) b 5 refl)
+
+  pub control-filled : b₃ ≡ subControl n up
+  unfolding subControl marker
+  control-filled =
+      let s = numberBytes n (up .start) in
+      let w : length (mark ++ (above ++ (0 ∷ s))) ≡ length b = simp (length-append, length-number) (omega (arith, h .0)) in
+      e₃ ∙ rw is₂ (front-more ((mark ++ above) ++ (0 ∷ [])) s b 6 refl) ∙ ap (λ (xs : List ℕ). front xs b) (append-assoc (mark ++ above) (0 ∷ []) s)
+      ∙ front-whole (mark ++ (above ++ (0 ∷ s))) b w

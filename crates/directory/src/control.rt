@@ -3,6 +3,7 @@ use crate::entries;
 use geometry::ABOVE_NAME_AT;
 use geometry::ABOVE_START_AT;
 use geometry::ABOVE_ZERO_AT;
+use geometry::ABOVE_ZERO_BYTES;
 use geometry::BITMAP_CONTROL_PAST;
 use geometry::BITMAP_FIELD_BYTES;
 use geometry::BITMAP_FIELD_END;
@@ -11,13 +12,14 @@ use geometry::Geometry;
 use geometry::LOCAL_BITMAP;
 use geometry::MAP_ADDRESS_AT;
 use geometry::MARKER;
+use geometry::MARKER_BYTES;
 use geometry::MOST_LOCAL_PAGES;
 use geometry::NAME_BYTES;
 ghost use mathlib.Core.Path.{_≡_};
 ghost use Prim.Native.Nat.{_+_, _≤_};
 ghost use lib.ListN.{length};
 ghost use Rattle.geometry.specs.Geometry.{Valid};
-ghost use Rattle.rules.specs.Control.{fieldAt, headOf};
+ghost use Rattle.rules.specs.Control.{fieldAt, headOf, subControl};
 ghost use Rattle.directory.specs.Faults.{control, place, PageFault, SubFault};
 
 // What the root's control field says.
@@ -137,4 +139,15 @@ fn sub_fault(bytes: &[u8], g: Geometry, name: u32, start: usize) -> u8
         return 4;
     }
     entries::whole_fault(bytes.len() - skip, g)
+}
+
+// Fills a slice with a subdirectory's control field: marker, name of the directory above it, a zero byte, that directory's start page.
+pub fn put_control(bytes: &mut [u8], n: usize, name: u32, start: usize)
+    requires { ⌜ (length (now bytes) ≡ 6 + n) × (n ≤ 2) ⌝ }
+    ensures { λ _. ⌜ now (bytes .exit) ≡ subControl n (record { name = name; start = start }) ⌝ }
+{
+    geometry::put_number(bytes, 0, MARKER_BYTES, MARKER + n);
+    geometry::put_number(bytes, ABOVE_NAME_AT, NAME_BYTES, name as usize);
+    geometry::put_number(bytes, ABOVE_ZERO_AT, ABOVE_ZERO_BYTES, 0);
+    geometry::put_number(bytes, ABOVE_START_AT, n, start);
 }

@@ -53,7 +53,7 @@ use Rattle.edit.specs.StepLaws.{step₂, step₃, whole-is, two-stopped,
 use Rattle.edit.specs.Plans.{changeOf, entryOf, Plan, Putting, PlainPutting, Outcomes, putWrites}
 
 module _ (g : Geometry) (image : List ℕ) (table : List OwnerRecord) (bytes : List ℕ) (sized : length table ≡ g .pages) (f : NewFile) (P : PlainPutting g image table bytes f) where
-  abbrev a : Asked g image (P .path) bytes
+  abbrev a : Asked g image bytes (P .stands)
   a = P .asked
 
   abbrev writes : Res (List Write)
@@ -64,7 +64,7 @@ module _ (g : Geometry) (image : List ℕ) (table : List OwnerRecord) (bytes : L
   put-full n e r T m budget = (simp (full sized P n e r T m, then-err), refl)
 
   module _ {n : ℕ} (n-is : n ≡ pagesFor (dataCapacity g) (length bytes)) {r : Taken} (T : Takes table (f .extra) n r) {p : Pages} (m : r ≡ took.At p) where
-    abbrev E : OneEdit (laws.directory g image (P .path) bytes (P .asked))
+    abbrev E : OneEdit (laws.directory g image bytes (P .stands) (P .asked))
     E = theEdit sized P n-is T m
 
     pub plan-is : Plan g image table bytes (changeOf f p) (entryOf f p n)
@@ -79,7 +79,7 @@ module _ (g : Geometry) (image : List ℕ) (table : List OwnerRecord) (bytes : L
       done : (now : Progress) → now ≡ step₃ E budget → Outcomes g writes image budget (now .image) (outcome.Done (now .budget))
       done now q =
           let i = a .tree in
-          let x = laws.theEdit g image (P .path) bytes a (freePages (keptPages (a .to) i) (g .pages)) in
+          let x = laws.theEdit g image bytes (P .stands) a (freePages (keptPages (a .to) i) (g .pages)) in
           (editWrites g (bitmapOf g (used i) (i .map)) x i (edited g (a .to .directories) x i), simp (edit-is sized P n-is T m, then-ok), q ∙ sym (whole-is E budget))
 
       module _ (mid : List ℕ) (rest : Budget) (carried : _≡_ {A = Progress} (record { image = mid; budget = rest }) (step₂ (plan-is .edit) budget)) where

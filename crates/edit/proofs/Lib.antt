@@ -4,3 +4,4 @@ pub mod Entries
 pub mod Carrying
 pub mod FilePut
 pub mod Removing
+pub mod Told

@@ -31,7 +31,8 @@ use Rattle.owners.specs.Owned.{Represents, Marks}
 use Rattle.owners.specs.Free.{freeFrom}
 use Rattle.owners.specs.BitLaws.{marks-below}
 use Rattle.editing_theorems.specs.Capacity.{capacity-least}
-use Rattle.rules.specs.EditLaws.{find-none}
+use Rattle.rules.specs.EditLaws.{find-none, newEntry}
+use Rattle.rules.specs.Soundness.{tokenPages, own-tokens}
 use Rattle.rules.specs.Owners.{OwnerRecord}
 use Rattle.editing_theorems.specs.PutDirectory.{extra-one, extra-old}
 use Rattle.editing_theorems.specs.PutLaws as laws
@@ -50,24 +51,9 @@ use Rattle.edit.specs.Pages.{PagesTaken, TakenIs, Takes}
 use Rattle.edit.specs.Entering.{Exchanges, Joins, Entering}
 use Rattle.edit.specs.ExchangeLaws.{pointer-is}
 use Rattle.edit.specs.StepLaws.{step₂, step₃}
-use Rattle.edit.specs.Plans.{changeOf, entryOf, Plan, Putting, PlainPutting, Outcomes, putWrites}
+use Rattle.edit.specs.Plans.{changeOf, countTold, entryOf, Plan, Putting, PlainPutting, Outcomes, putWrites}
 
 -- ---- the pages of a directory by its tokens
-abbrev tokenPages : List Token → List ℕ
-tokenPages [] = []
-tokenPages (newPage p ∷ ts) = p ∷ tokenPages ts
-tokenPages (entry e ∷ ts) = tokenPages ts
-
-stamp-pages : (ss : List Entry) (ts : List Token) → tokenPages ts ≡ tokenPages (stampTokens ss ts)
-stamp-pages [] ts = refl
-stamp-pages (s ∷ ss) ts = stamp-pages ss ts
-
-own-tokens : (t : Items) → ownPages t ≡ tokenPages (tokens t)
-own-tokens end = refl
-own-tokens (page p t) = ap (λ (l : List ℕ). p ∷ l) (own-tokens t)
-own-tokens (file l ls t) = own-tokens t ∙ stamp-pages (l .stamps) (entry (fileEntry l ls) ∷ tokens t)
-own-tokens (dir l d t) = own-tokens t ∙ stamp-pages (l .stamps) (entry (directoryEntry l d) ∷ tokens t)
-
 page-there : (p : ℕ) (a ts : List Token) → 1 ≤ count p (tokenPages (a ++ (newPage p ∷ ts)))
 page-there p [] ts = omega (arith, hit-same p)
 page-there p (newPage q ∷ a) ts = omega (arith, page-there p a ts)
@@ -81,11 +67,11 @@ pages-fit g v size extra h k =
     omega (arith, capacity-least g v, div-mul-le-self (size - 1) c, mul-le-mul-right q (capacity-least g v))
 
 module _ {inUse : Path → Image → List ℕ} {g : Geometry} {image : List ℕ} {table : List OwnerRecord} {bytes : List ℕ} (sized : length table ≡ g .pages) {f : NewFile} (P : Putting inUse g image table bytes f) where
-  abbrev a : Asked g image (P .path) bytes
+  abbrev a : Asked g image bytes (P .stands)
   a = P .asked
 
   abbrev label : Label
-  label = laws.label g image (P .path) bytes (P .asked)
+  label = laws.label g image bytes (P .stands) (P .asked)
 
   abbrev pub kept : List ℕ
   kept = keptPages (P .asked .to) (P .asked .tree)
@@ -106,8 +92,8 @@ module _ {inUse : Path → Image → List ℕ} {g : Geometry} {image : List ℕ}
   full n e r T m =
       let us = inUse (P .asked .to) (P .asked .tree) in
       let k = subst (TakenIs us (length table) (f .extra) n) m (T us (P .represents)) in
-      let h : length free < laws.extra g image (P .path) bytes a + wanted = omega (arith, k, ap (λ (N : ℕ). length (freePages us N)) sized, P .at .extra-is) in
-      laws.edit-is g image (P .path) bytes a free ∙ simp (lt-leb _ _ h, refuse-false, then-err)
+      let h : length free < laws.extra g image bytes (P .stands) a + wanted = omega (arith, k, ap (λ (N : ℕ). length (freePages us N)) sized, P .at .extra-is) in
+      laws.edit-is g image bytes (P .stands) a free ∙ simp (lt-leb _ _ h, refuse-false, then-err)
 
   -- enough: the edit
   module _ {n : ℕ} (n-is : n ≡ pagesFor (dataCapacity g) (length bytes)) {r : Taken} (T : Takes table (f .extra) n r) {p : Pages} (m : r ≡ took.At p) where
@@ -117,17 +103,17 @@ module _ {inUse : Path → Image → List ℕ} {g : Geometry} {image : List ℕ}
         let us = inUse (P .asked .to) (P .asked .tree) in
         subst (λ (N : ℕ). PagesTaken us N (f .extra) n p) sized (subst (TakenIs us (length table) (f .extra) n) m (T us (P .represents)))
 
-    pub room : laws.extra g image (P .path) bytes (P .asked) + wanted ≤ length free
+    pub room : laws.extra g image bytes (P .stands) (P .asked) + wanted ≤ length free
     room = omega (arith, T′ .enough, P .at .extra-is)
 
-    pub edit-is : putEdit g free (P .asked .to) bytes (P .asked .place) ≡ ok (laws.theEdit g image (P .path) bytes (P .asked) free)
-    edit-is = laws.edit-is g image (P .path) bytes a free ∙ simp (le-leb _ _ room, refuse-true, then-ok)
+    pub edit-is : putEdit g free (P .asked .to) bytes (P .asked .place) ≡ ok (laws.theEdit g image bytes (P .stands) (P .asked) free)
+    edit-is = laws.edit-is g image bytes (P .stands) a free ∙ simp (le-leb _ _ room, refuse-true, then-ok)
 
-    abbrev pub theEdit : OneEdit (laws.directory g image (P .path) bytes (P .asked))
-    theEdit = laws.one-edit g image (P .path) bytes (P .asked) free (P .clear) room
+    abbrev pub theEdit : OneEdit (laws.directory g image bytes (P .stands) (P .asked))
+    theEdit = laws.one-edit g image bytes (P .stands) (P .asked) free (P .clear) room
 
     abbrev chain : List Link
-    chain = laws.chain g image (P .path) bytes (P .asked) free
+    chain = laws.chain g image bytes (P .stands) (P .asked) free
 
     abbrev pub change : Change
     change = changeOf f p
@@ -143,16 +129,16 @@ module _ {inUse : Path → Image → List ℕ} {g : Geometry} {image : List ℕ}
     starts = ap first chain-is ∙ ap (λ (l : List ℕ). first (chainOf (dataCapacity g) (take wanted l) bytes)) (T′ .starts)
 
     -- its entry
-    entry-is : e ≡ fileEntry label chain
-    entry-is = let l = laws.length-chain g image (P .path) bytes a free (P .clear) room in
-        λ i. record { name = sym (P .at .name-is) i; extension = sym (P .at .extension-is) i; start = sym starts i; pages = (n-is ∙ sym l) i }
+    entry-is : e ≡ newEntry label chain
+    entry-is = let l = laws.length-chain g image bytes (P .stands) a free (P .clear) room in
+        λ i. record { name = sym (P .at .name-is) i; extension = sym (P .at .extension-is) i; start = sym starts i; pages = countTold (sym (P .at .extension-is) i) ((n-is ∙ sym l) i) }
 
     -- ---- a page that joins
     module _ (one : f .extra ≡ 1) where
       joins-free : count (p .joins) kept ≡ 0
       joins-free = omega (arith, P .clear (p .joins), ap (count (p .joins)) (T′ .joins-is one), hit-same (p .joins), range-le (p .joins) (g .pages))
 
-      -- the file is new
+      -- the entry is new
       absent : find (fileKey (a .to)) (a .place .items) ≡ nothing
       absent = elim (eq-zero-or-pos (count (fileKey (a .to)) (keys (a .place .items)))) [
         | inl z ↦ find-none (fileKey (a .to)) (a .place .items) z
@@ -167,7 +153,7 @@ module _ {inUse : Path → Image → List ℕ} {g : Geometry} {image : List ℕ}
             arith,
             joins-free,
             ap (λ (y : ℕ). count y kept) z,
-            laws.kept-old g image (P .path) bytes a 0,
+            laws.kept-old g image bytes (P .stands) a 0,
             ap (λ (x : Found). count 0 (chainPages x)) absent,
             zero-taken (i .tree) (w .isDirectory) (w .atZero),
             count-append 0 (allPages (i .tree)) (mapPages (i .map)),
@@ -186,7 +172,7 @@ module _ {inUse : Path → Image → List ℕ} {g : Geometry} {image : List ℕ}
               arith,
               joins-free,
               ap (λ (y : ℕ). count y kept) z,
-              laws.kept-is g image (P .path) bytes a (f .slot .page),
+              laws.kept-is g image bytes (P .stands) a (f .slot .page),
               ap (count (f .slot .page)) (own-tokens (a .place .items) ∙ ap tokenPages (L .shape)),
               page-there (f .slot .page) (L .before) (entryTokens (L .entries) ++ []),
             );
@@ -205,7 +191,7 @@ module _ {inUse : Path → Image → List ℕ} {g : Geometry} {image : List ℕ}
           first-is = L .first-is;
           last-is = L .last-is;
           skip-is = L .skip-is;
-          next-is = pointer-is (laws.directory g image (P .path) bytes (P .asked)) (f .slot .page) (f .slot .next .page) (L .before) (L .entries) (L .exchanged) (L .later) (L .shape) (L .next-is);
+          next-is = pointer-is (laws.directory g image bytes (P .stands) (P .asked)) (f .slot .page) (f .slot .next .page) (L .before) (L .entries) (L .exchanged) (L .later) (L .shape) (L .next-is);
         }
 
     entering : Entering theEdit change (e ∷ [])
@@ -271,7 +257,7 @@ module _ {inUse : Path → Image → List ℕ} {g : Geometry} {image : List ℕ}
     plan-steps E′ s budget = refl
 
     -- the pages that the edit takes are the free ones below the bound
-    pub taken-below : (x : ℕ) → count x (freePages (inUse (P .asked .to) (P .asked .tree)) (p .below)) ≡ count x (take (laws.extra g image (P .path) bytes (P .asked)) free) + count x (pages (theEdit .chain))
+    pub taken-below : (x : ℕ) → count x (freePages (inUse (P .asked .to) (P .asked .tree)) (p .below)) ≡ count x (take (laws.extra g image bytes (P .stands) (P .asked)) free) + count x (pages (theEdit .chain))
     taken-below x = omega (
       arith,
       ap (count x) (T′ .lowest ∙ take-add (f .extra) n free),
@@ -284,4 +270,4 @@ module _ {inUse : Path → Image → List ℕ} {g : Geometry} {image : List ℕ}
 
     -- the pages in use then: those that stay, and those that it takes
     pub left-then : (x : ℕ) → count x (es.left theEdit) ≡ count x kept + count x (freePages (inUse (P .asked .to) (P .asked .tree)) (p .below))
-    left-then x = omega (arith, laws.pages-then g image (P .path) bytes a free (P .clear) room x, taken-below x)
+    left-then x = omega (arith, laws.pages-then g image bytes (P .stands) a free (P .clear) room x, taken-below x)

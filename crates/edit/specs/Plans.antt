@@ -4,6 +4,7 @@ use mathlib.Core.List.{List, [], _∷_, _++_}
 use Prim.Native.Nat.{ℕ, _+_, _-_, _≤_, _<_}
 use lib.ListN.{length}
 use Rattle.geometry.specs.declared.Geometry.{Geometry}
+use Rattle.geometry.specs.Choose.{choose}
 use Rattle.geometry.specs.Geometry.{controlSize, dataCapacity}
 use Rattle.packet.specs.Packet.{good, viewOf, Write}
 use Rattle.packet.specs.declared.Budget.{Budget}
@@ -12,10 +13,12 @@ use Rattle.rules.specs.declared.Entry.{Entry}
 use Rattle.rules.specs.Result.{Res, ok, err, andThen}
 use Rattle.rules.specs.PageSets.{count, range, freePages}
 use Rattle.rules.specs.Chain.{Link, chainOf, pagesFor}
-use Rattle.rules.specs.Tree.{Label, Items, fileEntry, Token, newPage, entry, entryTokens, tokens, Image, used}
+use Rattle.rules.specs.Tree.{Label, Items, Token, newPage, entry, entryTokens, tokens, Image, used}
 use Rattle.rules.specs.Bitmap.{bitmapOf}
-use Rattle.rules.specs.Paths.{Path, fileLabel, Target}
+use Rattle.rules.specs.Paths.{Path, fileLabel, Found, Target}
 use Rattle.rules.specs.Writes.{edited, editWrites}
+use Rattle.rules.specs.Names.{directoryNumber}
+use Rattle.rules.specs.EditLaws.{newEntry}
 use Rattle.rules.specs.Put.{keptPages, extraPages, itemsAfter, putEdit}
 use Rattle.rules.specs.Owners.{OwnerRecord}
 use Rattle.owners.specs.Owned.{Represents}
@@ -33,12 +36,16 @@ use Rattle.edit.specs.declared.Outcome.the-variants as outcome
 use Rattle.edit.specs.Entering.{Entering}
 use Rattle.edit.specs.StepLaws.{step₂, step₃}
 
--- the change of its directory's pages that puts a file, and the file's entry, for the pages found
+-- the change of its directory's pages that puts a file, or a directory, and its entry, for the pages found
 abbrev pub changeOf : NewFile → Pages → Change
 changeOf f p = record { slot = f .slot; first = f .first; last = f .last; joins = p .joins }
 
+-- the page count that an entry tells: 0 for a directory
+abbrev pub countTold : ℕ → ℕ → ℕ
+countTold extension n = choose (directoryNumber extension) 0 n
+
 abbrev pub entryOf : NewFile → Pages → ℕ → Entry
-entryOf f p n = record { name = f .name; extension = f .extension; start = p .start; pages = n }
+entryOf f p n = record { name = f .name; extension = f .extension; start = p .start; pages = countTold (f .extension) n }
 
 -- an edit of a directory of the image whose new chain has the bytes in the lowest free pages from the entry's start page on, and the change that enters the entry
 pub record Plan (g : Geometry) (image : List ℕ) (table : List OwnerRecord) (bytes : List ℕ) (c : Change) (e : Entry) : Type 0 where
@@ -76,7 +83,7 @@ pub record PutInPage (g : Geometry) (image : List ℕ) (l : Label) (d : Items) (
   pub exchanged : List Entry
   pub later : List Token
   pub shape : tokens d ≡ before ++ (newPage (f .slot .page) ∷ (entryTokens entries ++ (entryTokens exchanged ++ later)))
-  pub then : (q : ℕ) (chain : List Link) → tokens (itemsAfter g l q chain d) ≡ before ++ (newPage (f .slot .page) ∷ (entryTokens entries ++ (entry (fileEntry l chain) ∷ later)))
+  pub then : (q : ℕ) (chain : List Link) → tokens (itemsAfter g l q chain d) ≡ before ++ (newPage (f .slot .page) ∷ (entryTokens entries ++ (entry (newEntry l chain) ∷ later)))
   pub first-is : length entries ≡ f .first
   pub last-is : length entries + length exchanged ≡ f .last
   pub skip-is : (control : List ℕ) → length control ≡ controlSize g → length (controlOn (g .width) control before) ≡ f .slot .skip
@@ -88,9 +95,9 @@ pub record PutInNewPage (g : Geometry) (l : Label) (d : Items) (f : NewFile) : T
   pub entries : List Entry
   pub shape : tokens d ≡ before ++ (newPage (f .slot .page) ∷ (entryTokens entries ++ []))
   pub then : (q : ℕ) (chain : List Link) → tokens (itemsAfter g l q chain d)
-      ≡ before ++ (newPage (f .slot .page) ∷ (entryTokens entries ++ (newPage q ∷ (entry (fileEntry l chain) ∷ []))))
+      ≡ before ++ (newPage (f .slot .page) ∷ (entryTokens entries ++ (newPage q ∷ (entry (newEntry l chain) ∷ []))))
 
--- where the entry of a path's file goes in its directory d
+-- where the entry of what a path names goes in its directory d
 pub record EntryPlace (g : Geometry) (image : List ℕ) (q : Path) (d : Items) (f : NewFile) : Type 0 where
   pub name-is : q .name ≡ f .name
   pub extension-is : q .extension ≡ f .extension
@@ -98,10 +105,10 @@ pub record EntryPlace (g : Geometry) (image : List ℕ) (q : Path) (d : Items) (
   pub in-page : f .extra ≡ 0 → PutInPage g image (fileLabel q) d f
   pub in-new-page : f .extra ≡ 1 → PutInNewPage g (fileLabel q) d f
 
--- a put that nothing but room could refuse; the table tells of the pages that must not be taken, those that stay in use among them
+-- a put, or a making, that nothing but room could refuse; the table tells of the pages that must not be taken, those that stay in use among them
 pub record Putting (inUse : Path → Image → List ℕ) (g : Geometry) (image : List ℕ) (table : List OwnerRecord) (bytes : List ℕ) (f : NewFile) : Type 0 where
-  pub path : List ℕ
-  pub asked : Asked g image path bytes
+  pub stands : Label → List Link → Found
+  pub asked : Asked g image bytes stands
   pub at : EntryPlace g image (asked .to) (asked .place .items) f
   pub represents : Represents table (inUse (asked .to) (asked .tree))
   pub clear : (x : ℕ) → count x (freePages (inUse (asked .to) (asked .tree)) (g .pages)) + count x (keptPages (asked .to) (asked .tree)) ≤ count x (range (g .pages))

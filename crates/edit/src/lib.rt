@@ -1,4 +1,5 @@
 // The steps of an edit of one directory: free pages found; then, within a budget of page writes, a new chain's pages, the directory's pages and the bitmap's pages.
+use directory::extensions::is_directory;
 use entries::Slot;
 use geometry::Geometry;
 use geometry::WIDE_ENTRY_BYTES;
@@ -15,7 +16,7 @@ ghost use Rattle.packet.specs.Packet.{viewOf};
 ghost use Rattle.packet.specs.Budgets.{Open};
 ghost use Rattle.edit.specs.Pages.{Takes};
 ghost use Rattle.edit.specs.OldChains.{HasOld, FreesOld};
-ghost use Rattle.edit.specs.Plans.{changeOf, entryOf, Plan, Carries, Removal, RemovesEntry, PlainPutting, PutsFile};
+ghost use Rattle.edit.specs.Plans.{changeOf, countTold, entryOf, Plan, Carries, Removal, RemovesEntry, PlainPutting, PutsFile};
 
 // The pages that an edit takes, all of them free: one that joins the directory, 0 if none does; the start page of a new chain; and a bound below which they lie.
 pub struct Pages {
@@ -36,7 +37,7 @@ pub enum Outcome {
     Refused(u8, usize),
 }
 
-// A file to be put: name and extension, the chain that it replaces, and where its entry goes. On the page of `slot` it replaces the entries `first` to `last`, `last` not among them;
+// A file to be put, or a directory to be made: name and extension, the chain that it replaces, and where its entry goes. On the page of `slot` it replaces the entries `first` to `last`, `last` not among them;
 // or, if `extra` is 1, a page joins the directory after that page with the entry.
 pub struct NewFile {
     pub name: u32,
@@ -109,7 +110,18 @@ pub fn put_chain(
     writes::change_pages(image, g, change, &entry[..width], stored)
 }
 
-// Stores a file's bytes in the pages found, then writes its entry.
+// The page count that an entry tells: 0 for a directory.
+fn count_told(extension: u8, pages: usize) -> usize
+    ensures { λ r. ⌜ r ≡ countTold extension pages ⌝ }
+{
+    let directory = is_directory(extension);
+    if directory {
+        return 0;
+    }
+    pages
+}
+
+// Stores the bytes of a file, or of a directory's page, in the pages found, then writes its entry.
 pub fn put_entry(
     image: &mut [u8],
     g: Geometry,
@@ -135,12 +147,12 @@ pub fn put_entry(
         name: file.name,
         extension: file.extension,
         start: taken.start,
-        pages,
+        pages: count_told(file.extension, pages),
     };
     put_chain(image, g, change, e, bytes, table, budget)
 }
 
-// Puts a file: its chain in the lowest free pages, its entry, the bitmap. The table has the pages that must not be taken. 17.
+// Puts a file, or makes a directory: its chain in the lowest free pages, its entry, the bitmap. The table has the pages that must not be taken. 17.
 pub fn put_file(
     image: &mut [u8],
     g: Geometry,

@@ -9,14 +9,17 @@ use Rattle.geometry.specs.ShapeLaws.{fit-of}
 use Rattle.geometry.specs.Number.{Bytes}
 use Rattle.rules.specs.Result.{Res, ok, err}
 use Rattle.rules.specs.ResultLaws.{clash}
+use Rattle.rules.specs.Chain.{Link}
+use Rattle.rules.specs.Tree.{Label, Items}
+use Rattle.rules.specs.Paths.{Path, Found, Place, Target}
 use Rattle.rules.specs.Format.{format}
-use Rattle.rules.specs.Put.{put}
-use Rattle.rules.specs.Delete.{delete}
-use Rattle.rules.specs.Calls.{shape, plainly, effect, formatCall, putCall, deleteCall}
+use Rattle.rules.specs.Put.{putAt}
+use Rattle.rules.specs.Delete.{removeAt}
+use Rattle.rules.specs.Calls.{shape, plainly, effect, changed, formatCall}
 use Rattle.rules.specs.Demand2.{Formatted, Deleted, PutDone}
 use Rattle.editing_theorems.specs.FormatLaws.{format-done}
-use Rattle.editing_theorems.specs.DeleteLaws.{delete-done}
-use Rattle.editing_theorems.specs.PutDone.{put-gives}
+use Rattle.editing_theorems.specs.DeleteLaws.{RemoveCall, delete-done}
+use Rattle.editing_theorems.specs.PutDone.{PutCall, put-gives}
 
 -- an edit that answers 0 leaves what the rule tells
 pub done-ok : (P N : ℕ) (image table : List ℕ) (g : Geometry) (r : Res (List ℕ)) → effect P N image table g (plainly r) .0 ≡ ok tt → r ≡ ok (effect P N image table g (plainly r) .1)
@@ -31,14 +34,16 @@ module _ (P N : ℕ) (image table : List ℕ) (g : Geometry) (fits : shape P N i
         let q : formatCall P N image table local ≡ effect P N image table g (plainly (format g local image)) = rw fits refl in
         rw q (format-done g local image _ (fit-of P N image table g fits) imageBytes (done-ok P N image table g (format g local image) (rw q at e)))
 
-    pub delete-call : (path : List ℕ) → deleteCall P N image table path .0 ≡ ok tt → Deleted g path image (deleteCall P N image table path .1)
-    unfolding deleteCall
-    delete-call path e =
-        let q : deleteCall P N image table path ≡ effect P N image table g (plainly (delete g path image)) = rw fits refl in
-        rw q (delete-done g path image _ (fit-of P N image table g fits) imageBytes (done-ok P N image table g (delete g path image) (rw q at e)))
+    -- a call that removes something, and one that puts something
+    pub remove-call : {asked : Res Path} {Stood : Found → Type 0} {target : Items → Res Target} → RemoveCall asked Stood target
+        → changed P N image table (λ g. removeAt g target image) .0 ≡ ok tt → Deleted g asked Stood image (changed P N image table (λ g. removeAt g target image) .1)
+    remove-call {asked} {Stood} {target} C e =
+        let q : changed P N image table (λ g. removeAt g target image) ≡ effect P N image table g (plainly (removeAt g target image)) = rw fits refl in
+        rw q (delete-done C (fit-of P N image table g fits) imageBytes _ (done-ok P N image table g (removeAt g target image) (rw q at e)))
 
-    pub put-call : (path bytes : List ℕ) → Bytes path → Bytes bytes → putCall P N image table path bytes .0 ≡ ok tt → PutDone g path bytes image (putCall P N image table path bytes .1)
-    unfolding putCall
-    put-call path bytes p b e =
-        let q : putCall P N image table path bytes ≡ effect P N image table g (plainly (put g path bytes image)) = rw fits refl in
-        rw q (put-gives g path bytes image _ (fit-of P N image table g fits) imageBytes p b (done-ok P N image table g (put g path bytes image) (rw q at e)))
+    pub put-call : {asked : Res Path} {Allowed Wanted : Found → Type 0} {target : Items → Res Target} {bytes : Geometry → Place → List ℕ} {stands : Label → List Link → Found}
+        → PutCall asked Allowed Wanted target bytes stands
+        → changed P N image table (λ g. putAt g target (bytes g) image) .0 ≡ ok tt → PutDone g asked stands (bytes g) image (changed P N image table (λ g. putAt g target (bytes g) image) .1)
+    put-call {asked} {target = target} {bytes} {stands} C e =
+        let q : changed P N image table (λ g. putAt g target (bytes g) image) ≡ effect P N image table g (plainly (putAt g target (bytes g) image)) = rw fits refl in
+        rw q (put-gives C g image (fit-of P N image table g fits) imageBytes _ (done-ok P N image table g (putAt g target (bytes g) image) (rw q at e)))

@@ -201,3 +201,15 @@ used-at x names i place at = omega (
   all-filled-all x (at .contexts) (place .items),
   count-append x (ownPages (place .items)) (innerPages (place .items)),
 )
+
+-- as many names as directories on the way
+context-length : (cs : List Context) → length (contextPath cs) ≡ length cs
+context-length [] = refl
+context-length (c ∷ cs) = ap suc (context-length cs)
+
+keys-length : (names : List ℕ) → length (directoryKeys names) ≡ length names
+keys-length [] = refl
+keys-length (x ∷ xs) = ap suc (keys-length xs)
+
+pub located-length : {names : List ℕ} {from place : Place} (at : Located names from place) → length (at .contexts) ≡ length names
+located-length {names} at = sym (context-length (at .contexts)) ∙ ap length (at .path) ∙ keys-length names

@@ -3,13 +3,14 @@ use mathlib.Core.Path.{_≡_, refl, ap, sym, _∙_, subst}
 use mathlib.Core.List.{List, [], _∷_, _++_}
 use Prim.Native.Nat.{ℕ, _+_, _≤_}
 use native.Mathlib.Omega.{arith}
-use borrow.Author.Tests.{eq-eqb, ne-eqb}
+use lib.ListN.{length}
+use borrow.Author.Tests.{eq-eqb, ne-eqb, eqb-true}
 use Rattle.geometry.specs.declared.Geometry.{Geometry}
 use Rattle.geometry.specs.ChooseLaws.{choose-true, choose-false}
 use Rattle.geometry.specs.Geometry.{Fit, firstEntries, laterEntries}
 use Rattle.geometry.specs.Number.{Bytes}
-use Rattle.rules.specs.Result.{ok}
-use Rattle.rules.specs.ResultLaws.{ok-inj, clash, on-then}
+use Rattle.rules.specs.Result.{Res, ok}
+use Rattle.rules.specs.ResultLaws.{ok-inj, clash, refuse-inv, on-then}
 use Rattle.rules.specs.PageSets.{count}
 use Rattle.rules.specs.PageSetLaws.{same, other, hits, count-append}
 use Rattle.rules.specs.Chain.{Views, oneView, viewsOf, Link}
@@ -18,14 +19,15 @@ use Rattle.rules.specs.Control.{Parent}
 use Rattle.rules.specs.Bitmap.{bitmapOf}
 use Rattle.rules.specs.Check.{check}
 use Rattle.rules.specs.WellFormed.{HasBelow, IsDirectory, Entries, WellFormed}
-use Rattle.rules.specs.TargetLaws.{reached, delete-met}
-use Rattle.rules.specs.Paths.{Path, pathOf, fileKey, Found, nothing, aFile, aDirectory, find, Place, Target, rootPlace, directoryAt, changeAt}
+use Rattle.rules.specs.TargetLaws.{Reached, reached, delete-met, removal-met}
+use Rattle.rules.specs.Paths.{Path, pathOf, directoryPathOf, fileKey, Found, nothing, aFile, aDirectory, find, Place, Target, rootPlace, directoryAt, changeAt}
 use Rattle.rules.specs.Writes.{edited, editWrites}
 use Rattle.rules.specs.Put.{plainEdit}
-use Rattle.rules.specs.Delete.{remove, present, deleteTarget, removeEdit, deleteEdit, delete}
+use Rattle.rules.specs.Delete.{remove, present, deleteTarget, removeEdit, deleteEdit, removeAt}
+use Rattle.rules.specs.Directories.{presentDirectory, withoutEntries, removalTarget}
 use Rattle.rules.specs.EditLaws.{allFound, remove-own, remove-inner, remove-fewer, find-removed, find-beside-removed}
-use Rattle.rules.specs.Candidate.{lookUp, atPath, directoryKeys}
-use Rattle.rules.specs.Demand2.{shown, EditDone, PathIn, DeleteShows, Deleted}
+use Rattle.rules.specs.Candidate.{lookUp, atPath, chainPages, EmptyDirectory, directoryKeys}
+use Rattle.rules.specs.Demand2.{shown, EditDone, PathIn, IsFile, DeleteShows, Deleted}
 use Rattle.reading_theorems.specs.Directory.{all-split}
 use Rattle.reading_theorems.specs.Accepted.{accepted-iff}
 use Rattle.editing_theorems.specs.Capacity.{slotsHere, PagesHold}
@@ -178,64 +180,107 @@ module _ (g : Geometry) (image : List ℕ) (bytes : Bytes image) (i : Image) (we
         total = λ x. ap (λ (us : List ℕ). count x us + count x (allFound (find k d))) (used-edited g names (removeEdit k place) i) ∙ pages-then x;
       }
 
-  -- a directory without entries
-  pub directory-removed : (l : Label) (b : Items) → find k (place .items) ≡ aDirectory l b → keys b ≡ [] → Removed g image i names place k (edited g names (removeEdit k place) i)
-  directory-removed l b f none = entry-removed (rw f (empty-below l b none))
+-- ---- a call that removes what stands at its path, with nothing below it: a delete, and the removal of a directory
+pub record RemoveCall (asked : Res Path) (Stood : Found → Type 0) (target : Items → Res Target) : Type 0 where
+  pub met : (t : Items) (x : Target) → target t ≡ ok x → Reached asked t x × Stood (find (fileKey (x .to)) (x .place .items))
+  pub nothing-below : (f : Found) → Stood f → NothingBelow f
+  pub all-of-it : (f : Found) → Stood f → (x : ℕ) → count x (allFound f) ≡ count x (chainPages f)
 
--- ---- delete
-present-file : {C : Type 0} (f : Found) (u : Unit {0}) → present f ≡ ok u → ((l : Label) (ls : List Link) → f ≡ aFile l ls → C) → C
-unfolding present
-present-file nothing u e k = clash e
-present-file (aFile l ls) u e k = k l ls refl
-present-file (aDirectory l d) u e k = clash e
-
--- a path, in a well-formed image, at which a file stands
-pub record FileIn (g : Geometry) (path image : List ℕ) : Type 0 where
-  pub at : PathIn g path image
+-- a path, in a well-formed image, at which such a thing stands
+pub record StandsIn (g : Geometry) (asked : Res Path) (Stood : Found → Type 0) (image : List ℕ) : Type 0 where
+  pub at : PathIn g asked image
   pub bytes : Bytes image
-  pub label : Label
-  pub links : List Link
-  pub finds : find (fileKey (at .to)) (at .place .items) ≡ aFile label links
+  pub stood : Stood (find (fileKey (at .to)) (at .place .items))
 
--- the target of a delete is one
-pub file-in : {C : Type 0} (g : Geometry) (path image : List ℕ) → Fit g image → Bytes image → (i : Image) → check g (viewsOf g image) ≡ ok i
-    → (x : Target) → deleteTarget path (i .tree) ≡ ok x → ((f : FileIn g path image) → f .at .before ≡ i → f .at .to ≡ x .to → f .at .place ≡ x .place → C) → C
-file-in g path image fit bytes i c x t k =
-    let m = delete-met path (i .tree) x t in
-    let r = reached path (i .tree) x (m .at) in
-    present-file (find (fileKey (x .to)) (x .place .items)) tt (m .is) λ l ls f.
-    k (record {
-      at = record { before = i; accepted = accepted-iff g image fit bytes i .0 c; to = x .to; formed = r .formed; place = x .place; there = r .there };
-      bytes = bytes;
-      label = l;
-      links = ls;
-      finds = f;
-    }) refl refl refl
-
-module _ {g : Geometry} {path image : List ℕ} (f : FileIn g path image) where
-  abbrev pub treeAfter : Image
-  treeAfter = edited g (f .at .to .directories) (deleteEdit (f .at .to) (f .at .place)) (f .at .before)
-
-  removed : Removed g image (f .at .before) (f .at .to .directories) (f .at .place) (fileKey (f .at .to))
-      (edited g (f .at .to .directories) (removeEdit (fileKey (f .at .to)) (f .at .place)) (f .at .before))
-  removed = entry-removed g image (f .bytes) (f .at .before) (f .at .accepted) (f .at .to .directories) (f .at .place) (f .at .there) (fileKey (f .at .to)) (rw (f .finds) (λ j ks. refl))
-
-  pub delete-shows : DeleteShows (f .at) treeAfter
-  unfolding deleteEdit
-  delete-shows = record {
-    label = f .label;
-    links = f .links;
-    was = removed .was ∙ f .finds;
-    gone = removed .gone;
-    others = removed .others;
-    total = λ x. ap (λ (y : Found). count x (used treeAfter) + count x (allFound y)) (sym (f .finds)) ∙ removed .total x;
+module _ {asked : Res Path} {Stood : Found → Type 0} {target : Items → Res Target} (C : RemoveCall asked Stood target) {g : Geometry} {image : List ℕ} where
+  -- the target of such a call is one
+  abbrev pub stands-in : Fit g image → Bytes image → (i : Image) → check g (viewsOf g image) ≡ ok i → (x : Target) → target (i .tree) ≡ ok x → StandsIn g asked Stood image
+  stands-in fit b i c x t = let m = C .met (i .tree) x t in record {
+    at = record { before = i; accepted = accepted-iff g image fit b i .0 c; to = x .to; formed = m .0 .formed; place = x .place; there = m .0 .there };
+    bytes = b;
+    stood = m .1;
   }
 
-  pub delete-leaves : Deleted g path image (plainEdit g (f .at .to .directories) (deleteEdit (f .at .to) (f .at .place)) (f .at .before) image)
-  unfolding deleteEdit
-  delete-leaves = record { at = f .at; tree = treeAfter; tree-is = refl; done = removed .done; shows = delete-shows }
+  module _ (f : StandsIn g asked Stood image) where
+    abbrev pub treeAfter : Image
+    treeAfter = edited g (f .at .to .directories) (deleteEdit (f .at .to) (f .at .place)) (f .at .before)
 
-pub delete-done : (g : Geometry) (path image after : List ℕ) → Fit g image → Bytes image → delete g path image ≡ ok after → Deleted g path image after
-unfolding delete
-delete-done g path image after fit bytes e = on-then _ _ _ e λ i c e. on-then _ _ _ e λ x t e. file-in g path image fit bytes i c x t λ f a b d.
-    subst (Deleted g path image) (cc) (delete-leaves f)
+    removed : Removed g image (f .at .before) (f .at .to .directories) (f .at .place) (fileKey (f .at .to))
+        (edited g (f .at .to .directories) (removeEdit (fileKey (f .at .to)) (f .at .place)) (f .at .before))
+    removed = entry-removed g image (f .bytes) (f .at .before) (f .at .accepted) (f .at .to .directories) (f .at .place) (f .at .there) (fileKey (f .at .to)) (C .nothing-below _ (f .stood))
+
+    pub delete-shows : DeleteShows (f .at) Stood treeAfter
+    unfolding deleteEdit
+    delete-shows = record {
+      was = subst Stood (sym (removed .was)) (f .stood);
+      gone = removed .gone;
+      others = removed .others;
+      total = λ x. ap (λ (y : Found). count x (used treeAfter) + count x (chainPages y)) (removed .was) ∙ ap (λ (n : ℕ). count x (used treeAfter) + n) (sym (C .all-of-it _ (f .stood) x)) ∙ removed .total x;
+    }
+
+    pub delete-leaves : Deleted g asked Stood image (plainEdit g (f .at .to .directories) (deleteEdit (f .at .to) (f .at .place)) (f .at .before) image)
+    unfolding deleteEdit
+    delete-leaves = record { at = f .at; tree = treeAfter; tree-is = refl; done = removed .done; shows = delete-shows }
+
+  pub delete-done : Fit g image → Bytes image → (after : List ℕ) → removeAt g target image ≡ ok after → Deleted g asked Stood image after
+  unfolding removeAt
+  delete-done fit b after e = on-then _ _ _ e λ i c e. on-then _ _ _ e λ x t e. subst (Deleted g asked Stood image) (ok-inj e) (delete-leaves (stands-in fit b i c x t))
+
+-- ---- a delete
+file-stood : (f : Found) (u : Unit {0}) → present f ≡ ok u → IsFile f
+unfolding present
+file-stood nothing u e = clash e
+file-stood (aFile l ls) u e = tt
+file-stood (aDirectory l d) u e = clash e
+
+pub a-delete : (path : List ℕ) → RemoveCall (pathOf path) IsFile (deleteTarget path)
+a-delete path = record {
+  met = λ t x e. let m = delete-met path t x e in (reached (pathOf path) t x (m .at), file-stood (find (fileKey (x .to)) (x .place .items)) tt (m .is));
+  nothing-below = below;
+  all-of-it = all;
+}
+  where
+    below : (f : Found) → IsFile f → NothingBelow f
+    below nothing h = absurd h
+    below (aFile l ls) h = λ j ks. refl
+    below (aDirectory l d) h = absurd h
+
+    all : (f : Found) → IsFile f → (x : ℕ) → count x (allFound f) ≡ count x (chainPages f)
+    all nothing h x = refl
+    all (aFile l ls) h x = refl
+    all (aDirectory l d) h x = absurd h
+
+-- ---- the removal of a directory
+pub no-keys : (ks : List ℕ) → length ks ≡ 0 → ks ≡ []
+no-keys [] e = refl
+no-keys (k ∷ ks) e = absurd (omega arith)
+
+directory-stood : (f : Found) → presentDirectory f ≡ ok tt → withoutEntries f ≡ ok tt → EmptyDirectory f
+unfolding presentDirectory withoutEntries
+directory-stood nothing p e = clash p
+directory-stood (aFile l ls) p e = clash p
+directory-stood (aDirectory l d) p e = no-keys (keys d) (eqb-true _ _ (refuse-inv _ _ _ _ e))
+
+-- without entries no page but its own
+no-inner : (t : Items) → keys t ≡ [] → (x : ℕ) → count x (innerPages t) ≡ 0
+no-inner end e x = refl
+no-inner (page p t) e x = no-inner t e x
+no-inner (file l ls t) e x = absurd (omega (arith, ap length e))
+no-inner (dir l d t) e x = absurd (omega (arith, ap length e))
+
+pub a-removal : (path : List ℕ) → RemoveCall (directoryPathOf path) EmptyDirectory (removalTarget path)
+a-removal path = record {
+  met = λ t x e. let m = removal-met path t x e in (reached (directoryPathOf path) t x (m .at), directory-stood (find (fileKey (x .to)) (x .place .items)) (m .is) (m .none));
+  nothing-below = below;
+  all-of-it = all;
+}
+  where
+    below : (f : Found) → EmptyDirectory f → NothingBelow f
+    below nothing h = absurd h
+    below (aFile l ls) h = absurd h
+    below (aDirectory l d) h = empty-below l d h
+
+    all : (f : Found) → EmptyDirectory f → (x : ℕ) → count x (allFound f) ≡ count x (chainPages f)
+    all nothing h x = refl
+    all (aFile l ls) h x = absurd h
+    all (aDirectory l d) h x = omega (arith, all-split x d, no-inner d h x)

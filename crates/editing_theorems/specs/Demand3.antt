@@ -1,4 +1,4 @@
--- Demand 3: where nothing but room could refuse a put, it is done exactly when there is a candidate, else 17; and no candidate has fewer pages in use than its result.
+-- Demand 3: where nothing but room could refuse a put, or a making, it is done exactly when there is a candidate, else 17; and no candidate has fewer pages in use than its result.
 use mathlib.Core.Path.{_≡_, refl, ap, sym, _∙_, subst}
 use mathlib.Core.Logic.{_↔_, _⊎_, inl, inr}
 use mathlib.Core.List.{List, _++_}
@@ -9,30 +9,27 @@ use lib.ListN.{length, length-append}
 use Rattle.geometry.specs.declared.Geometry.{Geometry}
 use Rattle.geometry.specs.declared.Shape.{Shape}
 use Rattle.geometry.specs.declared.Shape.the-variants.{Fits, Invalid}
+use Rattle.geometry.specs.Geometry.{Fit}
 use Rattle.geometry.specs.Number.{Bytes}
 use Rattle.rules.specs.Result.{Res, ok, err}
 use Rattle.rules.specs.ResultLaws.{ok-inj, clash, err-same, on-then, on-refused}
 use Rattle.rules.specs.PageSetLaws.{count-append, free-length}
-use Rattle.rules.specs.Chain.{viewsOf}
-use Rattle.rules.specs.Tree.{Image, used}
-use Rattle.rules.specs.Put.{putTarget, put}
+use Rattle.rules.specs.Chain.{viewsOf, Link}
+use Rattle.rules.specs.Tree.{Label, Items, Image, used}
+use Rattle.rules.specs.Put.{putAt}
 use Rattle.rules.specs.Check.{check}
-use Rattle.rules.specs.Paths.{Path, pathOf, fileKey, fileLabel, Found, find, Target}
-use Rattle.rules.specs.TargetLaws.{reached, put-met}
-use Rattle.rules.specs.EditLaws.{allFound}
+use Rattle.rules.specs.Paths.{Path, fileKey, fileLabel, Found, find, Place, Target}
 use Rattle.rules.specs.RefusalLaws.{Refuses}
-use Rattle.rules.specs.CallLaws.{put-target-room}
 use Rattle.rules.specs.FuelLaws.{check-faults}
-use Rattle.rules.specs.Candidate.{Accepted, OnlyRoom, NotReadOnly, Exists, atPath, targetPath, filePath, PutFile, Candidate, chainPages, pagesInUse, CandidateFor, Demand3}
-use Rattle.rules.specs.Calls.{inGeometry, shape, plainly, effect, putCall}
+use Rattle.rules.specs.Candidate.{Accepted, OnlyRoom, Exists, atPath, stampsOf, targetPath, filePath, Candidate, chainPages, pagesInUse, CandidateFor, Demand3}
+use Rattle.rules.specs.Calls.{inGeometry, shape, plainly, effect, changed}
 use Rattle.reading_theorems.specs.Accepted.{accepted-iff, accepted}
 use Rattle.geometry.specs.ShapeLaws.{fit-of}
 use Rattle.editing_theorems.specs.CallEdits.{done-ok}
-use Rattle.editing_theorems.specs.PutDirectory.{found-chain}
-use Rattle.editing_theorems.specs.PutLaws.{same-length, Asked, located, levels, here-shaped, key-file, kept, kept-within, free, free-clear, extra, wanted, result, kept-old, put-total, put-edited}
-use Rattle.editing_theorems.specs.PutDone.{writable-inv, put-fits, put-full, put-room, put-gives}
+use Rattle.editing_theorems.specs.PutLaws.{same-length, Asked, located, all-old, kept, kept-within, free, free-clear, extra, wanted, result, kept-old, put-total, put-edited}
+use Rattle.editing_theorems.specs.PutDone.{put-fits, put-full, put-room, Met, PutCall, asked-at, put-gives}
 use Rattle.editing_theorems.specs.PutCandidate.{put-candidate, no-entry-more}
-use Rattle.editing_theorems.specs.LowerBound.{Needs, file-needs, least, candidate-room}
+use Rattle.editing_theorems.specs.LowerBound.{Needs, least, candidate-room}
 
 -- ---- from its parts, for any call that puts something at a path: where nothing but room could refuse it, it is done or refused for room, so the rest follows from what is done and from no room without a candidate
 pub demand-from : (P N : ℕ) (image table : List ℕ) (asked : Res Path) (Allowed Asked : Found → Type 0) (isDone isFull : Type 0) (after : List ℕ)
@@ -53,177 +50,155 @@ demand-from P N image table asked Allowed Asked isDone isFull after room done no
   keeps = keeps;
 }
 
--- ---- a put that nothing but room could refuse
-module _ (P N : ℕ) (image table path bytes : List ℕ) (o : OnlyRoom P N image table (pathOf path) NotReadOnly) (imageBytes : Bytes image) (pathBytes : Bytes path) (areBytes : Bytes bytes) where
-  abbrev g : Geometry
-  g = o .geometry
+-- ---- a call that puts something, and that nothing but room could refuse
+module _ {asked : Res Path} {Allowed Wanted : Found → Type 0} {target : Items → Res Target} {bytesAt : Geometry → Place → List ℕ} {stands : Label → List Link → Found}
+    (C : PutCall asked Allowed Wanted target bytesAt stands) (plain : (l : Label) (ls : List Link) → stampsOf (stands l ls) ≡ l .stamps) (P N : ℕ) (image table : List ℕ) (imageBytes : Bytes image) where
+  -- the call: answer, image and owner table
+  abbrev call : Res (Unit {0}) × List ℕ × List ℕ
+  call = changed P N image table (λ g. putAt g target (bytesAt g) image)
 
-  abbrev asked : Asked g image path bytes
-  asked = record {
-    tree = o .tree;
-    well = accepted-iff g image (fit-of P N image table g (o .right)) imageBytes (o .tree) .0 (o .accepted);
-    imageBytes = imageBytes;
-    pathBytes = pathBytes;
-    areBytes = areBytes;
-    to = o .to;
-    formed = o .formed;
-    place = o .place;
-    there = o .there;
-    seen = o .shown;
-    writable = o .allowed;
-  }
+  module _ (o : OnlyRoom P N image table asked Allowed) where
+    abbrev g : Geometry
+    g = o .geometry
 
-  abbrev IsCandidate : List ℕ → Type 0
-  IsCandidate new = Candidate g image (targetPath (o .to)) (filePath (o .to)) (PutFile bytes) new
+    abbrev fit : Fit g image
+    fit = fit-of P N image table g (o .right)
 
-  -- the free pages, and the chain that is replaced
-  abbrev spare : List ℕ
-  spare = free g image path bytes asked
+    abbrev goal : Target
+    goal = record { to = o .to; place = o .place }
 
-  abbrev old : List ℕ
-  old = chainPages (find (fileKey (o .to)) (o .place .items))
+    met : Met asked Allowed (o .tree .tree) goal
+    met = record { formed = o .formed; there = o .there; seen = o .shown; allowed = o .allowed }
 
-  -- what a put that is done leaves is a candidate
-  pub put-done : (after : List ℕ) → put g path bytes image ≡ ok after → IsCandidate after
-  put-done after e =
-      let p = put-gives g path bytes image after (fit-of P N image table g (o .right)) imageBytes pathBytes areBytes e in
-      subst (λ (q : Path). Candidate g image (targetPath q) (filePath q) (PutFile bytes) after) (ok-inj (sym (p .at .formed) ∙ o .formed)) (put-candidate g path bytes image after p)
+    abbrev bytes : List ℕ
+    bytes = bytesAt g (o .place)
 
-  all-old : allFound (find (fileKey (o .to)) (o .place .items)) ≡ old
-  all-old = found-chain (g .width) (levels g image path bytes asked) (fileKey (o .to)) (o .place .items) (here-shaped g image path bytes asked .entries) (key-file g image path bytes asked)
+    abbrev a : Asked g image bytes stands
+    a = asked-at C g image fit imageBytes (o .tree) (o .accepted) goal met
 
-  abbrev needs : Needs g (PutFile bytes) (wanted g image path bytes asked)
-  needs = file-needs g (asked .well .fits .valid) bytes
+    given : target (o .tree .tree) ≡ ok goal
+    given = C .given (o .tree .tree) goal met
 
-  -- no candidate has fewer pages in use
-  pub put-least : (after : List ℕ) → put g path bytes image ≡ ok after → (i : Image) → Accepted g after i → (new : List ℕ) (c : IsCandidate new) → pagesInUse i ≤ pagesInUse (c .after)
-  put-least after e i h new c =
-      let r = put-room g image path bytes asked after e in
-      let clear = free-clear g image path bytes asked in
-      let w = put-edited g image path bytes asked spare clear (r .0) .wellFormed in
-      let same : i ≡ result g image path bytes asked spare clear (r .0) = ok-inj (sym h ∙ ap (λ (l : List ℕ). check g (viewsOf g l)) (r .1) ∙ accepted g _ _ w) in
-      omega (
-        arith,
-        ap pagesInUse same,
-        put-total g image path bytes asked spare clear (r .0),
-        ap length all-old,
-        least g image (o .tree) (asked .well) (o .to .directories) (o .place) (located g image path bytes asked) (fileLabel (o .to)) (PutFile bytes) (wanted g image path bytes asked) needs new c,
-      )
+    abbrev IsCandidate : List ℕ → Type 0
+    IsCandidate new = Candidate g image (targetPath (o .to)) (filePath (o .to)) Wanted new
 
-  -- where there is one, there is room
-  pub put-takes : (new : List ℕ) → IsCandidate new → extra g image path bytes asked + wanted g image path bytes asked ≤ length spare
-  put-takes new c =
-      let keeps = kept g image path bytes asked in
-      let k = same-length (keeps ++ old) (used (o .tree)) (λ x. count-append x keeps old ∙ kept-old g image path bytes asked x) in
-      omega (
-        arith,
-        candidate-room g image (o .tree) (asked .well) (o .to .directories) (o .place) (located g image path bytes asked) (fileLabel (o .to)) (PutFile bytes) (wanted g image path bytes asked) needs new c,
-        ap length all-old,
-        k,
-        length-append keeps old,
-        free-length keeps (g .pages) (kept-within g image path bytes asked),
-      )
+    -- the free pages, and the chain that is replaced
+    abbrev spare : List ℕ
+    spare = free g image bytes stands a
 
-  -- and it keeps all else exactly: what stands at another path stood there
-  pub put-keeps : (after : List ℕ) → put g path bytes image ≡ ok after → (i : Image) → Accepted g after i
-      → (ks : List ℕ) → (ks ≡ filePath (o .to) → ⊥) → Exists (atPath ks i) → Exists (atPath ks (o .tree))
-  put-keeps after e i h ks n x =
-      let p = put-gives g path bytes image after (fit-of P N image table g (o .right)) imageBytes pathBytes areBytes e in
-      let t : p .tree ≡ i = ok-inj (sym (accepted g after (p .tree) (p .done .wellFormed)) ∙ h) in
-      let b : p .at .before ≡ o .tree = ok-inj (sym (accepted g image (p .at .before) (p .at .accepted)) ∙ o .accepted) in
-      let q : p .at .to ≡ o .to = ok-inj (sym (p .at .formed) ∙ o .formed) in
-      subst (λ (j : Image). Exists (atPath ks j)) b
-      (no-entry-more g path bytes image after p ks (λ f. n (f ∙ ap filePath q)) (subst (λ (j : Image). Exists (atPath ks j)) (sym t) x))
+    abbrev old : List ℕ
+    old = chainPages (find (fileKey (o .to)) (o .place .items))
 
-  -- ---- the call: answer, image and owner table
-  call-is : putCall P N image table path bytes ≡ effect P N image table g (plainly (put g path bytes image))
-  unfolding putCall
-  call-is = rw (o .right) refl
+    -- what a call that is done leaves is a candidate
+    put-done : (after : List ℕ) → putAt g target (bytesAt g) image ≡ ok after → IsCandidate after
+    put-done after e =
+        let p = put-gives C g image fit imageBytes after e in
+        subst (λ (q : Path). Candidate g image (targetPath q) (filePath q) Wanted after) (ok-inj (sym (p .at .formed) ∙ o .formed))
+        (put-candidate g asked stands (bytesAt g) Wanted image after p (λ l ls h. C .wanted g (p .at .place) l ls h) plain)
 
-  -- a call that answers 0 leaves what the rule tells
-  call-ok : putCall P N image table path bytes .0 ≡ ok tt → put g path bytes image ≡ ok (putCall P N image table path bytes .1)
-  call-ok e = rw call-is (done-ok P N image table g (put g path bytes image) (rw call-is at e))
+    needs : Needs g Wanted (wanted g image bytes stands a)
+    needs = C .needs g (fit .valid) (o .place)
 
-  call-done : (after : List ℕ) → put g path bytes image ≡ ok after → putCall P N image table path bytes .0 ≡ ok tt
-  call-done after e = rw (call-is, e) refl
+    -- no candidate has fewer pages in use
+    put-least : (after : List ℕ) → putAt g target (bytesAt g) image ≡ ok after → (i : Image) → Accepted g after i → (new : List ℕ) (c : IsCandidate new) → pagesInUse i ≤ pagesInUse (c .after)
+    put-least after e i h new c =
+        let r = put-room g image bytes stands a (bytesAt g) refl target given after e in
+        let clear = free-clear g image bytes stands a in
+        let w = put-edited g image bytes stands a spare clear (r .0) .wellFormed in
+        let same : i ≡ result g image bytes stands a spare clear (r .0) = ok-inj (sym h ∙ ap (λ (l : List ℕ). check g (viewsOf g l)) (r .1) ∙ accepted g _ _ w) in
+        omega (
+          arith,
+          ap pagesInUse same,
+          put-total g image bytes stands a spare clear (r .0),
+          ap length (all-old g image bytes stands a),
+          least g image (o .tree) (a .well) (o .to .directories) (o .place) (located g image bytes stands a) (fileLabel (o .to)) Wanted (wanted g image bytes stands a) needs new c,
+        )
 
-  call-full : put g path bytes image ≡ err 17 0 → putCall P N image table path bytes .0 ≡ err 17 0
-  call-full e = rw (call-is, e) refl
+    -- where there is one, there is room
+    put-takes : (new : List ℕ) → IsCandidate new → extra g image bytes stands a + wanted g image bytes stands a ≤ length spare
+    put-takes new c =
+        let keeps = kept g image bytes stands a in
+        let k = same-length (keeps ++ old) (used (o .tree)) (λ x. count-append x keeps old ∙ kept-old g image bytes stands a x) in
+        omega (
+          arith,
+          candidate-room g image (o .tree) (a .well) (o .to .directories) (o .place) (located g image bytes stands a) (fileLabel (o .to)) Wanted (wanted g image bytes stands a) needs new c,
+          ap length (all-old g image bytes stands a),
+          k,
+          length-append keeps old,
+          free-length keeps (g .pages) (kept-within g image bytes stands a),
+        )
 
-  -- where there is a candidate it is done
-  call-takes : (new : List ℕ) → IsCandidate new → putCall P N image table path bytes .0 ≡ err 17 0 → ⊥
-  call-takes new c e = clash (sym e ∙ call-done _ (put-fits g image path bytes asked (put-takes new c)))
+    -- and it keeps all else exactly: what stands at another path stood there
+    put-keeps : (after : List ℕ) → putAt g target (bytesAt g) image ≡ ok after → (i : Image) → Accepted g after i
+        → (ks : List ℕ) → (ks ≡ filePath (o .to) → ⊥) → Exists (atPath ks i) → Exists (atPath ks (o .tree))
+    put-keeps after e i h ks n x =
+        let p = put-gives C g image fit imageBytes after e in
+        let t : p .tree ≡ i = ok-inj (sym (accepted g after (p .tree) (p .done .wellFormed)) ∙ h) in
+        let b : p .at .before ≡ o .tree = ok-inj (sym (accepted g image (p .at .before) (p .at .accepted)) ∙ o .accepted) in
+        let q : p .at .to ≡ o .to = ok-inj (sym (p .at .formed) ∙ o .formed) in
+        subst (λ (j : Image). Exists (atPath ks j)) b
+        (no-entry-more g asked stands (bytesAt g) image after p ks (λ f. n (f ∙ ap filePath q)) (subst (λ (j : Image). Exists (atPath ks j)) (sym t) x))
 
--- ---- nothing but room could refuse a put exactly when it is done or refused for room
-module _ (P N : ℕ) (image table path bytes : List ℕ) where
-  abbrev answer : Res (Unit {0})
-  answer = putCall P N image table path bytes .0
+    call-is : call ≡ effect P N image table g (plainly (putAt g target (bytesAt g) image))
+    call-is = rw (o .right) refl
 
-  -- what a put has met when it comes to the room
-  room-met : (g : Geometry) → shape P N image table ≡ Fits g → (i : Image) → check g (viewsOf g image) ≡ ok i → (x : Target) → putTarget path (i .tree) ≡ ok x
-      → OnlyRoom P N image table (pathOf path) NotReadOnly
+    -- a call that answers 0 leaves what the rule tells
+    call-ok : call .0 ≡ ok tt → putAt g target (bytesAt g) image ≡ ok (call .1)
+    call-ok e = rw call-is (done-ok P N image table g (putAt g target (bytesAt g) image) (rw call-is at e))
+
+    call-done : (after : List ℕ) → putAt g target (bytesAt g) image ≡ ok after → call .0 ≡ ok tt
+    call-done after e = rw (call-is, e) refl
+
+    call-full : putAt g target (bytesAt g) image ≡ err 17 0 → call .0 ≡ err 17 0
+    call-full e = rw (call-is, e) refl
+
+    -- where there is a candidate it is done
+    call-takes : (new : List ℕ) → IsCandidate new → call .0 ≡ err 17 0 → ⊥
+    call-takes new c e = clash (sym e ∙ call-done _ (put-fits g image bytes stands a (bytesAt g) refl target given (put-takes new c)))
+
+  -- ---- nothing but room could refuse it exactly when it is done or refused for room
+  -- what it has met when it comes to the room
+  room-met : (g : Geometry) → shape P N image table ≡ Fits g → (i : Image) → check g (viewsOf g image) ≡ ok i → (x : Target) → target (i .tree) ≡ ok x → OnlyRoom P N image table asked Allowed
   room-met g s i c x t =
-      let m = put-met path (i .tree) x t in
-      let r = reached path (i .tree) x (m .at) in
-      record {
-        geometry = g;
-        right = s;
-        tree = i;
-        accepted = c;
-        to = x .to;
-        formed = r .formed;
-        place = x .place;
-        there = r .there;
-        shown = m .seen;
-        allowed = writable-inv (find (fileKey (x .to)) (x .place .items)) tt (m .may);
-      }
+      let m = C .met (i .tree) x t in
+      record { geometry = g; right = s; tree = i; accepted = c; to = x .to; formed = m .formed; place = x .place; there = m .there; shown = m .seen; allowed = m .allowed }
 
   -- a number that only room gives
-  not-17 : {A C : Type 0} (low high most : ℕ) (r : Res A) → Refuses low high most r → high < 17 → r ≡ err 17 0 → C
+  not-17 : {A D : Type 0} (low high most : ℕ) (r : Res A) → Refuses low high most r → high < 17 → r ≡ err 17 0 → D
   not-17 low high most r h k e = absurd (omega (arith, h .number 17 0 e .1))
 
-  rule-met : (g : Geometry) → shape P N image table ≡ Fits g → (r : Res (List ℕ)) → put g path bytes image ≡ r
-      → (effect P N image table g (plainly r) .0 ≡ ok tt) ⊎ (effect P N image table g (plainly r) .0 ≡ err 17 0) → OnlyRoom P N image table (pathOf path) NotReadOnly
-  unfolding put
+  rule-met : (g : Geometry) → shape P N image table ≡ Fits g → (r : Res (List ℕ)) → putAt g target (bytesAt g) image ≡ r
+      → (effect P N image table g (plainly r) .0 ≡ ok tt) ⊎ (effect P N image table g (plainly r) .0 ≡ err 17 0) → OnlyRoom P N image table asked Allowed
+  unfolding putAt
   rule-met g s (ok after) e h = on-then _ _ _ e λ i c e. on-then _ _ _ e λ x t e. room-met g s i c x t
   rule-met g s (err n p) e (inl h) = clash h
   rule-met g s (err n p) e (inr h) =
-      let f : put g path bytes image ≡ err 17 0 = e ∙ err-same h in
+      let f : putAt g target (bytesAt g) image ≡ err 17 0 = e ∙ err-same h in
       on-refused _ _ _ _ f (not-17 2 13 (g .pages + 33) _ (check-faults g (viewsOf g image) (omega (arith, fit-of P N image table g s .valid .some))) (omega arith)) λ i c f.
-      on-refused _ _ _ _ f (put-target-room path (i .tree) 0) λ x t f. room-met g s i c x t
+      on-refused _ _ _ _ f (λ r. absurd (C .not-room (i .tree) r)) λ x t f. room-met g s i c x t
 
   call-met : (s : Shape) → shape P N image table ≡ s
-      → (inGeometry s (err 1 0, image, table) (λ g. effect P N image table g (plainly (put g path bytes image))) .0 ≡ ok tt)
-      ⊎ (inGeometry s (err 1 0, image, table) (λ g. effect P N image table g (plainly (put g path bytes image))) .0 ≡ err 17 0) → OnlyRoom P N image table (pathOf path) NotReadOnly
+      → (inGeometry s (err 1 0, image, table) (λ g. effect P N image table g (plainly (putAt g target (bytesAt g) image))) .0 ≡ ok tt)
+      ⊎ (inGeometry s (err 1 0, image, table) (λ g. effect P N image table g (plainly (putAt g target (bytesAt g) image))) .0 ≡ err 17 0) → OnlyRoom P N image table asked Allowed
   call-met Invalid e (inl h) = clash h
   call-met Invalid e (inr h) = absurd (let z : _≡_ {A = ℕ} 1 17 = cc in omega arith)
-  call-met (Fits g) e h = rule-met g e (put g path bytes image) refl h
+  call-met (Fits g) e h = rule-met g e (putAt g target (bytesAt g) image) refl h
 
-  answer-met : (answer ≡ ok tt) ⊎ (answer ≡ err 17 0) → OnlyRoom P N image table (pathOf path) NotReadOnly
-  unfolding putCall
-  answer-met h = call-met (shape P N image table) refl h
-
-  pub only-room : Bytes image → Bytes path → Bytes bytes → OnlyRoom P N image table (pathOf path) NotReadOnly ↔ ((answer ≡ ok tt) ⊎ (answer ≡ err 17 0))
-  only-room b p c = (
-    λ o. let a = asked P N image table path bytes o b p c in
-        elim (decLt (length (free (o .geometry) image path bytes a)) (extra (o .geometry) image path bytes a + wanted (o .geometry) image path bytes a)) [
-          | yes k ↦ inr (call-full P N image table path bytes o b p c (put-full (o .geometry) image path bytes a k))
-          | no k ↦ let e = put-fits (o .geometry) image path bytes a (omega arith) in inl (call-done P N image table path bytes o b p c _ e)
-        ],
-    answer-met,
+  only-room : OnlyRoom P N image table asked Allowed ↔ ((call .0 ≡ ok tt) ⊎ (call .0 ≡ err 17 0))
+  only-room = (
+    λ o. elim (decLt (length (spare o)) (extra (g o) image (bytes o) stands (a o) + wanted (g o) image (bytes o) stands (a o))) [
+      | yes k ↦ inr (call-full o (put-full (g o) image (bytes o) stands (a o) (bytesAt (g o)) refl target (given o) k))
+      | no k ↦ let e = put-fits (g o) image (bytes o) stands (a o) (bytesAt (g o)) refl target (given o) (omega arith) in inl (call-done o _ e)
+    ],
+    call-met (shape P N image table) refl,
   )
 
--- ---- demand 3 of the call, whole
-pub demand-3 : (P N : ℕ) (image table path bytes : List ℕ) → Bytes image → Bytes path → Bytes bytes → Demand3 P N image table (pathOf path) NotReadOnly (PutFile bytes)
-    (putCall P N image table path bytes .0 ≡ ok tt) (putCall P N image table path bytes .0 ≡ err 17 0) (putCall P N image table path bytes .1)
-demand-3 P N image table path bytes b p c =
-    let after = putCall P N image table path bytes .1 in
-    demand-from P N image table (pathOf path) NotReadOnly (PutFile bytes) (putCall P N image table path bytes .0 ≡ ok tt) (putCall P N image table path bytes .0 ≡ err 17 0) after
-    (only-room P N image table path bytes b p c)
-    (λ o e. put-done P N image table path bytes o b p c after (call-ok P N image table path bytes o b p c e))
-    (λ o. call-takes P N image table path bytes o b p c)
-    (λ o e. put-least P N image table path bytes o b p c after (call-ok P N image table path bytes o b p c e))
-    (λ o e. put-keeps P N image table path bytes o b p c after (call-ok P N image table path bytes o b p c e))
+  -- ---- demand 3 of the call, whole
+  pub demand-3 : Demand3 P N image table asked Allowed Wanted (changed P N image table (λ g. putAt g target (bytesAt g) image) .0 ≡ ok tt) (changed P N image table (λ g. putAt g target (bytesAt g) image) .0 ≡ err 17 0)
+      (changed P N image table (λ g. putAt g target (bytesAt g) image) .1)
+  demand-3 =
+      demand-from P N image table asked Allowed Wanted (call .0 ≡ ok tt) (call .0 ≡ err 17 0) (call .1) only-room
+      (λ o e. put-done o (call .1) (call-ok o e)) (λ o. call-takes o) (λ o e. put-least o (call .1) (call-ok o e)) (λ o e. put-keeps o (call .1) (call-ok o e))
 
 -- and as another answer says it
 pub demand-said : (P N : ℕ) (image table : List ℕ) (asked : Res Path) (Allowed Asked : Found → Type 0) {isDone isFull saysDone saysFull : Type 0} {after : List ℕ}

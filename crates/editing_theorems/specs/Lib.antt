@@ -20,6 +20,7 @@ pub mod DeleteLaws
 pub mod PutDirectory
 pub mod PutLaws
 pub mod PutDone
+pub mod PutCalls
 pub mod FullPages
 pub mod PathContents
 pub mod FoundLaws

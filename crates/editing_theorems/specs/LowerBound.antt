@@ -21,7 +21,7 @@ use Rattle.rules.specs.Paths.{Found, nothing, aFile, aDirectory, find, Place, r
 use Rattle.rules.specs.Put.{isFull, extraPages}
 use Rattle.rules.specs.Delete.{remove}
 use Rattle.rules.specs.EditLaws.{allFound, remove-inner}
-use Rattle.rules.specs.Candidate.{lookUp, rootLabel, atPath, chainPages, foundEntry, Exists, directoryKeys, PutFile, Candidate}
+use Rattle.rules.specs.Candidate.{lookUp, rootLabel, atPath, chainPages, foundEntry, Exists, directoryKeys, PutFile, EmptyDirectory, Candidate}
 use Rattle.reading_theorems.specs.PacketLaws.{ByteView, byte-view}
 use Rattle.reading_theorems.specs.Directory.{all-split}
 use Rattle.reading_theorems.specs.Accepted.{accepted, accepted-iff}
@@ -56,11 +56,6 @@ file-needs g valid bytes = record { exists = there; pages = most }
     most v bv (aDirectory l d) s h = absurd h
 
 -- a directory without entries needs one
-abbrev pub EmptyDirectory : Found → Type 0
-EmptyDirectory nothing = ⊥
-EmptyDirectory (aFile l ls) = ⊥
-EmptyDirectory (aDirectory l d) = keys d ≡ []
-
 pub directory-needs : (g : Geometry) → Needs g EmptyDirectory 1
 directory-needs g = record { exists = there; pages = most }
   where

@@ -10,11 +10,21 @@ use Rattle.geometry.specs.declared.Shape.the-variants.{Fits, Invalid}
 use Rattle.geometry.specs.Number.{Bytes}
 use Rattle.rules.specs.Result.{Res, ok, err}
 use Rattle.rules.specs.Format.{format}
-use Rattle.rules.specs.Calls.{inGeometry, shape, plainly, effect, formatCall, putCall, deleteCall}
-use Rattle.rules.specs.CallLaws.{format-refused, put-refused, delete-refused}
-use Rattle.rules.specs.Promises.{Leaves, Formats, Deletes, Puts}
+use Rattle.rules.specs.Calls.{inGeometry, shape, plainly, effect, changed, formatCall, putCall, deleteCall}
+use Rattle.rules.specs.Directories.{makeCall, removeCall}
+use Rattle.rules.specs.Chain.{Link}
+use Rattle.rules.specs.Tree.{Label, Items}
+use Rattle.rules.specs.Paths.{Path, Found, Place, Target}
+use Rattle.rules.specs.Put.{putAt}
+use Rattle.rules.specs.Delete.{removeAt}
+use Rattle.rules.specs.Demand2.{Deleted, PutDone}
+use Rattle.rules.specs.CallLaws.{changed-refused, format-refused}
+use Rattle.rules.specs.Promises.{Leaves, Formats, Deletes, Removes, Puts, Makes}
 use Rattle.editing_theorems.specs.FormatLaws.{format-fault}
-use Rattle.editing_theorems.specs.CallEdits.{format-call, put-call, delete-call}
+use Rattle.editing_theorems.specs.CallEdits.{format-call, put-call, remove-call}
+use Rattle.editing_theorems.specs.DeleteLaws.{RemoveCall, a-delete, a-removal}
+use Rattle.editing_theorems.specs.PutDone.{PutCall}
+use Rattle.editing_theorems.specs.PutCalls.{a-put, a-making}
 use Rattle.editing_theorems.specs.Demand3.{demand-3}
 
 -- an answer that is not done is a refusal
@@ -54,23 +64,41 @@ module _ (P N : ℕ) (image table : List ℕ) where
       only-1-or-4 local,
     )
 
-    -- ---- delete
-    pub delete-stated : (path : List ℕ) → Deletes P N image table path (deleteCall P N image table path .0 ≡ ok tt) (deleteCall P N image table path .1)
-    delete-stated path = record {
-      done = λ g f k. delete-call P N image table g f imageBytes path k;
-      refused = λ k. let r = refusal-of (deleteCall P N image table path .0) k in delete-refused P N image table path (r .number) (r .page) (r .is);
+    -- ---- a call that removes something: done or refused
+    removed : {asked : Res Path} {Stood : Found → Type 0} {target : Items → Res Target} → RemoveCall asked Stood target
+        → Leaves P N image table (λ g. Deleted g asked Stood image (changed P N image table (λ g. removeAt g target image) .1)) (changed P N image table (λ g. removeAt g target image) .0 ≡ ok tt)
+        (changed P N image table (λ g. removeAt g target image) .1)
+    removed {target = target} C = record {
+      done = λ g f k. remove-call P N image table g f imageBytes C k;
+      refused = λ k. let r = refusal-of (changed P N image table (λ g. removeAt g target image) .0) k in changed-refused P N image table (λ g. removeAt g target image) (r .number) (r .page) (r .is);
     }
 
-    -- ---- put, with demand 3
+    pub delete-stated : (path : List ℕ) → Deletes P N image table path (deleteCall P N image table path .0 ≡ ok tt) (deleteCall P N image table path .1)
+    unfolding deleteCall
+    delete-stated path = removed (a-delete path)
+
+    pub removal-stated : (path : List ℕ) → Removes P N image table path (removeCall P N image table path .0 ≡ ok tt) (removeCall P N image table path .1)
+    unfolding removeCall
+    removal-stated path = removed (a-removal path)
+
+    -- ---- a call that puts something, with demand 3
+    put-leaves : {asked : Res Path} {Allowed Wanted : Found → Type 0} {target : Items → Res Target} {bytes : Geometry → Place → List ℕ} {stands : Label → List Link → Found}
+        → PutCall asked Allowed Wanted target bytes stands
+        → Leaves P N image table (λ g. PutDone g asked stands (bytes g) image (changed P N image table (λ g. putAt g target (bytes g) image) .1)) (changed P N image table (λ g. putAt g target (bytes g) image) .0 ≡ ok tt)
+        (changed P N image table (λ g. putAt g target (bytes g) image) .1)
+    put-leaves {target = target} {bytes} C = record {
+      done = λ g f k. put-call P N image table g f imageBytes C k;
+      refused = λ k. let r = refusal-of (changed P N image table (λ g. putAt g target (bytes g) image) .0) k in changed-refused P N image table (λ g. putAt g target (bytes g) image) (r .number) (r .page) (r .is);
+    }
+
     pub put-stated : (path bytes : List ℕ) → Bytes path → Bytes bytes
         → Puts P N image table path bytes (putCall P N image table path bytes .0 ≡ ok tt) (λ r. putCall P N image table path bytes .0 ≡ r) (putCall P N image table path bytes .1)
-    put-stated path bytes p b = (
-      record {
-        done = λ g f k. put-call P N image table g f imageBytes path bytes p b k;
-        refused = λ k. let r = refusal-of (putCall P N image table path bytes .0) k in put-refused P N image table path bytes (r .number) (r .page) (r .is);
-      },
-      demand-3 P N image table path bytes imageBytes p b,
-    )
+    unfolding putCall
+    put-stated path bytes p b = let C = a-put path bytes p b in (put-leaves C, demand-3 C (λ l ls. refl) P N image table imageBytes)
+
+    pub make-stated : (path : List ℕ) → Bytes path → Makes P N image table path (makeCall P N image table path .0 ≡ ok tt) (λ r. makeCall P N image table path .0 ≡ r) (makeCall P N image table path .1)
+    unfolding makeCall
+    make-stated path p = let C = a-making path p in (put-leaves C, demand-3 C (λ l ls. refl) P N image table imageBytes)
 
 -- ---- as another answer says it
 module _ {P N : ℕ} {image table : List ℕ} {isDone saysDone : Type 0} (d : saysDone ↔ isDone) where

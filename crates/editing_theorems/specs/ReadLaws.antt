@@ -10,7 +10,7 @@ use Rattle.rules.specs.TargetLaws.{target-then}
 use Rattle.rules.specs.Paths.{Path, pathOf, directoryKey, fileKey, Found, nothing, aFile, aDirectory, find, Place, rootPlace, stepDown, directoryAt}
 use Rattle.rules.specs.Candidate.{lookUp, rootLabel, atPath, directoryKeys, targetPath, filePath}
 use Rattle.rules.specs.Calls.{bytesOf, fileAt}
-use Rattle.rules.specs.Demand2.{Shown, shown, Deleted, PutDone}
+use Rattle.rules.specs.Demand2.{Shown, shown, IsFile, Deleted, PutDone}
 use Rattle.editing_theorems.specs.PathLaws.{NothingBelow, nothing-below}
 use Rattle.editing_theorems.specs.PathChanges.{same-path}
 
@@ -39,7 +39,7 @@ read-down (x ∷ xs) k l p = go (find (directoryKey x) (p .items)) refl (λ m d.
 -- what a read answers: 14 for a malformed path, else what stands there
 pub read-at : (path : List ℕ) (i : Image) → fileAt path i ≡ andThen (pathOf path) (λ q. bytesOf (atPath (filePath q) i))
 unfolding fileAt atPath
-read-at path i = target-then path (i .tree) _ ∙ then-cong (pathOf path) _ _ (λ q e. read-down (q .directories) (fileKey q) rootLabel (rootPlace (i .tree)))
+read-at path i = target-then (pathOf path) (i .tree) _ ∙ then-cong (pathOf path) _ _ (λ q e. read-down (q .directories) (fileKey q) rootLabel (rootPlace (i .tree)))
 
 -- two images that show the same at a path read the same there
 read-same : (g : Geometry) (path : List ℕ) (i j : Image) → ((q : Path) → pathOf path ≡ ok q → shown g (atPath (filePath q) i) ≡ shown g (atPath (filePath q) j))
@@ -50,11 +50,11 @@ read-found : (path : List ℕ) (q : Path) (i : Image) (f : Found) → pathOf pat
 read-found path q i f p e = read-at path i ∙ ap (λ (r : Res Path). andThen r (λ q. bytesOf (atPath (filePath q) i))) p ∙ then-ok q (λ q. bytesOf (atPath (filePath q) i)) ∙ ap bytesOf e
 
 -- ---- after a put
-module _ (g : Geometry) (path bytes image now : List ℕ) (p : PutDone g path bytes image now) where
+module _ (g : Geometry) (path bytes image now : List ℕ) (p : PutDone g (pathOf path) aFile (λ _. bytes) image now) where
   -- the path reads the bytes
   pub read-put : fileAt path (p .tree) ≡ ok bytes
   unfolding bytesOf
-  read-put = read-found path (p .at .to) (p .tree) (aFile (p .shows .label) (p .shows .links)) (p .at .formed) (p .shows .file) ∙ ap ok (p .shows .reads)
+  read-put = read-found path (p .at .to) (p .tree) (aFile (p .shows .label) (p .shows .links)) (p .at .formed) (p .shows .standing) ∙ ap ok (p .shows .reads)
 
   -- every other path reads what it read, or answers the refusal that it answered
   pub read-beside-put : (other : List ℕ) → ((q : Path) → pathOf other ≡ ok q → filePath q ≡ filePath (p .at .to) → ⊥) → fileAt other (p .tree) ≡ fileAt other (p .at .before)
@@ -64,7 +64,7 @@ module _ (g : Geometry) (path bytes image now : List ℕ) (p : PutDone g path by
       (λ m. ap (λ (s : Shown). s .answer) (p .shows .others (filePath q) (n q e) m))) ∙ sym (read-at other (p .at .before))
 
 -- ---- after a delete
-module _ (g : Geometry) (path image now : List ℕ) (p : Deleted g path image now) where
+module _ (g : Geometry) (path image now : List ℕ) (p : Deleted g (pathOf path) IsFile image now) where
   pub read-deleted : fileAt path (p .tree) ≡ err 15 0
   read-deleted = read-found path (p .at .to) (p .tree) nothing (p .at .formed) (p .shows .gone) ∙ no-bytes refl
 

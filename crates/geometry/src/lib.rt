@@ -83,7 +83,9 @@ pub const ABOVE_NAME_AT: usize = MARKER_BYTES;
 
 pub const ABOVE_ZERO_AT: usize = ABOVE_NAME_AT + NAME_BYTES;
 
-pub const ABOVE_START_AT: usize = ABOVE_ZERO_AT + 1;
+pub const ABOVE_ZERO_BYTES: usize = 1;
+
+pub const ABOVE_START_AT: usize = ABOVE_ZERO_AT + ABOVE_ZERO_BYTES;
 
 // The marker for page numbers of one byte is one more than this, for two bytes two more.
 pub const MARKER: usize = 0xA9;

@@ -10,7 +10,7 @@ use borrow.Author.Tests.{le-leb, lt-leb, eq-eqb, ne-eqb, not-true, not-false}
 use Rattle.geometry.specs.Number.{number}
 use Rattle.rules.specs.Result.{ok, err, andThen, refuse-unless}
 use Rattle.rules.specs.Names.{validName}
-use Rattle.rules.specs.Paths.{namesIn, validNames, pathOf}
+use Rattle.rules.specs.Paths.{namesIn, validNames, pathOf, directoryPathOf}
 
 -- one more name
 module _ (b : List ℕ) (k i x : ℕ) (t : Bool) (h : i < k) (e : x ≡ number (take 4 (drop (4 * i) b))) (q : t ≡ validName x) where
@@ -68,3 +68,29 @@ module _ (b : List ℕ) where
           unfolding pathOf andThen refuse-unless
           well-formed m x e =
               simp (pathOf, eq-eqb (length b % 4) 1 h, le-leb 5 (length b) k, le-leb (length b) 37 l, ← q, not-false t z, le-leb (getD b (length b - 1) 0) 99 m, ← e)
+
+-- ---- a directory's path
+module _ (b : List ℕ) where
+  pub uneven-length : (length b % 4 ≡ 0 → ⊥) → err 14 0 ≡ directoryPathOf b
+  unfolding directoryPathOf andThen refuse-unless
+  uneven-length h = simp (directoryPathOf, ne-eqb (length b % 4) 0 h)
+
+  module _ (h : length b % 4 ≡ 0) where
+    pub no-name : length b < 4 → err 14 0 ≡ directoryPathOf b
+    unfolding directoryPathOf andThen refuse-unless
+    no-name k = simp (directoryPathOf, eq-eqb (length b % 4) 0 h, lt-leb 4 (length b) k)
+
+    module _ (k : 4 ≤ length b) where
+      pub nine-names : 32 < length b → err 14 0 ≡ directoryPathOf b
+      unfolding directoryPathOf andThen refuse-unless
+      nine-names l = simp (directoryPathOf, eq-eqb (length b % 4) 0 h, le-leb 4 (length b) k, lt-leb (length b) 32 l)
+
+      module _ (l : length b ≤ 32) (t : Bool) (q : t ≡ validNames (namesIn (length b / 4) b)) where
+        pub bad-directory : not t ≡ true → err 14 0 ≡ directoryPathOf b
+        unfolding directoryPathOf andThen refuse-unless
+        bad-directory z = simp (directoryPathOf, eq-eqb (length b % 4) 0 h, le-leb 4 (length b) k, le-leb (length b) 32 l, ← q, not-true t z)
+
+        pub directory-formed : not t ≡ false → (x : ℕ) → x ≡ number (take 4 (drop (length b - 4) b))
+            → ok (record { directories = namesIn (length b / 4 - 1) b; name = x; extension = 127 }) ≡ directoryPathOf b
+        unfolding directoryPathOf andThen refuse-unless
+        directory-formed z x e = simp (directoryPathOf, eq-eqb (length b % 4) 0 h, le-leb 4 (length b) k, le-leb (length b) 32 l, ← q, not-false t z, ← e)

@@ -6,23 +6,28 @@ use native.Mathlib.Omega.{arith}
 use borrow.Author.Tests.{eq-eqb, ne-eqb}
 use Rattle.geometry.specs.declared.Geometry.{Geometry}
 use Rattle.rules.specs.declared.Entry.{Entry}
-use Rattle.rules.specs.Result.{ok, err}
+use Rattle.rules.specs.Result.{Res, ok, err}
 use Rattle.rules.specs.ResultLaws.{refuse-true, refuse-false}
 use Rattle.rules.specs.Chain.{Views}
 use Rattle.rules.specs.Names.{attribute}
 use Rattle.rules.specs.Tree.{Image}
 use Rattle.rules.specs.Check.{check}
-use Rattle.rules.specs.Paths.{aFile}
+use Rattle.rules.specs.Paths.{Path, pathOf, directoryPathOf, aFile}
 use Rattle.rules.specs.Put.{writable}
 use Rattle.entries.specs.declared.Slot.{Slot}
 use Rattle.lookup.specs.declared.Reached.{Reached}
 use Rattle.lookup.specs.declared.PathLookup.{PathLookup}
-use Rattle.lookup.specs.Targets.{FileAt, AtPath, Looks}
+use Rattle.lookup.specs.Targets.{FileAt, SubdirectoryAt, AtPath, Looks, LooksFor}
 
-pub looks-as : (g : Geometry) (vs : Views) (path : List ℕ) (i : Image) (r : PathLookup) → Looks g vs path r → check g vs ≡ ok i → (x : PathLookup) → r ≡ x → AtPath g vs path i x
-looks-as g vs path i r h accepted x e = subst (AtPath g vs path i) e (h i accepted)
+pub looks-as : (g : Geometry) (vs : Views) (path : List ℕ) (i : Image) (r : PathLookup) → Looks g vs path r → check g vs ≡ ok i → (x : PathLookup) → r ≡ x
+    → AtPath g vs (pathOf path) i (FileAt g vs (pathOf path) i) x
+looks-as g vs path i r h accepted x e = subst (AtPath g vs (pathOf path) i (FileAt g vs (pathOf path) i)) e (h i accepted)
 
-module _ {g : Geometry} {vs : Views} {path : List ℕ} {i : Image} {d : Reached} {s : Slot} {m : ℕ} {e : Entry} (there : FileAt g vs path i d s m e) where
+pub looks-for-as : (g : Geometry) (vs : Views) (path : List ℕ) (i : Image) (r : PathLookup) → LooksFor g vs path r → check g vs ≡ ok i → (x : PathLookup) → r ≡ x
+    → AtPath g vs (directoryPathOf path) i (SubdirectoryAt g vs (directoryPathOf path) i) x
+looks-for-as g vs path i r h accepted x e = subst (AtPath g vs (directoryPathOf path) i (SubdirectoryAt g vs (directoryPathOf path) i)) e (h i accepted)
+
+module _ {g : Geometry} {vs : Views} {asked : Res Path} {i : Image} {d : Reached} {s : Slot} {m : ℕ} {e : Entry} (there : FileAt g vs asked i d s m e) where
   pub same-extension : e .extension ≡ there .label .extension
   same-extension = ap (λ (x : Entry). x .extension) (there .entry-is)
 

@@ -19,7 +19,8 @@ ghost use Rattle.geometry.specs.Geometry.{Fit};
 ghost use Rattle.rules.specs.Chain.{viewsOf};
 ghost use Rattle.listing.specs.KnownTree.{HasImage};
 ghost use Rattle.lookup.specs.Searches.{HasTree, Places, Finds, entered, Resolves};
-ghost use Rattle.lookup.specs.Targets.{Looks};
+ghost use Rattle.lookup.specs.ParsedPath.{parsedPath, Within};
+ghost use Rattle.lookup.specs.Targets.{LooksUp, Looks, LooksFor};
 
 // The entry that was looked for: its place, how many stamps stand right before it, and itself.
 pub enum Spot {
@@ -52,9 +53,9 @@ pub enum PathLookup {
     Malformed,
     // one of its directories is absent: 15
     Nowhere,
-    // the file is absent: its directory, its name and extension
+    // what it names is absent: the directory that would hold it, its name and extension
     Absent(Reached, u32, u8),
-    // the file's directory, the place of its entry, how many stamps stand right before it, and itself
+    // the directory that holds it, the place of its entry, how many stamps stand right before it, and itself
     At(Reached, Slot, usize, Entry),
 }
 
@@ -135,18 +136,18 @@ pub fn resolve(
     }
 }
 
-// What stands at a path of an image that is known to be accepted.
-pub fn find_file(image: &[u8], g: Geometry, path: &[u8]) -> PathLookup
+// What stands at a path that was taken apart, in an image that is known to be accepted.
+fn find_parsed(image: &[u8], g: Geometry, path: &[u8], parsed: Parsed) -> PathLookup
     requires { ⌜ Fit g (now image) ⌝ }
-    requires { ⌜ HasImage g (viewsOf g (now image)) ⌝ }
-    ensures { λ r. ⌜ Looks g (viewsOf g (now (image .entry))) (now (path .entry)) r ⌝ }
+    requires { ⌜ HasImage g (viewsOf g (now image)) × Within (now path) parsed ⌝ }
+    ensures { λ r. ⌜ LooksUp g (viewsOf g (now (image .entry))) (parsedPath (now (path .entry)) parsed) r ⌝ }
 {
     let root = Reached {
         start: 0,
         name: ROOT,
         hidden: false,
     };
-    match crate::path::parse(path) {
+    match parsed {
         Parsed::Malformed => PathLookup::Malformed,
         Parsed::Path(names, name, extension) => match resolve(image, g, root, path, 0, names) {
             Resolved::Absent => PathLookup::Nowhere,
@@ -159,4 +160,22 @@ pub fn find_file(image: &[u8], g: Geometry, path: &[u8]) -> PathLookup
             }
         },
     }
+}
+
+// What stands at a file's path of an image that is known to be accepted.
+pub fn find_file(image: &[u8], g: Geometry, path: &[u8]) -> PathLookup
+    requires { ⌜ Fit g (now image) ⌝ }
+    requires { ⌜ HasImage g (viewsOf g (now image)) ⌝ }
+    ensures { λ r. ⌜ Looks g (viewsOf g (now (image .entry))) (now (path .entry)) r ⌝ }
+{
+    find_parsed(image, g, path, crate::path::parse(path))
+}
+
+// What stands at a directory's path of an image that is known to be accepted.
+pub fn find_directory(image: &[u8], g: Geometry, path: &[u8]) -> PathLookup
+    requires { ⌜ Fit g (now image) ⌝ }
+    requires { ⌜ HasImage g (viewsOf g (now image)) ⌝ }
+    ensures { λ r. ⌜ LooksFor g (viewsOf g (now (image .entry))) (now (path .entry)) r ⌝ }
+{
+    find_parsed(image, g, path, crate::path::parse_directory(path))
 }

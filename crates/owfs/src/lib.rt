@@ -9,9 +9,10 @@ ghost use mathlib.Core.Path.{_≡_};
 ghost use Rattle.crc16.specs.Crc16.{crc16};
 ghost use Rattle.rules.specs.Listing.{lineAt, linesOf};
 ghost use Rattle.rules.specs.Calls.{readBytes, lengthOf, filled};
-ghost use Rattle.rules.specs.Promises.{Accepts, TellsTree, Formats, Puts, Deletes};
+ghost use Rattle.rules.specs.Promises.{Accepts, TellsTree, Formats, Puts, Deletes, Makes, Removes};
 ghost use Rattle.rules.specs.CarefulPromises.{CarefullyPuts, CarefullyDeletes, Mends};
-ghost use Rattle.answers.specs.ExportedAnswers.{entryFor, lengthFor, answerFor, asksLocal, mendedFor, countTold, checkAnswer, listAnswer, readAnswer, formatAnswer, putAnswer, deleteAnswer, carefulPutAnswer, carefulDeleteAnswer, mendAnswer};
+ghost use Rattle.answers.specs.ExportedAnswers.{entryFor, lengthFor, answerFor, asksLocal, mendedFor, countTold, checkAnswer, listAnswer, readAnswer, formatAnswer, putAnswer, deleteAnswer};
+ghost use Rattle.answers.specs.ExportedAnswers.{makeAnswer, removeAnswer, carefulPutAnswer, carefulDeleteAnswer, mendAnswer};
 
 // The CRC-16 register after the bytes of a slice, not inverted.
 #[no_mangle]
@@ -106,6 +107,36 @@ pub extern "C" fn owfs_delete(
     ensures { λ r. ⌜ Deletes size pages (now (image .entry)) (now (owners .entry)) (now (path .entry)) (r .number ≡ 0) (now (image .exit)) ⌝ }
 {
     answers::tell_answer(delete::delete(image, size, pages, path, owners))
+}
+
+// Makes the directory at a path, without entries. Fills the owner table.
+#[no_mangle]
+pub extern "C" fn owfs_make_directory(
+    size: u32,
+    pages: u32,
+    image: &mut [u8],
+    path: &[u8],
+    owners: &mut [u8],
+) -> OwfsAnswer
+    ensures { λ r. ⌜ (r, now (image .exit), now (owners .exit)) ≡ makeAnswer size pages (now (image .entry)) (now (owners .entry)) (now (path .entry)) ⌝ }
+    ensures { λ r. ⌜ Makes size pages (now (image .entry)) (now (owners .entry)) (now (path .entry)) (r .number ≡ 0) (λ x. r ≡ answerFor x) (now (image .exit)) ⌝ }
+{
+    answers::tell_answer(make::make(image, size, pages, path, owners))
+}
+
+// Removes the directory at a path, if it has no entries. Fills the owner table.
+#[no_mangle]
+pub extern "C" fn owfs_remove_directory(
+    size: u32,
+    pages: u32,
+    image: &mut [u8],
+    path: &[u8],
+    owners: &mut [u8],
+) -> OwfsAnswer
+    ensures { λ r. ⌜ (r, now (image .exit), now (owners .exit)) ≡ removeAnswer size pages (now (image .entry)) (now (owners .entry)) (now (path .entry)) ⌝ }
+    ensures { λ r. ⌜ Removes size pages (now (image .entry)) (now (owners .entry)) (now (path .entry)) (r .number ≡ 0) (now (image .exit)) ⌝ }
+{
+    answers::tell_answer(remove::remove(image, size, pages, path, owners))
 }
 
 // Puts bytes at a path in an order of page writes that may stop after any of them, and makes at most so many. Fills the owner table.

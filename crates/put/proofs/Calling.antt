@@ -12,7 +12,7 @@ use Rattle.rules.specs.Result.{Res, ok, err}
 use Rattle.rules.specs.ResultLaws.{then-err}
 use Rattle.rules.specs.Chain.{viewsOf}
 use Rattle.rules.specs.Check.{check}
-use Rattle.rules.specs.Put.{put}
+use Rattle.rules.specs.Put.{putAt, put}
 use Rattle.rules.specs.Calls.{putCall}
 use Rattle.rules.specs.Promises.{Puts}
 use Rattle.editing_theorems.specs.Promised.{put-stated}
@@ -22,7 +22,7 @@ use Rattle.volume.specs.Edits.{EditLeaves}
 use Rattle.volume.proofs.EditLaws.{changed-leaves}
 
 pub put-fault : (g : Geometry) (path bytes image : List ℕ) (n p : ℕ) → check g (viewsOf g image) ≡ err n p → put g path bytes image ≡ err n p
-unfolding put
+unfolding putAt
 put-fault g path bytes image n p e = simp (e, then-err)
 
 module _ (P N : ℕ) (image table path bytes : List ℕ) where

@@ -34,8 +34,8 @@ pub enum Placed {
     Refused(u8, usize),
 }
 
-// Where the entry of a file goes that its directory does not have: to the first page with space, else to a page that joins.
-fn new_entry(image: &[u8], g: Geometry, start: usize, name: u32, extension: u8) -> NewFile
+// Where an entry goes that its directory does not have, a file's or a directory's: to the first page with space, else to a page that joins.
+pub fn new_entry(image: &[u8], g: Geometry, start: usize, name: u32, extension: u8) -> NewFile
     requires { ⌜ Fit g (now image) ⌝ }
     requires { ⌜ HasTree g (viewsOf g (now image)) start ⌝ }
     ensures { λ r. ⌜ NewEntryIs g (now (image .entry)) start name extension r ⌝ }

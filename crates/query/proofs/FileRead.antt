@@ -11,13 +11,13 @@ use Rattle.rules.specs.ResultLaws.{then-ok, then-err, refuse-true, refuse-false
 use Rattle.rules.specs.Chain.{Views, content}
 use Rattle.rules.specs.Tree.{Image}
 use Rattle.rules.specs.Check.{check}
-use Rattle.rules.specs.Paths.{fileKey, Found, nothing, aFile, find, Target, targetOf}
+use Rattle.rules.specs.Paths.{pathOf, fileKey, Found, nothing, aFile, find, Target, targetOf}
 use Rattle.rules.specs.Calls.{bytesOf, fileAt, readBytes, lengthOf, filled}
 use Rattle.entries.specs.declared.Slot.{Slot}
 use Rattle.lookup.specs.declared.Reached.{Reached}
 use Rattle.lookup.specs.declared.PathLookup.{PathLookup}
 use Rattle.lookup.specs.declared.PathLookup.the-variants as lookup
-use Rattle.lookup.specs.Targets.{FileAbsent, FileAt, Looks}
+use Rattle.lookup.specs.Targets.{PathAbsent, FileAt, Looks}
 use Rattle.lookup.specs.TargetLaws.{looks-as}
 use Rattle.rules.specs.declared.Length.{Length}
 use Rattle.rules.specs.declared.Length.the-variants as length′
@@ -56,14 +56,14 @@ module _ (g : Geometry) (vs : Views) (path out : List ℕ) (r : PathLookup) (h :
 
   pub absent : (d : Reached) (name extension : ℕ) → r ≡ lookup.Absent d name extension → Gives out (readBytes path out i) (length′.Refused 15 0) out
   absent d name extension e =
-      let m : FileAbsent g vs path i d name extension = looks-as g vs path i r h accepted (lookup.Absent d name extension) e in
+      let m : PathAbsent g vs (pathOf path) i d name extension = looks-as g vs path i r h accepted (lookup.Absent d name extension) e in
       refused 15 0 (found (m .target) (m .reached) nothing (m .absent) ∙ gone)
     where
       gone : bytesOf nothing ≡ err 15 0
       gone = unfold bytesOf in refl
 
   module _ (d : Reached) (s : Slot) (stamps : ℕ) (e : Entry) (q : r ≡ lookup.At d s stamps e) where
-    pub there : FileAt g vs path i d s stamps e
+    pub there : FileAt g vs (pathOf path) i d s stamps e
     there = looks-as g vs path i r h accepted (lookup.At d s stamps e) q
 
     fits-file : readBytes path out i ≡ fitting out (content (there .links))

@@ -16,7 +16,7 @@ use Rattle.rule_examples.specs.Opened.{rules}
 use Rattle.rule_examples.specs.OwnerStamps.{LOAD}
 
 -- the name of a directory, of one letter
-abbrev nameOf : ℕ → List ℕ
+abbrev pub nameOf : ℕ → List ℕ
 nameOf x = x ∷ 32 ∷ 32 ∷ 32 ∷ []
 
 -- the bytes of a directory's first page: the name and start page of the one above it, then an entry
@@ -24,13 +24,13 @@ abbrev below : List ℕ → ℕ → List ℕ → List ℕ
 below up start entry = (0xAA ∷ up) ++ (0 ∷ start ∷ entry)
 
 -- the extension bytes of a directory that is not hidden, and of one that is; of LOAD, and of LOAD read-only
-abbrev visible : ℕ
+abbrev pub visible : ℕ
 visible = 127
 
-abbrev hidden : ℕ
+abbrev pub hidden : ℕ
 hidden = 255
 
-abbrev plain : ℕ
+abbrev pub plain : ℕ
 plain = 0
 
 abbrev readOnly : ℕ
@@ -49,7 +49,7 @@ deep a b c x =
     ∷ []) (replicate 512 0xFF)
 
 -- the directories A, B and C of a path; LOAD in C, another file there, a directory that C does not have
-abbrev above : List ℕ
+abbrev pub above : List ℕ
 above = nameOf 65 ++ (nameOf 66 ++ nameOf 67)
 
 abbrev toLOAD : List ℕ

@@ -11,11 +11,11 @@ use Rattle.rules.specs.Chain.{viewsOf}
 use Rattle.rules.specs.Tree.{Image, used}
 use Rattle.rules.specs.Bitmap.{bitmapOf}
 use Rattle.rules.specs.Check.{check}
-use Rattle.rules.specs.Paths.{Target, targetOf}
+use Rattle.rules.specs.Paths.{pathOf, Target, targetOf}
 use Rattle.rules.specs.TargetLaws.{target-is}
 use Rattle.rules.specs.Writes.{edited, editWrites}
 use Rattle.rules.specs.Delete.{deleteEdit}
-use Rattle.rules.specs.Demand2.{reach, Deleted}
+use Rattle.rules.specs.Demand2.{reach, IsFile, Deleted}
 use Rattle.reading_theorems.specs.Accepted.{accepted}
 use Rattle.rule_examples.specs.Cases.{g, DEMO, formatted, withDemo, shown}
 use Rattle.rule_examples.specs.Opened.{rules}
@@ -38,12 +38,12 @@ computed : _≡_ {A = Res ℕ × List ℕ}
 unfolding rules formatted withDemo
 computed = refl
 
-pub kept-bytes : (left : List ℕ) → Deleted g DEMO demo left → take 7 (drop 11 (pageOf g 0 left)) ≡ 0x4F ∷ 0x0C ∷ 0x01 ∷ 0x01 ∷ 0x00 ∷ 0x73 ∷ 0xA5 ∷ []
+pub kept-bytes : (left : List ℕ) → Deleted g (pathOf DEMO) IsFile demo left → take 7 (drop 11 (pageOf g 0 left)) ≡ 0x4F ∷ 0x0C ∷ 0x01 ∷ 0x01 ∷ 0x00 ∷ 0x73 ∷ 0xA5 ∷ []
 kept-bytes left d =
     let i = d .at .before in
     let x : Target = record { to = d .at .to; place = d .at .place } in
     let c = accepted g demo i (d .at .accepted) in
-    let r = target-is DEMO (i .tree) (d .at .to) (d .at .formed) (d .at .place) (d .at .there) in
+    let r = target-is (pathOf DEMO) (i .tree) (d .at .to) (d .at .formed) (d .at .place) (d .at .there) in
     let e : endOf i x (after i x) ≡ 11 = ok-inj (simp (c, r, then-ok) at (ap (λ (y : Res ℕ × List ℕ). y .0) computed)) in
     let f : endOf i x (d .tree) ≡ 11 = ap (endOf i x) (d .tree-is) ∙ e in
     ap (take 7) (subst (λ (n : ℕ). drop n (pageOf g 0 left) ≡ drop n (pageOf g 0 demo)) f (d .done .rest 0)) ∙ ap (λ (y : Res ℕ × List ℕ). y .1) computed

@@ -5,3 +5,4 @@ pub mod CarefulOrder
 pub mod OwnerRecords
 pub mod OwnerStamps
 pub mod HiddenDirectories
+pub mod MadeDirectories

@@ -21,11 +21,11 @@ unfoldable pub root : List ℕ → List ℕ
 root entries = afterWrites g (write 0 ((0xAA ∷ 0 ∷ 128 ∷ 3 ∷ 0 ∷ 0 ∷ 0 ∷ []) ++ entries) 0 ∷ write 1 (7 ∷ []) 0 ∷ []) (replicate 512 0xFF)
 
 -- a stamp whose other bytes would be a start page past the image and a wrong count
-abbrev stampBytes : List ℕ
+abbrev pub stampBytes : List ℕ
 stampBytes = 128 ∷ 1 ∷ 2 ∷ 3 ∷ 126 ∷ 200 ∷ 9 ∷ []
 
 -- the entry of DEMO.12, with one page from page 1 on
-abbrev demo : List ℕ
+abbrev pub demo : List ℕ
 demo = DEMO ++ (1 ∷ 1 ∷ [])
 
 -- the path of LOAD.0, and its entry with one page from page p on
@@ -36,16 +36,16 @@ abbrev load : ℕ → List ℕ
 load p = LOAD ++ (p ∷ 1 ∷ [])
 
 -- what an answer tells, or the refusal and its page
-abbrev told : Res (List ℕ) → List ℕ
+abbrev pub told : Res (List ℕ) → List ℕ
 told (ok x) = x
 told (err number p) = number ∷ p ∷ []
 
 -- pages in use, files and directories; or the refusal and its page
-abbrev checked : List ℕ → List ℕ
+abbrev pub checked : List ℕ → List ℕ
 checked image = told (andThen (check g (viewsOf g image)) λ i. ok (totals i .used ∷ totals i .files ∷ totals i .directories ∷ []))
 
 -- the entries of the root's page in an edit's result, so many bytes
-abbrev entriesAfter : ℕ → Res (List ℕ) → List ℕ
+abbrev pub entriesAfter : ℕ → Res (List ℕ) → List ℕ
 entriesAfter n r = told (andThen r λ image. ok (take n (drop 8 (pageOf g 0 image))))
 
 -- the name and start page at a walk position; or the refusal and its page

@@ -10,14 +10,17 @@ use Rattle.geometry.specs.declared.Shape.the-variants.{Fits, Invalid}
 use Rattle.rules.specs.Result.{Res, ok, err, andThen}
 use Rattle.rules.specs.ResultLaws.{clash, on-refused}
 use Rattle.rules.specs.Chain.{viewsOf}
-use Rattle.rules.specs.RefusalLaws.{Refuses, refuses-ok, refuses-then, refuses-test, refuses-within, target-faults, shown-faults, writable-faults, present-faults, bytes-faults}
+use Rattle.rules.specs.RefusalLaws.{Refuses, refuses-ok, refuses-then, refuses-test, refuses-within, path-faults, directory-path-faults, target-faults}
+use Rattle.rules.specs.RefusalLaws.{shown-faults, vacant-faults, directory-faults, hidden-faults, entries-faults, writable-faults, present-faults, bytes-faults}
 use Rattle.rules.specs.FuelLaws.{check-faults}
 use Rattle.rules.specs.Tree.{Items, Image}
 use Rattle.rules.specs.Check.{check}
 use Rattle.rules.specs.Owners.{tableAfter}
 use Rattle.rules.specs.Format.{format}
-use Rattle.rules.specs.Put.{putTarget, putEdit, put}
-use Rattle.rules.specs.Delete.{deleteTarget, delete}
+use Rattle.rules.specs.Paths.{pathOf, directoryPathOf, Place, Target}
+use Rattle.rules.specs.Put.{putTarget, putEdit, putAt, put}
+use Rattle.rules.specs.Delete.{deleteTarget, removeAt, delete}
+use Rattle.rules.specs.Directories.{makeTarget, newDirectory, makeDirectory, makeCall, removalTarget, removeDirectory, removeCall}
 use Rattle.rules.specs.Calls.{inGeometry, fileAt, readBytes, lengthOf, filled, shape, asked, Effect, plainly, effect, changed, checkCall, listCall, readCall, formatCall, putCall, deleteCall}
 
 filled-refused : (out : List ℕ) (r : Res (List ℕ)) (n p : ℕ) → lengthOf r ≡ err n p → filled out r ≡ out
@@ -36,7 +39,7 @@ module _ (P N : ℕ) (image table : List ℕ) where
   effective-refused Invalid call n p e = refl
   effective-refused (Fits g) call n p e = effect-refused g (call g) n p e
 
-  changed-refused : (edit : Geometry → Res (List ℕ)) (n p : ℕ) → changed P N image table edit .0 ≡ err n p → changed P N image table edit .1 ≡ image
+  pub changed-refused : (edit : Geometry → Res (List ℕ)) (n p : ℕ) → changed P N image table edit .0 ≡ err n p → changed P N image table edit .1 ≡ image
   changed-refused edit n p e = effective-refused (shape P N image table) (λ g. plainly (edit g)) n p e
 
   pub format-refused : (local : Bool) (n p : ℕ) → formatCall P N image table local .0 ≡ err n p → formatCall P N image table local .1 ≡ image
@@ -89,17 +92,25 @@ module _ (P N : ℕ) (image table : List ℕ) where
     unfolding deleteCall
     delete-invalid path = rw wrong refl
 
+    pub make-invalid : (path : List ℕ) → makeCall P N image table path ≡ (err 1 0, image, table)
+    unfolding makeCall
+    make-invalid path = rw wrong refl
+
+    pub remove-invalid : (path : List ℕ) → removeCall P N image table path ≡ (err 1 0, image, table)
+    unfolding removeCall
+    remove-invalid path = rw wrong refl
+
 -- ---- the numbers and pages of the calls' refusals
 pub read-faults : (path out : List ℕ) (i : Image) → Refuses 14 18 1 (readBytes path out i)
 unfolding readBytes fileAt
 read-faults path out i =
-    refuses-then _ _ (refuses-then _ _ (refuses-within 14 18 1 (omega arith) (omega arith) (omega arith) (target-faults path (i .tree))) λ x _.
+    refuses-then _ _ (refuses-then _ _ (refuses-within 14 18 1 (omega arith) (omega arith) (omega arith) (target-faults (pathOf path) (i .tree) (path-faults path))) λ x _.
     refuses-within 14 18 1 (omega arith) (omega arith) (omega arith) (bytes-faults _)) λ bytes _. refuses-test _ 18 _ _ tt (omega arith) refuses-ok
 
 pub put-target-faults : (path : List ℕ) (t : Items) → Refuses 14 22 1 (putTarget path t)
 unfolding putTarget
 put-target-faults path t =
-    refuses-then _ _ (refuses-within 14 22 1 (omega arith) (omega arith) (omega arith) (target-faults path t)) λ x _.
+    refuses-then _ _ (refuses-within 14 22 1 (omega arith) (omega arith) (omega arith) (target-faults (pathOf path) t (path-faults path))) λ x _.
     refuses-then _ _ (refuses-within 14 22 1 (omega arith) (omega arith) (omega arith) (shown-faults _)) λ _ _.
     refuses-then _ _ (refuses-within 14 22 1 (omega arith) (omega arith) (omega arith) (writable-faults _)) λ _ _. refuses-ok
 
@@ -107,30 +118,68 @@ put-target-faults path t =
 pub put-target-room : {C : Type 0} (path : List ℕ) (t : Items) (p : ℕ) → putTarget path t ≡ err 17 p → C
 unfolding putTarget
 put-target-room path t p e =
-    on-refused _ _ _ _ e (λ f. absurd (omega (arith, target-faults path t .number 17 p f .1))) λ x _ e.
+    on-refused _ _ _ _ e (λ f. absurd (omega (arith, target-faults (pathOf path) t (path-faults path) .number 17 p f .1))) λ x _ e.
     on-refused _ _ _ _ e (λ f. absurd (omega (arith, shown-faults (x .place) .number 17 p f .0))) λ _ _ e.
     on-refused _ _ _ _ e (λ f. absurd (omega (arith, writable-faults _ .number 17 p f .1))) λ _ _ e. clash (sym e)
 
 pub delete-target-faults : (path : List ℕ) (t : Items) → Refuses 14 22 1 (deleteTarget path t)
 unfolding deleteTarget
 delete-target-faults path t =
-    refuses-then _ _ (refuses-within 14 22 1 (omega arith) (omega arith) (omega arith) (target-faults path t)) λ x _.
+    refuses-then _ _ (refuses-within 14 22 1 (omega arith) (omega arith) (omega arith) (target-faults (pathOf path) t (path-faults path))) λ x _.
     refuses-then _ _ (refuses-within 14 22 1 (omega arith) (omega arith) (omega arith) (present-faults _)) λ _ _.
     refuses-then _ _ (refuses-within 14 22 1 (omega arith) (omega arith) (omega arith) (shown-faults _)) λ _ _.
     refuses-then _ _ (refuses-within 14 22 1 (omega arith) (omega arith) (omega arith) (writable-faults _)) λ _ _. refuses-ok
 
-module _ (g : Geometry) (some : 0 < g .pages) (path image : List ℕ) where
-  pub put-faults : (bytes : List ℕ) → Refuses 2 22 (g .pages + 33) (put g path bytes image)
-  unfolding put putEdit
-  put-faults bytes =
+-- a making and a removal
+pub make-target-faults : (path : List ℕ) (t : Items) → Refuses 14 22 1 (makeTarget path t)
+unfolding makeTarget
+make-target-faults path t =
+    refuses-then _ _ (refuses-within 14 22 1 (omega arith) (omega arith) (omega arith) (target-faults (directoryPathOf path) t (directory-path-faults path))) λ x _.
+    refuses-then _ _ (refuses-within 14 22 1 (omega arith) (omega arith) (omega arith) (shown-faults _)) λ _ _.
+    refuses-then _ _ (refuses-within 14 22 1 (omega arith) (omega arith) (omega arith) (vacant-faults _)) λ _ _. refuses-ok
+
+pub make-target-room : {C : Type 0} (path : List ℕ) (t : Items) (p : ℕ) → makeTarget path t ≡ err 17 p → C
+unfolding makeTarget
+make-target-room path t p e =
+    on-refused _ _ _ _ e (λ f. absurd (omega (arith, target-faults (directoryPathOf path) t (directory-path-faults path) .number 17 p f .1))) λ x _ e.
+    on-refused _ _ _ _ e (λ f. absurd (omega (arith, shown-faults (x .place) .number 17 p f .0))) λ _ _ e.
+    on-refused _ _ _ _ e (λ f. absurd (omega (arith, vacant-faults _ .number 17 p f .0))) λ _ _ e. clash (sym e)
+
+pub removal-target-faults : (path : List ℕ) (t : Items) → Refuses 14 22 1 (removalTarget path t)
+unfolding removalTarget
+removal-target-faults path t =
+    refuses-then _ _ (refuses-within 14 22 1 (omega arith) (omega arith) (omega arith) (target-faults (directoryPathOf path) t (directory-path-faults path))) λ x _.
+    refuses-then _ _ (refuses-within 14 22 1 (omega arith) (omega arith) (omega arith) (directory-faults _)) λ _ _.
+    refuses-then _ _ (refuses-within 14 22 1 (omega arith) (omega arith) (omega arith) (shown-faults _)) λ _ _.
+    refuses-then _ _ (refuses-within 14 22 1 (omega arith) (omega arith) (omega arith) (hidden-faults _)) λ _ _.
+    refuses-then _ _ (refuses-within 14 22 1 (omega arith) (omega arith) (omega arith) (entries-faults _)) λ _ _. refuses-ok
+
+-- a call that puts something refuses as its target does, or for room; one that removes something as its target does
+module _ (g : Geometry) (some : 0 < g .pages) (image : List ℕ) (target : Items → Res Target) (h : (t : Items) → Refuses 14 22 1 (target t)) where
+  pub put-at-faults : (bytes : Place → List ℕ) → Refuses 2 22 (g .pages + 33) (putAt g target bytes image)
+  unfolding putAt putEdit
+  put-at-faults bytes =
       let m = g .pages + 33 in
       refuses-then _ _ (refuses-within 2 22 m (omega arith) (omega arith) (omega arith) (check-faults g (viewsOf g image) some)) λ i _.
-      refuses-then _ _ (refuses-within 2 22 m (omega arith) (omega arith) (omega arith) (put-target-faults path (i .tree))) λ x _.
+      refuses-then _ _ (refuses-within 2 22 m (omega arith) (omega arith) (omega arith) (h (i .tree))) λ x _.
       refuses-then _ _ (refuses-test _ 17 _ _ tt (omega arith) refuses-ok) λ e _. refuses-ok
 
-  pub delete-faults : Refuses 2 22 (g .pages + 33) (delete g path image)
-  unfolding delete
-  delete-faults =
+  pub remove-at-faults : Refuses 2 22 (g .pages + 33) (removeAt g target image)
+  unfolding removeAt
+  remove-at-faults =
       let m = g .pages + 33 in
       refuses-then _ _ (refuses-within 2 22 m (omega arith) (omega arith) (omega arith) (check-faults g (viewsOf g image) some)) λ i _.
-      refuses-then _ _ (refuses-within 2 22 m (omega arith) (omega arith) (omega arith) (delete-target-faults path (i .tree))) λ x _. refuses-ok
+      refuses-then _ _ (refuses-within 2 22 m (omega arith) (omega arith) (omega arith) (h (i .tree))) λ x _. refuses-ok
+
+module _ (g : Geometry) (some : 0 < g .pages) (path image : List ℕ) where
+  pub put-faults : (bytes : List ℕ) → Refuses 2 22 (g .pages + 33) (put g path bytes image)
+  put-faults bytes = put-at-faults g some image (putTarget path) (put-target-faults path) (λ _. bytes)
+
+  pub delete-faults : Refuses 2 22 (g .pages + 33) (delete g path image)
+  delete-faults = remove-at-faults g some image (deleteTarget path) (delete-target-faults path)
+
+  pub make-faults : Refuses 2 22 (g .pages + 33) (makeDirectory g path image)
+  make-faults = put-at-faults g some image (makeTarget path) (make-target-faults path) (newDirectory g)
+
+  pub remove-faults : Refuses 2 22 (g .pages + 33) (removeDirectory g path image)
+  remove-faults = remove-at-faults g some image (removalTarget path) (removal-target-faults path)

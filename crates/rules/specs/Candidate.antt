@@ -14,7 +14,7 @@ use Rattle.rules.specs.Result.{Res, ok}
 use Rattle.rules.specs.PageSets.{count}
 use Rattle.rules.specs.Chain.{viewsOf, Link, pages, content}
 use Rattle.rules.specs.Names.{attribute}
-use Rattle.rules.specs.Tree.{Label, entry, stampTokens, tokenBytes, fileEntry, directoryEntry, ownPages, Map, inRoot, inFile, Image, used}
+use Rattle.rules.specs.Tree.{Label, entry, stampTokens, tokenBytes, fileEntry, directoryEntry, ownPages, keys, Map, inRoot, inFile, Image, used}
 use Rattle.rules.specs.Check.{check}
 use Rattle.rules.specs.Paths.{Path, fileKey, directoryKey, Found, nothing, aFile, aDirectory, find, Place, rootPlace, directoryAt}
 
@@ -39,6 +39,10 @@ pub record OnlyRoom (P N : ℕ) (image table : List ℕ) (asked : Res Path) (All
 -- for a put: the file absent or not read-only
 abbrev pub NotReadOnly : Found → Type 0
 NotReadOnly f = (l : Label) (ls : List Link) → f ≡ aFile l ls → attribute (l .extension) ≡ 0
+
+-- for a making: nothing of that name
+abbrev pub Absent : Found → Type 0
+Absent f = f ≡ nothing
 
 -- files and directories of two images are matched by path: the keys that lead to them; no key leads to the root
 abbrev pub lookUp : List ℕ → Found → Found
@@ -120,6 +124,12 @@ abbrev pub PutFile : List ℕ → Found → Type 0
 PutFile bytes nothing = ⊥
 PutFile bytes (aFile l ls) = content ls ≡ bytes
 PutFile bytes (aDirectory l d) = ⊥
+
+-- the made directory has no entries
+abbrev pub EmptyDirectory : Found → Type 0
+EmptyDirectory nothing = ⊥
+EmptyDirectory (aFile l ls) = ⊥
+EmptyDirectory (aDirectory l d) = keys d ≡ []
 
 -- a candidate for an old image, where `Asked` is what must stand at `path` and `target` leads to the target: a new image of the same P and N
 pub record Candidate (g : Geometry) (old target path : List ℕ) (Asked : Found → Type 0) (new : List ℕ) : Type 0 where

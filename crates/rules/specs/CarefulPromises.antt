@@ -22,7 +22,8 @@ use Rattle.rules.specs.Writes.{Edit, edited}
 use Rattle.rules.specs.Put.{putEdit}
 use Rattle.rules.specs.Delete.{deleteEdit}
 use Rattle.rules.specs.Candidate.{atPath}
-use Rattle.rules.specs.Demand2.{reach, EditDone, PathIn, DeleteShows, PutShows}
+use Rattle.rules.specs.Paths.{pathOf, aFile}
+use Rattle.rules.specs.Demand2.{reach, EditDone, PathIn, IsFile, DeleteShows, PutShows}
 use Rattle.rules.specs.Calls.{Effect}
 use Rattle.rules.specs.Careful.{haltedAt, carefulWrites, mendWrites, mend, noWrites}
 
@@ -110,21 +111,21 @@ pub record StoppedAt (g : Geometry) (image : List ℕ) (before after : Image) (t
 
 -- a careful delete that is done: stopped at any write, and what paths show once the change is visible
 pub record CarefullyDeleted (g : Geometry) (k : ℕ) (path image : List ℕ) (told : WriteCount) (now : List ℕ) : Type 0 where
-  pub at : PathIn g path image
+  pub at : PathIn g (pathOf path) image
   pub tree : Image
   pub tree-is : tree ≡ edited g (at .to .directories) (deleteEdit (at .to) (at .place)) (at .before)
   pub stops : StoppedAt g image (at .before) tree (ownPages (at .place .items)) (carefulWrites g (at .to .directories) (deleteEdit (at .to) (at .place)) (at .before)) k told now
-  pub shows : DeleteShows at tree
+  pub shows : DeleteShows at IsFile tree
 
 -- a careful put that is done: the same; and it uses no page that was in use, so none of the replaced chain
 pub record CarefullyPut (g : Geometry) (k : ℕ) (path bytes image : List ℕ) (told : WriteCount) (now : List ℕ) : Type 0 where
-  pub at : PathIn g path image
+  pub at : PathIn g (pathOf path) image
   pub edit : Edit
   pub planned : putEdit g (freePages (used (at .before)) (g .pages)) (at .to) bytes (at .place) ≡ ok edit
   pub tree : Image
   pub tree-is : tree ≡ edited g (at .to .directories) edit (at .before)
   pub stops : StoppedAt g image (at .before) tree (ownPages (at .place .items)) (carefulWrites g (at .to .directories) edit (at .before)) k told now
-  pub shows : PutShows at bytes edit tree
+  pub shows : PutShows at aFile bytes edit tree
   pub fresh : (x : ℕ) → 1 ≤ count x (used (at .before)) → count x (pages (shows .links)) ≡ 0
 
 -- ---- the calls. `isDone` says that the answer is done, `told` is what it tells of its writes

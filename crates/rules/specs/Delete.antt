@@ -34,16 +34,20 @@ deleteTarget path t = do
   writable (find (fileKey (x .to)) (x .place .items))
   ok x
 
--- the edit that removes what stands under a key; a delete removes the path's file
+-- the edit that removes what stands under a key; a delete removes what the path names
 abbrev pub removeEdit : ℕ → Place → Edit
 removeEdit k place = record { site = place .site; before = place .items; after = remove k (place .items); chain = [] }
 
 unfoldable pub deleteEdit : Path → Place → Edit
 deleteEdit q place = removeEdit (fileKey q) place
 
--- the image after a delete
-unfoldable pub delete : Geometry → List ℕ → List ℕ → Res (List ℕ)
-delete g path image = do
+-- the image after a call that removes what its target has at the path
+unfoldable pub removeAt : Geometry → (Items → Res Target) → List ℕ → Res (List ℕ)
+removeAt g target image = do
   i ← check g (viewsOf g image)
-  x ← deleteTarget path (i .tree)
+  x ← target (i .tree)
   ok (plainEdit g (x .to .directories) (deleteEdit (x .to) (x .place)) i image)
+
+-- the image after a delete
+abbrev pub delete : Geometry → List ℕ → List ℕ → Res (List ℕ)
+delete g path image = removeAt g (deleteTarget path) image

@@ -14,11 +14,11 @@ use Rattle.geometry.specs.Page.{pageOf}
 use Rattle.packet.specs.Packet.{Write, write, made}
 use Rattle.rules.specs.Result.{Res, ok}
 use Rattle.rules.specs.PageSets.{count, freePages}
-use Rattle.rules.specs.Chain.{Link, pages, content, pagesFor}
+use Rattle.rules.specs.Chain.{Link, first, content, pagesFor}
 use Rattle.rules.specs.Tree.{Label, end, page, mapPages, Image, used}
 use Rattle.rules.specs.Bitmap.{bitmapOf}
 use Rattle.rules.specs.WellFormed.{WellFormed}
-use Rattle.rules.specs.Paths.{Path, pathOf, fileLabel, Found, nothing, aFile, aDirectory, Place, rootPlace, directoryAt}
+use Rattle.rules.specs.Paths.{Path, fileLabel, Found, nothing, aFile, aDirectory, Place, rootPlace, directoryAt}
 use Rattle.rules.specs.Writes.{Edit, edited, editWrites}
 use Rattle.rules.specs.Format.{emptyImage, formatWrites}
 use Rattle.rules.specs.Put.{keptPages, extraPages, putEdit}
@@ -67,42 +67,51 @@ pub record Formatted (g : Geometry) (local : Bool) (image after : List ℕ) : Ty
   -- past the packets that change, every byte of a page stays
   pub rest : (p : ℕ) → drop (reach g p (made g (formatWrites g (emptyImage g local)) image)) (pageOf g p after) ≡ drop (reach g p (made g (formatWrites g (emptyImage g local)) image)) (pageOf g p image)
 
--- the image was well formed, and the path's directory was there
-pub record PathIn (g : Geometry) (path image : List ℕ) : Type 0 where
+-- the image was well formed, and the directory of the path asked for was there
+pub record PathIn (g : Geometry) (asked : Res Path) (image : List ℕ) : Type 0 where
   pub before : Image
   pub accepted : WellFormed g image before
   pub to : Path
-  pub formed : pathOf path ≡ ok to
+  pub formed : asked ≡ ok to
   pub place : Place
   pub there : directoryAt (to .directories) (rootPlace (before .tree)) ≡ ok place
 
--- what paths show in the tree after a delete
-pub record DeleteShows {g : Geometry} {path image : List ℕ} (at : PathIn g path image) (tree : Image) : Type 0 where
-  -- the path's file was there and is gone
-  pub label : Label
-  pub links : List Link
-  pub was : atPath (filePath (at .to)) (at .before) ≡ aFile label links
+-- a file
+abbrev pub IsFile : Found → Type 0
+IsFile nothing = ⊥
+IsFile (aFile l ls) = Unit {0}
+IsFile (aDirectory l d) = ⊥
+
+-- what paths show in the tree after a removal of what stood at the path: for a delete a file, for a removal an empty directory
+pub record DeleteShows {g : Geometry} {asked : Res Path} {image : List ℕ} (at : PathIn g asked image) (Stood : Found → Type 0) (tree : Image) : Type 0 where
+  -- it was there and is gone
+  pub was : Stood (atPath (filePath (at .to)) (at .before))
   pub gone : atPath (filePath (at .to)) tree ≡ nothing
   -- every other path shows what it showed: entry with its stamps, pages, bytes
   pub others : (ks : List ℕ) → (ks ≡ filePath (at .to) → ⊥) → shown g (atPath ks tree) ≡ shown g (atPath ks (at .before))
   -- the pages of its chain are free
-  pub total : (x : ℕ) → count x (used tree) + count x (pages links) ≡ count x (used (at .before))
+  pub total : (x : ℕ) → count x (used tree) + count x (chainPages (atPath (filePath (at .to)) (at .before))) ≡ count x (used (at .before))
 
--- a delete: an accepted image without the path's file, all else as before
-pub record Deleted (g : Geometry) (path image after : List ℕ) : Type 0 where
-  pub at : PathIn g path image
+-- a delete, or a removal: an accepted image without what stood at the path, all else as before
+pub record Deleted (g : Geometry) (asked : Res Path) (Stood : Found → Type 0) (image after : List ℕ) : Type 0 where
+  pub at : PathIn g asked image
   -- accepted, with the old tree but for that entry; bytes outside the packets written stay
   pub tree : Image
   pub tree-is : tree ≡ edited g (at .to .directories) (deleteEdit (at .to) (at .place)) (at .before)
   pub done : EditDone g image (at .before) tree (editWrites g (bitmapOf g (used (at .before)) (at .before .map)) (deleteEdit (at .to) (at .place)) (at .before) tree) after
-  pub shows : DeleteShows at tree
+  pub shows : DeleteShows at Stood tree
 
--- what paths show in the tree after a put of bytes by an edit
-pub record PutShows {g : Geometry} {path image : List ℕ} (at : PathIn g path image) (bytes : List ℕ) (edit : Edit) (tree : Image) : Type 0 where
-  -- the path's file has the path's name and extension byte (0 to 99, so top bit clear), the stamps of the file that it replaces or none, and reads the bytes
+-- a directory without entries, whose one page is the chain's
+abbrev pub emptyDirectory : Label → List Link → Found
+emptyDirectory l ls = aDirectory l (page (first ls) end)
+
+-- what paths show in the tree after a put of bytes by an edit: what `stands` makes of the new entry and its chain, `aFile` for a put, `emptyDirectory` for a making
+pub record PutShows {g : Geometry} {asked : Res Path} {image : List ℕ} (at : PathIn g asked image) (stands : Label → List Link → Found) (bytes : List ℕ) (edit : Edit) (tree : Image) : Type 0 where
+  -- it has the path's name and extension byte (0 to 99 of a file, 127 of a directory, so top bit clear), the stamps of the file that it replaces or none, and its chain holds the bytes;
+  -- that a new directory's page holds its control field is also part of the image being well formed
   pub label : Label
   pub links : List Link
-  pub file : atPath (filePath (at .to)) tree ≡ aFile label links
+  pub standing : atPath (filePath (at .to)) tree ≡ stands label links
   pub name-is : label .name ≡ at .to .name
   pub extension-is : label .extension ≡ at .to .extension
   pub stamps-are : label .stamps ≡ stampsOf (atPath (filePath (at .to)) (at .before))
@@ -115,18 +124,18 @@ pub record PutShows {g : Geometry} {path image : List ℕ} (at : PathIn g path i
   pub target-entry : foundEntry g (atPath (targetPath (at .to)) tree) ≡ foundEntry g (atPath (targetPath (at .to)) (at .before))
   pub joined : List ℕ
   pub target-pages : (x : ℕ) → count x (chainPages (atPath (targetPath (at .to)) tree)) ≡ count x (chainPages (atPath (targetPath (at .to)) (at .before))) + count x joined
-  -- a page joins it exactly if the file is new and no page has space
+  -- a page joins it exactly if the entry is new and no page has space
   pub joins : length joined ≡ extraPages g (fileLabel (at .to)) (at .place .items)
   -- the pages in use
   pub total : length (used tree) + length (chainPages (atPath (filePath (at .to)) (at .before))) ≡ length (used (at .before)) + length joined + pagesFor (dataCapacity g) (length bytes)
 
--- a put: an accepted image that reads the bytes at the path, all else as before
-pub record PutDone (g : Geometry) (path bytes image after : List ℕ) : Type 0 where
-  pub at : PathIn g path image
+-- a put, or a making: an accepted image in which what is put stands at the path, all else as before
+pub record PutDone (g : Geometry) (asked : Res Path) (stands : Label → List Link → Found) (bytes : Place → List ℕ) (image after : List ℕ) : Type 0 where
+  pub at : PathIn g asked image
   pub edit : Edit
-  pub planned : putEdit g (freePages (keptPages (at .to) (at .before)) (g .pages)) (at .to) bytes (at .place) ≡ ok edit
+  pub planned : putEdit g (freePages (keptPages (at .to) (at .before)) (g .pages)) (at .to) (bytes (at .place)) (at .place) ≡ ok edit
   -- accepted, with the edited tree; bytes outside the packets written stay
   pub tree : Image
   pub tree-is : tree ≡ edited g (at .to .directories) edit (at .before)
   pub done : EditDone g image (at .before) tree (editWrites g (bitmapOf g (used (at .before)) (at .before .map)) edit (at .before) tree) after
-  pub shows : PutShows at bytes edit tree
+  pub shows : PutShows at stands (bytes (at .place)) edit tree

@@ -13,10 +13,12 @@ use Rattle.geometry.specs.Choose.{choose}
 use Rattle.geometry.specs.ChooseLaws.{choose-true, choose-false, on-choose}
 use Rattle.rules.specs.PageSets.{bit, hit, count}
 use Rattle.rules.specs.PageSetLaws.{hit-same, same, other, hits, count-append}
-use Rattle.rules.specs.Chain.{Link, pages}
-use Rattle.rules.specs.Tree.{Label, keyOf, width, Items, end, page, file, dir, ownPages, innerPages, allPages, keys}
+use Rattle.rules.specs.declared.Entry.{Entry}
+use Rattle.rules.specs.Chain.{Link, first, pages}
+use Rattle.rules.specs.Tree.{Label, keyOf, width, Items, end, page, file, dir, entry, stampTokens, tokens, ownPages, innerPages, allPages, keys}
 use Rattle.rules.specs.Paths.{Found, nothing, aFile, aDirectory, find}
-use Rattle.rules.specs.Put.{insert, isFull, replace}
+use Rattle.rules.specs.Names.{directoryNumber}
+use Rattle.rules.specs.Put.{insert, isFull, newItem, replace}
 use Rattle.rules.specs.Delete.{remove}
 
 -- ---- an entry's slots
@@ -276,3 +278,15 @@ find-beside-removed j k n (dir l d t) = elim (hits k (keyOf l)) [
   | same e i ↦ simp (eq-eqb k (keyOf l) e, choose-true, ne-eqb j (keyOf l) (λ f. n (f ∙ sym e)), choose-false)
   | other e i ↦ simp (ne-eqb k (keyOf l) e, choose-false) (ap (choose (eqb j (keyOf l)) (aDirectory l d)) (find-beside-removed j k n t))
 ]
+
+-- ---- a new entry as it is written: a directory's page count is 0
+abbrev pub newEntry : Label → List Link → Entry
+newEntry l ls = record { name = l .name; extension = l .extension; start = first ls; pages = choose (directoryNumber (l .extension)) 0 (length ls) }
+
+pub new-tokens : (l : Label) (ls : List Link) (t : Items) → tokens (newItem l ls t) ≡ stampTokens (l .stamps) (entry (newEntry l ls) ∷ tokens t)
+new-tokens l ls t = go (directoryNumber (l .extension))
+  where
+    go : (b : Bool) → tokens (choose b (dir l (page (first ls) end) t) (file l ls t))
+        ≡ stampTokens (l .stamps) (entry (record { name = l .name; extension = l .extension; start = first ls; pages = choose b 0 (length ls) }) ∷ tokens t)
+    go true = simp choose-true
+    go false = simp choose-false

@@ -15,6 +15,7 @@ pub mod Format
 pub mod Put
 pub mod Delete
 pub mod Calls
+pub mod Directories
 pub mod ListText
 pub mod WellFormed
 pub mod Candidate

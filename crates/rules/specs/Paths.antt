@@ -39,14 +39,21 @@ pathOf b = do
   refuse-unless (leb (getD b (length b - 1) 0) 99) 14 0
   ok (record { directories = namesIn (length b / 4 - 1) b; name = number (take 4 (drop (length b - 5) b)); extension = getD b (length b - 1) 0 })
 
--- the keys of a directory's name and of the path's file
+-- document 02, A1: a directory's path is one to eight four-byte names, the last its own; any other is 14. As a path it has the extension number of a subdirectory
+unfoldable pub directoryPathOf : List ℕ → Res Path
+directoryPathOf b = do
+  refuse-unless (eqb (length b % 4) 0 && (leb 4 (length b) && leb (length b) 32)) 14 0
+  refuse-unless (validNames (namesIn (length b / 4) b)) 14 0
+  ok (record { directories = namesIn (length b / 4 - 1) b; name = number (take 4 (drop (length b - 4) b)); extension = 127 })
+
+-- the keys of a directory's name and of what a path names: its file, or its own directory
 abbrev pub directoryKey : ℕ → ℕ
 directoryKey name = key name 127
 
 abbrev pub fileKey : Path → ℕ
 fileKey q = key (q .name) (q .extension)
 
--- its name and extension, top bit clear; a new file has no stamps
+-- its name and extension, top bit clear; what is new has no stamps
 abbrev pub fileLabel : Path → Label
 fileLabel q = record { name = q .name; extension = q .extension; stamps = [] }
 
@@ -97,17 +104,21 @@ unfoldable pub directoryAt : List ℕ → Place → Res Place
 directoryAt [] p = ok p
 directoryAt (x ∷ xs) p = inDirectory (find (directoryKey x) (p .items)) (λ l d. directoryAt xs (stepDown p x l d))
 
--- a path in a tree: its file's path, and where its target stands (a term of document 01): the directory that its directory names lead to, the root if there are none
+-- a path in a tree: the path, and where its target stands (a term of document 01): the directory that its directory names lead to, the root if there are none
 pub record Target : Type 0 where
   pub to : Path
   pub place : Place
 
 -- first the path (14), then its directories (15)
-unfoldable pub targetOf : List ℕ → Items → Res Target
-targetOf path t = do
-  q ← pathOf path
+unfoldable pub targetAt : Res Path → Items → Res Target
+targetAt asked t = do
+  q ← asked
   d ← directoryAt (q .directories) (rootPlace t)
   ok (record { to = q; place = d })
+
+-- for a file's path
+abbrev pub targetOf : List ℕ → Items → Res Target
+targetOf path t = targetAt (pathOf path) t
 
 -- document 02, A6: an edit of a directory that is hidden, or that stands below a hidden one, is 22
 unfoldable pub shown : Place → Res (Unit {0})

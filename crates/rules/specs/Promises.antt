@@ -1,4 +1,4 @@
--- What the six calls state of their answers: demands 2 and 3. `isDone` says that the answer is done, `told x` that it tells x.
+-- What the calls state of their answers: demands 2 and 3. `isDone` says that the answer is done, `told x` that it tells x.
 use mathlib.Core.Path.{_≡_}
 use mathlib.Core.Bool.{Bool}
 use mathlib.Core.Logic.{_↔_, _⊎_}
@@ -10,9 +10,10 @@ use Rattle.geometry.specs.declared.Shape.the-variants.{Fits}
 use Rattle.geometry.specs.Geometry.{geometryOf}
 use Rattle.rules.specs.Result.{Res, err}
 use Rattle.rules.specs.Tree.{Image}
-use Rattle.rules.specs.Paths.{pathOf}
-use Rattle.rules.specs.Candidate.{NotReadOnly, PutFile, Demand3}
-use Rattle.rules.specs.Demand2.{WellFormedAt, Formatted, Deleted, PutDone}
+use Rattle.rules.specs.Paths.{pathOf, directoryPathOf, aFile}
+use Rattle.rules.specs.Candidate.{NotReadOnly, Absent, PutFile, EmptyDirectory, Demand3}
+use Rattle.rules.specs.Directories.{newDirectory}
+use Rattle.rules.specs.Demand2.{WellFormedAt, Formatted, IsFile, Deleted, emptyDirectory, PutDone}
 
 module _ (P N : ℕ) (image table : List ℕ) where
   -- check: done exactly when the image is well formed
@@ -34,8 +35,18 @@ module _ (P N : ℕ) (image table : List ℕ) where
   Formats local isDone told after = Leaves (λ g. Formatted g local image after) isDone after × ((isDone → ⊥) → told (err 1 0) ⊎ told (err 4 0))
 
   abbrev pub Deletes : List ℕ → Type 0 → List ℕ → Type 0
-  Deletes path isDone after = Leaves (λ g. Deleted g path image after) isDone after
+  Deletes path isDone after = Leaves (λ g. Deleted g (pathOf path) IsFile image after) isDone after
 
   -- put: demand 3 too
   abbrev pub Puts : List ℕ → List ℕ → Type 0 → (Res (Unit {0}) → Type 0) → List ℕ → Type 0
-  Puts path bytes isDone told after = Leaves (λ g. PutDone g path bytes image after) isDone after × Demand3 P N image table (pathOf path) NotReadOnly (PutFile bytes) isDone (told (err 17 0)) after
+  Puts path bytes isDone told after = Leaves (λ g. PutDone g (pathOf path) aFile (λ _. bytes) image after) isDone after
+      × Demand3 P N image table (pathOf path) NotReadOnly (PutFile bytes) isDone (told (err 17 0)) after
+
+  -- document 02, A1: a making, with demand 3 whole
+  abbrev pub Makes : List ℕ → Type 0 → (Res (Unit {0}) → Type 0) → List ℕ → Type 0
+  Makes path isDone told after = Leaves (λ g. PutDone g (directoryPathOf path) emptyDirectory (newDirectory g) image after) isDone after
+      × Demand3 P N image table (directoryPathOf path) Absent EmptyDirectory isDone (told (err 17 0)) after
+
+  -- and a removal
+  abbrev pub Removes : List ℕ → Type 0 → List ℕ → Type 0
+  Removes path isDone after = Leaves (λ g. Deleted g (directoryPathOf path) EmptyDirectory image after) isDone after

@@ -10,9 +10,9 @@ use Rattle.geometry.specs.Geometry.{dataCapacity, firstEntries, laterEntries}
 use Rattle.packet.specs.Packet.{afterWrites}
 use Rattle.rules.specs.Result.{Res, ok, andThen as _>>=_, andAfter as _>>_, refuse-unless}
 use Rattle.rules.specs.PageSets.{bit, mem, freePages}
-use Rattle.rules.specs.Chain.{viewsOf, Link, chainOf, pagesFor}
+use Rattle.rules.specs.Chain.{viewsOf, Link, first, chainOf, pagesFor}
 use Rattle.rules.specs.Tree.{Label, keyOf, width, Items, end, page, file, dir, allPages, keys, mapPages, Image, used}
-use Rattle.rules.specs.Names.{attribute}
+use Rattle.rules.specs.Names.{attribute, directoryNumber}
 use Rattle.rules.specs.Bitmap.{bitmapOf}
 use Rattle.rules.specs.Check.{check}
 use Rattle.rules.specs.Paths.{Path, fileKey, fileLabel, Found, nothing, aFile, aDirectory, find, Place, Target, targetOf, shown, changeAt}
@@ -36,6 +36,10 @@ isFull later next zero (page p t) = isFull later later next t
 isFull later next (suc r) (page p t) = false
 isFull later next r (file l ls t) = isFull later next (r - width l) t
 isFull later next r (dir l d t) = isFull later next (r - width l) t
+
+-- a new entry in front of those after it: a file's with its chain, or for the extension number of a subdirectory that of a directory without entries, whose one page is the chain's
+abbrev pub newItem : Label → List Link → Items → Items
+newItem l ls t = choose (directoryNumber (l .extension)) (dir l (page (first ls) end) t) (file l ls t)
 
 -- a replaced file: its entry stays in place with its stamps
 abbrev pub replace : ℕ → List Link → Items → Items
@@ -62,15 +66,15 @@ putTarget path t = do
 unfoldable pub keptPages : Path → Image → List ℕ
 keptPages q i = allPages (changeAt (q .directories) (replace (fileKey q) []) (i .tree)) ++ mapPages (i .map)
 
--- how many pages join the directory: one if the file is new and no page has space
+-- how many pages join the directory: one if the entry is new and no page has space
 unfoldable pub extraPages : Geometry → Label → Items → ℕ
 extraPages g l d = choose (mem (keyOf l) (keys d)) 0 (bit (isFull (laterEntries g) (firstEntries g) 0 d))
 
--- the directory with the file: in the place of the one it replaces, or as a new entry, q the page that may join
+-- the directory with what is put: a file in the place of the one it replaces, or a new entry, q the page that may join
 unfoldable pub itemsAfter : Geometry → Label → ℕ → List Link → Items → Items
-itemsAfter g l q chain d = choose (mem (keyOf l) (keys d)) (replace (keyOf l) chain d) (insert (file l chain) (laterEntries g) q (firstEntries g) 0 d)
+itemsAfter g l q chain d = choose (mem (keyOf l) (keys d)) (replace (keyOf l) chain d) (insert (newItem l chain) (laterEntries g) q (firstEntries g) 0 d)
 
--- the edit of a put over the free pages, rising; 17 if they are too few. If the directory needs a page, the lowest free one is its; the file then takes the next
+-- the edit of a put over the free pages, rising; 17 if they are too few. If the directory needs a page, the lowest free one is its; what is put then takes the next
 unfoldable pub putEdit : Geometry → List ℕ → Path → List ℕ → Place → Res Edit
 putEdit g free q bytes place =
     let extra = extraPages g (fileLabel q) (place .items) in
@@ -83,10 +87,14 @@ putEdit g free q bytes place =
 unfoldable pub plainEdit : Geometry → List ℕ → Edit → Image → List ℕ → List ℕ
 plainEdit g names e i image = afterWrites g (editWrites g (bitmapOf g (used i) (i .map)) e i (edited g names e i)) image
 
--- the image after a put
-unfoldable pub put : Geometry → List ℕ → List ℕ → List ℕ → Res (List ℕ)
-put g path bytes image = do
+-- the image after a call that puts bytes at its target, which are chosen by where that stands
+unfoldable pub putAt : Geometry → (Items → Res Target) → (Place → List ℕ) → List ℕ → Res (List ℕ)
+putAt g target bytes image = do
   i ← check g (viewsOf g image)
-  x ← putTarget path (i .tree)
-  e ← putEdit g (freePages (keptPages (x .to) i) (g .pages)) (x .to) bytes (x .place)
+  x ← target (i .tree)
+  e ← putEdit g (freePages (keptPages (x .to) i) (g .pages)) (x .to) (bytes (x .place)) (x .place)
   ok (plainEdit g (x .to .directories) e i image)
+
+-- the image after a put
+abbrev pub put : Geometry → List ℕ → List ℕ → List ℕ → Res (List ℕ)
+put g path bytes image = putAt g (putTarget path) (λ _. bytes) image

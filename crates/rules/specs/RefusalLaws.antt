@@ -17,11 +17,12 @@ use Rattle.rules.specs.Tree.{Label, Items}
 use Rattle.rules.specs.Control.{Parent, headOf, wholeEntries, rootPage, subPage}
 use Rattle.rules.specs.Check.{judgeLabel}
 use Rattle.rules.specs.Listing.{lineAt}
-use Rattle.rules.specs.Paths.{pathOf, directoryKey, Found, nothing, aFile, aDirectory, find, Place, stepDown, directoryAt, targetOf, shown}
+use Rattle.rules.specs.Paths.{Path, pathOf, directoryPathOf, directoryKey, Found, nothing, aFile, aDirectory, find, Place, stepDown, directoryAt, targetAt, shown}
 use Rattle.rules.specs.Format.{format}
 use Rattle.rules.specs.Put.{writable}
 use Rattle.rules.specs.Delete.{present}
 use Rattle.rules.specs.Calls.{bytesOf}
+use Rattle.rules.specs.Directories.{vacant, presentDirectory, shownDirectory, withoutEntries}
 
 -- a refusal's number is one of low to high, and the page told is below most
 pub record Refuses {A : Type 0} (low high most : ℕ) (r : Res A) : Type 0 where
@@ -115,7 +116,7 @@ unfolding judgeLabel
 label-faults most p e h = refuses-test _ 9 _ _ tt h (refuses-unless _ 10 _ tt h)
 
 -- ---- paths, read-only, room, output, hidden directories: 14 to 18 and 22 tell page 0
-path-faults : (b : List ℕ) → Refuses 14 14 1 (pathOf b)
+pub path-faults : (b : List ℕ) → Refuses 14 14 1 (pathOf b)
 unfolding pathOf
 path-faults b = let z : 0 < 1 = omega arith in refuses-test _ 14 _ _ tt z (refuses-test _ 14 _ _ tt z (refuses-test _ 14 _ _ tt z refuses-ok))
 
@@ -128,10 +129,14 @@ place-faults (x ∷ xs) p = go (find (directoryKey x) (p .items)) refl (λ l d. 
     go (aFile l ls) e k = unfold directoryAt in rw e (refuses-err tt (omega arith))
     go (aDirectory l d) e k = unfold directoryAt in rw e (k l d)
 
-pub target-faults : (path : List ℕ) (t : Items) → Refuses 14 15 1 (targetOf path t)
-unfolding targetOf
-target-faults path t =
-    refuses-then _ _ (refuses-within 14 15 1 (omega arith) (omega arith) (omega arith) (path-faults path)) λ q _.
+pub directory-path-faults : (b : List ℕ) → Refuses 14 14 1 (directoryPathOf b)
+unfolding directoryPathOf
+directory-path-faults b = let z : 0 < 1 = omega arith in refuses-test _ 14 _ _ tt z (refuses-test _ 14 _ _ tt z refuses-ok)
+
+pub target-faults : (asked : Res Path) (t : Items) → Refuses 14 14 1 asked → Refuses 14 15 1 (targetAt asked t)
+unfolding targetAt
+target-faults asked t h =
+    refuses-then _ _ (refuses-within 14 15 1 (omega arith) (omega arith) (omega arith) h) λ q _.
     refuses-then _ _ (refuses-within 14 15 1 (omega arith) (omega arith) (omega arith) (place-faults (q .directories) _)) λ d _. refuses-ok
 
 pub shown-faults : (p : Place) → Refuses 22 22 1 (shown p)
@@ -149,6 +154,30 @@ unfolding present
 present-faults nothing = refuses-err tt (omega arith)
 present-faults (aFile l ls) = refuses-ok
 present-faults (aDirectory l d) = refuses-err tt (omega arith)
+
+pub vacant-faults : (f : Found) → Refuses 21 21 1 (vacant f)
+unfolding vacant
+vacant-faults nothing = refuses-ok
+vacant-faults (aFile l ls) = refuses-err tt (omega arith)
+vacant-faults (aDirectory l d) = refuses-err tt (omega arith)
+
+pub directory-faults : (f : Found) → Refuses 15 15 1 (presentDirectory f)
+unfolding presentDirectory
+directory-faults nothing = refuses-err tt (omega arith)
+directory-faults (aFile l ls) = refuses-err tt (omega arith)
+directory-faults (aDirectory l d) = refuses-ok
+
+pub hidden-faults : (f : Found) → Refuses 22 22 1 (shownDirectory f)
+unfolding shownDirectory
+hidden-faults nothing = refuses-ok
+hidden-faults (aFile l ls) = refuses-ok
+hidden-faults (aDirectory l d) = refuses-unless _ 22 _ tt (omega arith)
+
+pub entries-faults : (f : Found) → Refuses 20 20 1 (withoutEntries f)
+unfolding withoutEntries
+entries-faults nothing = refuses-ok
+entries-faults (aFile l ls) = refuses-ok
+entries-faults (aDirectory l d) = refuses-unless _ 20 _ tt (omega arith)
 
 pub bytes-faults : (f : Found) → Refuses 15 15 1 (bytesOf f)
 unfolding bytesOf

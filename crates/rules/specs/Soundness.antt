@@ -15,7 +15,7 @@ use Rattle.rules.specs.PageSetLaws.{count-append}
 use Rattle.rules.specs.Chain.{Views, Link, link, pages, Test, anyPage, walk}
 use Rattle.rules.specs.ChainLaws.{IsChain, length-pages, walk-sound}
 use Rattle.rules.specs.Names.{key}
-use Rattle.rules.specs.Tree.{Items, Token, newPage, entry, entriesIn, linkTokens, ownPages, innerPages, Map, mapPages, Image, used}
+use Rattle.rules.specs.Tree.{Items, end, page, file, dir, fileEntry, directoryEntry, Token, newPage, entry, stampTokens, tokens, entriesIn, linkTokens, ownPages, innerPages, Map, mapPages, Image, used}
 use Rattle.rules.specs.Control.{Parent, theRoot, Head, rootPage, subPage}
 use Rattle.rules.specs.Owners.{fileCount, directoryCount}
 use Rattle.rules.specs.StampLaws.{stamp-own, stamp-inner, stamp-files, stamp-directories}
@@ -35,6 +35,16 @@ pub pages-tokens : (g : Geometry) (skip : ℕ) (ls : List Link) → tokenPages (
 pages-tokens g skip [] = refl
 pages-tokens g skip (link p b ∷ ls) =
     ap (λ (l : List ℕ). p ∷ l) (pages-entries g (length (drop skip b) / entrySize g) (drop skip b) (linkTokens g 0 ls) ∙ pages-tokens g 0 ls)
+
+stamp-pages : (ss : List Entry) (ts : List Token) → tokenPages ts ≡ tokenPages (stampTokens ss ts)
+stamp-pages [] ts = refl
+stamp-pages (s ∷ ss) ts = stamp-pages ss ts
+
+pub own-tokens : (t : Items) → ownPages t ≡ tokenPages (tokens t)
+own-tokens end = refl
+own-tokens (page p t) = ap (λ (l : List ℕ). p ∷ l) (own-tokens t)
+own-tokens (file l ls t) = own-tokens t ∙ stamp-pages (l .stamps) (entry (fileEntry l ls) ∷ tokens t)
+own-tokens (dir l d t) = own-tokens t ∙ stamp-pages (l .stamps) (entry (directoryEntry l d) ∷ tokens t)
 
 -- the entries that stand under an entry, with itself
 abbrev pub entriesOf : Part → ℕ

@@ -1,6 +1,6 @@
 //! The answers of the calls and the numbers they carry (document 01, "Numbers that an answer can carry").
 
-/// The answer of format, put and delete: a number and a page.
+/// The answer of format, put, delete, and of making and removing a directory: a number and a page.
 #[derive(Clone, Copy, Debug, PartialEq, Eq, Default)]
 pub struct Answer {
     pub number: u32,
@@ -62,7 +62,7 @@ pub struct Mended {
     pub cleared: u32,
 }
 
-/// The refusals by name; the value of each is its number in document 01, that of a hidden directory in document 02 (A6).
+/// The refusals by name; the value of each is its number in document 01, from 20 up in document 02 (A1, A6).
 #[derive(Clone, Copy, Debug, PartialEq, Eq)]
 pub(crate) enum Fault {
     Arguments = 1,
@@ -84,6 +84,8 @@ pub(crate) enum Fault {
     Room = 17,
     Output = 18,
     Dump = 19,
+    NotEmpty = 20,
+    AlreadyThere = 21,
     Hidden = 22,
 }
 

@@ -115,3 +115,16 @@ pub(crate) fn judge_subdirectory(
     }
     Ok(())
 }
+
+/// The control field of a subdirectory: marker, the parent's name (ROOT for the root), one zero byte, the parent's start page.
+pub(crate) fn subdirectory_field(
+    geometry: &Geometry,
+    parent_name: &Name,
+    parent_start: usize,
+) -> Vec<u8> {
+    let mut field = vec![geometry.marker()];
+    field.extend(parent_name);
+    field.push(0);
+    field.extend(geometry.number_bytes(parent_start));
+    field
+}

@@ -5,6 +5,7 @@ use crate::bitmap;
 use crate::control::{self, BitmapPlace};
 use crate::entry::Fields;
 use crate::geometry::Geometry;
+use crate::names::Name;
 use crate::packet::{self, Written};
 use crate::path::{self, Path};
 use crate::tree::{Content, Directory, Entry, Target, Tree};
@@ -104,9 +105,12 @@ pub(crate) fn parse(path: &[u8]) -> Result<Path, Answer> {
 
 /// The directory that the path's directory names lead to; a missing one is 15.
 pub(crate) fn find_target<'a>(tree: &'a Tree, path: &Path) -> Result<Target<'a>, Answer> {
-    tree.root
-        .resolve(&path.directories)
-        .ok_or(Fault::Absent.at(0))
+    find_directory(tree, &path.directories)
+}
+
+/// The directory that names lead to from the root; a missing one is 15.
+pub(crate) fn find_directory<'a>(tree: &'a Tree, names: &[Name]) -> Result<Target<'a>, Answer> {
+    tree.root.resolve(names).ok_or(Fault::Absent.at(0))
 }
 
 /// A hidden directory on the path is 22 (A6).
@@ -183,7 +187,7 @@ pub(crate) fn page_with_space(
 }
 
 /// Joins a new page with an empty packet to the end of the directory's chain.
-fn append_directory_page(
+pub(crate) fn append_directory_page(
     geometry: &Geometry,
     image: &mut [u8],
     directory: &Directory,
@@ -215,12 +219,10 @@ pub(crate) fn take_lowest(used: &mut [bool], count: usize) -> Result<Vec<usize>,
     Ok(pages)
 }
 
-/// Marks the pages of a file's chain as free.
+/// Marks the pages of the chain that an entry leads to as free.
 pub(crate) fn free_chain(used: &mut [bool], entry: &Entry) {
-    if let Content::File { pages, .. } = &entry.content {
-        for &page in pages {
-            used[page] = false;
-        }
+    for &page in entry.pages() {
+        used[page] = false;
     }
 }
 

@@ -1,6 +1,6 @@
 //! A second implementation of the file structure of document 01: check, list, read, format, put, delete; and of document 02's careful put, careful
-//! delete and mend (A4), owner records (A8), stamps, that is extended entries before the entry they belong to (A2), and hidden directories, which
-//! refuse edits (A6).
+//! delete and mend (A4), owner records (A8), stamps, that is extended entries before the entry they belong to (A2), hidden directories, which
+//! refuse edits (A6), and making and removing directories (A1).
 //!
 //! It is written from the specification alone and serves as a referee for another implementation.
 //! Numbers are `u32` as a C caller gives them; the owner table is bytes, four for each page.
@@ -11,6 +11,7 @@ mod careful;
 mod check;
 mod control;
 mod crc;
+mod directory;
 mod edit;
 mod entry;
 pub mod geometry;
@@ -131,6 +132,40 @@ pub fn delete(
     let outcome = judge_arguments(page_length, page_count, image, owners).and_then(|geometry| {
         let tree = judge_image(&geometry, image, owners)?;
         edit::delete(&geometry, image, &tree, path)?;
+        tell_owners(&geometry, image, owners);
+        Ok(())
+    });
+    done_or_refusal(outcome)
+}
+
+/// Makes a directory without entries.
+pub fn make_directory(
+    page_length: u32,
+    page_count: u32,
+    image: &mut [u8],
+    path: &[u8],
+    owners: &mut [u8],
+) -> Answer {
+    let outcome = judge_arguments(page_length, page_count, image, owners).and_then(|geometry| {
+        let tree = judge_image(&geometry, image, owners)?;
+        directory::make(&geometry, image, &tree, path)?;
+        tell_owners(&geometry, image, owners);
+        Ok(())
+    });
+    done_or_refusal(outcome)
+}
+
+/// Removes a directory that has no entries.
+pub fn remove_directory(
+    page_length: u32,
+    page_count: u32,
+    image: &mut [u8],
+    path: &[u8],
+    owners: &mut [u8],
+) -> Answer {
+    let outcome = judge_arguments(page_length, page_count, image, owners).and_then(|geometry| {
+        let tree = judge_image(&geometry, image, owners)?;
+        directory::remove(&geometry, image, &tree, path)?;
         tell_owners(&geometry, image, owners);
         Ok(())
     });

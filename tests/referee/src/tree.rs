@@ -40,6 +40,8 @@ pub(crate) struct Entry {
 #[derive(Debug)]
 pub(crate) struct Target<'a> {
     pub(crate) directory: &'a Directory,
+    /// The entry that leads to it; none for the root.
+    pub(crate) entry: Option<&'a Entry>,
     /// Whether any of the directories named, the last one too, is hidden (A6). The root has no entry and is never hidden.
     pub(crate) hidden: bool,
 }
@@ -87,6 +89,7 @@ impl Directory {
     pub(crate) fn resolve(&self, names: &[Name]) -> Option<Target<'_>> {
         let mut target = Target {
             directory: self,
+            entry: None,
             hidden: false,
         };
         for name in names {
@@ -96,6 +99,7 @@ impl Directory {
             };
             target = Target {
                 directory,
+                entry: Some(entry),
                 hidden: target.hidden || entry.fields.attribute(),
             };
         }

@@ -2,9 +2,10 @@
 use mathlib.Core.Path.{ap, _∙_}
 use Rattle.owners.specs.Records.{recordsOf}
 use Rattle.packet.specs.declared.Budget.{Budget}
+use Rattle.rules.specs.Delete.{deleteTarget}
 use Rattle.volume.proofs.EditLaws.{fit-same, fault-leaves, table-of}
 use Rattle.delete.proofs.Calling.{delete-fault}
-use Rattle.delete.proofs.PathDelete.{answer-done, answer-refused}
+use Rattle.delete.proofs.Removing.{answer-done, answer-refused}
 use borrow.Author.Needs.{needs}
 use Rattle.delete.proofs.delete_in.Statement.{statement}
 use Rattle.delete.proofs.delete_in.Tie as tie
@@ -52,7 +53,7 @@ returns-2 c =
     let T = table-of (a .g) (a .image .now) (at-check-table .check-table .result) (recordsOf (at-check-table .check-table .last .1 .1 .0)) (at-check-table .check-table .ensures)
     (λ i. at-slice-known .slice-known .given i .fits) _ (at-enum-told .enum-told .given .1) in
     record {
-      answers = answer-done (a .g) (a .image .now) _ (a .path .now) T _ (at-unlimited .unlimited .ensures) _ _ (at-delete-path .delete-path .ensures) _ (c .enum-told2 .given .1);
+      answers = answer-done (a .g) (a .image .now) _ T (deleteTarget (a .path .now)) _ (at-unlimited .unlimited .ensures) _ _ (at-delete-path .delete-path .ensures) _ (c .enum-told2 .given .1);
       check = at-check-table2 .check-table2 .result;
       checked = at-check-table2 .check-table2 .ensures;
     }
@@ -72,7 +73,7 @@ returns-3 c =
     let T = table-of (a .g) (a .image .now) (at-check-table .check-table .result) (recordsOf (at-check-table .check-table .last .1 .1 .0)) (at-check-table .check-table .ensures)
     (λ i. at-slice-known .slice-known .given i .fits) _ (at-enum-told .enum-told .given .1) in
     record {
-      answers = answer-refused (a .g) (a .image .now) _ (a .path .now) T _ (at-unlimited .unlimited .ensures) _ _ (at-delete-path .delete-path .ensures) _ _ (at-outcome .outcome .given .1);
+      answers = answer-refused (a .g) (a .image .now) _ T (deleteTarget (a .path .now)) _ (at-unlimited .unlimited .ensures) _ _ (at-delete-path .delete-path .ensures) _ _ (at-outcome .outcome .given .1);
       check = at-check-table2 .check-table2 .result;
       checked = at-check-table2 .check-table2 .ensures;
     }

@@ -1,4 +1,4 @@
--- The file's pages are free again; then its entry is taken out.
+-- The pages of the chain are free again; then its entry is taken out.
 use Rattle.lookup.specs.PlaceLaws.{stamps-before}
 use Rattle.delete.specs.Deletes.{Unlinks}
 use Rattle.delete.proofs.Unlinking.{known-chain, plan, unlinked}
@@ -18,7 +18,7 @@ remove-entry-requires c κs =
     let start = at-release-chain .before .before .before .before .before in
     let s = start .pre in
     let d = s .1 .1 in
-    (s .0, (plan (s .0) d _ (at-release-chain .release-chain .ensures), d .file .at .under, stamps-before (d .file .at), s .1 .2))
+    (s .0, (plan (s .0) d _ (at-release-chain .release-chain .ensures), d .at .under, stamps-before (d .at), s .1 .2))
 
 returns : tie.Need-returns
 unfolding Unlinks

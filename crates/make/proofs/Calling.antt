@@ -1,0 +1,39 @@
+-- The call: the check's fault first, and what a make that is done leaves.
+use mathlib.Core.Path.{_≡_, ap}
+use mathlib.Core.List.{List, _++_}
+use Prim.Native.Nat.{ℕ, _<_, _*_}
+use lib.ListN.{length, getD, drop}
+use Rattle.owners.specs.Records.{recordsOf}
+use Rattle.geometry.specs.declared.Geometry.{Geometry}
+use Rattle.geometry.specs.declared.Shape.the-variants.{Fits}
+use Rattle.geometry.specs.Geometry.{geometryOf}
+use Rattle.geometry.specs.NumberLaws.{bytes-from}
+use Rattle.rules.specs.Result.{Res, ok, err}
+use Rattle.rules.specs.ResultLaws.{then-err}
+use Rattle.rules.specs.Chain.{viewsOf}
+use Rattle.rules.specs.Check.{check}
+use Rattle.rules.specs.Put.{putAt}
+use Rattle.rules.specs.Directories.{makeDirectory, makeCall}
+use Rattle.rules.specs.Promises.{Makes}
+use Rattle.editing_theorems.specs.Promised.{make-stated}
+use Rattle.rules.specs.declared.Edited.{Edited}
+use Rattle.rules.specs.Answers.{editResult}
+use Rattle.volume.specs.Edits.{EditLeaves}
+use Rattle.volume.proofs.EditLaws.{changed-leaves}
+
+pub make-fault : (g : Geometry) (path image : List ℕ) (n p : ℕ) → check g (viewsOf g image) ≡ err n p → makeDirectory g path image ≡ err n p
+unfolding putAt
+make-fault g path image n p e = simp (e, then-err)
+
+module _ (P N : ℕ) (image table path : List ℕ) where
+  pub made : (g : Geometry) → geometryOf P N (length image) (length table) ≡ Fits g → (part : List ℕ) → length part ≡ 4 * g .pages → ((i : ℕ) → getD (part ++ drop (4 * g .pages) table) i 0 < 256)
+      → (r : Edited) (after : List ℕ) → EditLeaves g image (makeDirectory g path image) r after (recordsOf part) → (editResult r, after, part ++ drop (4 * g .pages) table) ≡ makeCall P N image table path
+  unfolding makeCall
+  made g e part l h r after k = changed-leaves P N image table g e part l h (λ g. makeDirectory g path image) r after k
+
+  pub make-is : (h : (i : ℕ) → getD image i 0 < 256) (pathFits : (i : ℕ) → getD path i 0 < 256) (r : Edited) (after t : List ℕ) → (editResult r, after, t) ≡ makeCall P N image table path
+      → Makes P N image table path (editResult r ≡ ok tt) (λ x. editResult r ≡ x) after
+  make-is h pathFits r after t e =
+      let q : editResult r ≡ makeCall P N image table path .0 = ap (λ (x : Res (Unit {0}) × List ℕ × List ℕ). x .0) e in
+      let a : after ≡ makeCall P N image table path .1 = ap (λ (x : Res (Unit {0}) × List ℕ × List ℕ). x .1) e in
+      rw (q, a) (make-stated P N image table (bytes-from image h) path (bytes-from path pathFits))
