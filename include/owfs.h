@@ -1,4 +1,4 @@
-/* The 1-Wire File Structure (Application Note 114) on a lent image of one memory button.
+/* The 1-Wire File Structure (Application Note 114) on a lent image of one memory button, and reports on count files.
  *
  * Link with libowfs.a (rt staticlib owfs). The archive holds x86-64 code; another processor needs a toolchain for it first.
  * A slice is a pointer and a length; with length 0 the pointer is not used. A slice that a call writes must not overlap another slice of that call.
@@ -315,5 +315,51 @@ struct owfs_mended {
  * Any arguments are taken. Image and owners must not overlap.
  * Stack: less than 16 KiB, for every page count, however many entries a directory has. */
 struct owfs_mended owfs_mend(uint32_t page_length, uint32_t page_count, uint8_t *image, size_t image_length, uint8_t *owners, size_t owners_length);
+
+/* A report on count files: what has been totalled so far. owfs_report_start makes one, owfs_report_add tells the next; nothing else should change a
+ * field. It holds no pointer, and a copy of it is a report of its own. */
+struct owfs_report {
+    uint64_t cycles;        /* the cycles of all rows of the files counted */
+    uint64_t near;          /* near misses: the cycles of all rows whose doubled peak is below the limit by no more than the margin */
+    uint64_t weight;        /* 0 in a report without weight */
+    int32_t limit;
+    int32_t greatest;       /* the greatest doubled peak of a row, 0 while there is none */
+    uint32_t has_greatest;  /* 1 if there is a greatest doubled peak, else 0 */
+    uint32_t margin;        /* 0 to 65,535 */
+    uint32_t version;       /* 0 in a report without weight */
+    uint32_t knee;          /* 0 in a report without weight */
+    uint32_t files;         /* the files counted, at most 4,096 */
+};
+
+/* Starts a report without weight: empty, with its limit and margin. Any limit and margin are taken, and nothing is refused. All other fields are 0, so
+ * there is no greatest doubled peak.
+ * Stack: under 512 bytes. */
+struct owfs_report owfs_report_start(int32_t limit, uint16_t margin);
+
+/* What adding a file answers: number 0, page 0 and the new report, or a refusal's number and page 0 with the report as it was given. */
+struct owfs_added {
+    uint32_t number;
+    uint32_t page;
+    struct owfs_report report;
+};
+
+/* Adds a count file to a report. The file is not written.
+ * A count file is a header of two numbers of 16 bits, row count and offset of the first row, then rows of eight bytes: mean stress (signed 16 bits),
+ * range (unsigned 16), cycles (unsigned 32), low byte first. The offset is at least 4 and, plus eight for each row, is the file's length. Bytes
+ * between the header and the offset may be any. The doubled peak of a row is twice its mean plus its range.
+ *
+ * number  meaning, in the order in which it is judged              page
+ *      0  done                                                     0
+ *     24  count file malformed, or the report has 4,096 files      0
+ *
+ * After 0 `files` is one more, `cycles` has grown by the cycles of all rows, `near` by the cycles of the rows whose doubled peak is below the limit by
+ * no more than the margin, which are none at the limit and none with a margin of 0, and `greatest` is the greatest doubled peak of all rows so far,
+ * rows of 0 cycles too; while no file had a row, `has_greatest` is 0. A refusal adds nothing: the report is as if the file had not been given. For up
+ * to 4,096 well-formed files their order changes no field.
+ * No sum passes 64 bits in a report that only these calls have changed. Any other is taken too: 24 if `cycles` or `near` would pass 64 bits or `files`
+ * is above 4,096; any `has_greatest` but 0 means that there is a greatest, and after 0 it is 0 or 1; `greatest` beside a 0 says nothing; a margin above
+ * 65,535 is taken as it is. Any arguments are taken.
+ * Stack: under 512 bytes, however many rows the file has. */
+struct owfs_added owfs_report_add(struct owfs_report report, const uint8_t *file, size_t length);
 
 #endif

@@ -53,7 +53,7 @@ pub struct Writes {
 }
 
 /// Nothing for number 0, else the refusal.
-fn done(number: u32, page: u32) -> Result<(), Refusal> {
+pub(crate) fn done(number: u32, page: u32) -> Result<(), Refusal> {
     match number {
         0 => Ok(()),
         _ => Err(Refusal { number, page }),

@@ -93,6 +93,44 @@ pub struct Mended {
     pub cleared: u32,
 }
 
+/// `struct owfs_report`: what a report has totalled so far. Any numbers may stand here; a report that only the calls have changed has those that are told.
+#[repr(C)]
+#[derive(Clone, Copy, Debug, PartialEq, Eq, Hash)]
+pub struct Report {
+    /// The cycles of all rows of the files counted.
+    pub cycles: u64,
+    /// The near misses: the cycles of the rows whose doubled peak is below the limit by no more than the margin.
+    pub near: u64,
+    /// 0.
+    pub weight: u64,
+    /// The limit.
+    pub limit: i32,
+    /// The greatest doubled peak, 0 while there is none.
+    pub greatest: i32,
+    /// 1 if there is a greatest doubled peak, else 0.
+    pub has_greatest: u32,
+    /// The margin, 0 to 65,535.
+    pub margin: u32,
+    /// 0.
+    pub version: u32,
+    /// 0.
+    pub knee: u32,
+    /// The files counted, 0 to 4,096.
+    pub files: u32,
+}
+
+/// `struct owfs_added`: number 0, page 0 and the new report, or a refusal's number, page 0 and the report that was given.
+#[repr(C)]
+#[derive(Clone, Copy, Debug, PartialEq, Eq, Hash)]
+pub struct Added {
+    /// 0, or the refusal's number.
+    pub number: u32,
+    /// 0.
+    pub page: u32,
+    /// The report.
+    pub report: Report,
+}
+
 extern "C" {
     fn owfs_crc16(start: u16, bytes: *const u8, length: usize) -> u16;
 
@@ -218,6 +256,10 @@ extern "C" {
         owners: *mut u8,
         owners_length: usize,
     ) -> Mended;
+
+    fn owfs_report_start(limit: i32, margin: u16) -> Report;
+
+    fn owfs_report_add(report: Report, file: *const u8, length: usize) -> Added;
 }
 
 /// [`crate::crc16`].
@@ -472,4 +514,16 @@ pub fn mend(page_length: u32, page_count: u32, image: &mut [u8], owners: &mut [u
             owners.len(),
         )
     }
+}
+
+/// [`crate::Report::start`] with the whole report.
+pub fn report_start(limit: i32, margin: u16) -> Report {
+    // SAFETY: any numbers are taken.
+    unsafe { owfs_report_start(limit, margin) }
+}
+
+/// [`crate::Report::add`] with the whole answer.
+pub fn report_add(report: Report, file: &[u8]) -> Added {
+    // SAFETY: any report is taken; pointer and length are those of a slice that is only read.
+    unsafe { owfs_report_add(report, file.as_ptr(), file.len()) }
 }

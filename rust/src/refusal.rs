@@ -16,7 +16,7 @@ use std::fmt;
 /// ```
 #[derive(Clone, Copy, Debug, PartialEq, Eq, Hash)]
 pub struct Refusal {
-    /// The number, 1 to 18 or 20 to 22.
+    /// The number, 1 to 18, 20 to 22 or 24.
     pub number: u32,
     /// The page, as the reason's description says; 0 if it tells none.
     pub page: u32,
@@ -67,12 +67,14 @@ pub enum Reason {
     AlreadyThere,
     /// 22: a directory on the path is hidden. No page.
     Hidden,
+    /// 24: count file is malformed, or the report has 4,096 files. No page.
+    CountFile,
     /// Any other number; no call is refused with one.
     Other(u32),
 }
 
-/// The reasons with their numbers; 19 is the program `list`'s.
-const REASONS: [(u32, Reason); 21] = [
+/// The reasons with their numbers; 19 is the program `list`'s, 23 is no call's.
+const REASONS: [(u32, Reason); 22] = [
     (1, Reason::Arguments),
     (2, Reason::Packet),
     (3, Reason::Marker),
@@ -94,6 +96,7 @@ const REASONS: [(u32, Reason); 21] = [
     (20, Reason::NotEmpty),
     (21, Reason::AlreadyThere),
     (22, Reason::Hidden),
+    (24, Reason::CountFile),
 ];
 
 impl Refusal {
@@ -156,6 +159,7 @@ impl Reason {
             Reason::NotEmpty => "directory has entries",
             Reason::AlreadyThere => "a directory of that name is already there",
             Reason::Hidden => "a directory on the path is hidden",
+            Reason::CountFile => "count file is malformed, or the report has 4,096 files",
             Reason::Other(_) => "reason is not known",
         }
     }
@@ -174,6 +178,7 @@ impl Reason {
                 | Reason::NotEmpty
                 | Reason::AlreadyThere
                 | Reason::Hidden
+                | Reason::CountFile
         )
     }
 }
@@ -208,7 +213,7 @@ mod tests {
             assert_eq!(reason.number(), number);
             assert_eq!(u32::from(reason), number);
         }
-        for number in [0, 19, 23, 256, 276, 277, 278, u32::MAX] {
+        for number in [0, 19, 23, 25, 256, 276, 277, 278, 280, u32::MAX] {
             assert_eq!(Reason::from(number), Reason::Other(number));
             assert_eq!(Reason::Other(number).number(), number);
         }
@@ -226,6 +231,7 @@ mod tests {
             (20, Reason::NotEmpty),
             (21, Reason::AlreadyThere),
             (22, Reason::Hidden),
+            (24, Reason::CountFile),
         ];
         for (number, reason) in known {
             assert_eq!(reason.number(), number);
@@ -258,6 +264,10 @@ mod tests {
         assert_eq!(
             text(22, 0),
             "a directory on the path is hidden (refusal 22)"
+        );
+        assert_eq!(
+            text(24, 0),
+            "count file is malformed, or the report has 4,096 files (refusal 24)"
         );
     }
 }

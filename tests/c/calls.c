@@ -1,5 +1,5 @@
-/* Calls check, list, read, format, put, delete, careful put, careful delete, mend, the making and removing of a directory and the check sum as firmware
- * calls them, with numbers and byte slices, each on a stack of 16 KiB, and prints each answer and each byte lent.
+/* Calls check, list, read, format, put, delete, careful put, careful delete, mend, the making and removing of a directory, the check sum and those of
+ * reports as firmware calls them, with numbers and byte slices, each on a stack of 16 KiB, and prints each answer and each byte lent.
  *
  * The argument names a file: page length and page count (4 bytes each, low byte first), then the image, which ends the file.
  * Standard input has the calls; a number is 4 bytes, low byte first:
@@ -16,10 +16,13 @@
  *   n  bytes of the owner table, bytes of the path, then the path of the directory to make
  *   x  bytes of the owner table, bytes of the path, then the path of the directory to remove
  *   k  start of the check sum, number of bytes, then the bytes
+ *   t  limit and margin of a report to start
+ *   a  a report, each field of 8 bytes as two numbers, the low one first, then bytes of the count file, then the count file
  *   s  bytes of stack to use in blocks of 1,024, to show that the limit of the stack holds
  *
  * For each call it prints the letter and the fields of the answer, then a line with the owner table, for `r` one with the output and for `f`, `p`,
- * `d`, `P`, `D`, `m`, `n` and `x` one with the image, in hexadecimal; for `k` and `s` the first line alone. The calls after an edit have the image as it left it.
+ * `d`, `P`, `D`, `m`, `n` and `x` one with the image, in hexadecimal; for `k`, `t`, `a` and `s` the first line alone. The calls after an edit have the image
+ * as it left it.
  * Owner table and output hold the byte C7 before each call. A slice of no bytes has no address. In the end it tells on standard error the most bytes
  * of stack that a call has used.
  * It ends with 1 if a call changed the path, the file's bytes, bytes next to a lent slice, or the image where it must not (c, l, r and every
@@ -59,9 +62,11 @@ static uint8_t file_bytes[MARGIN + MOST_FILE + MARGIN], file_before[MOST_FILE];
 static struct lent image;
 static uint32_t page_length, page_count;
 
-/* What the next call is lent besides the image, and its number: position, kind of bitmap, writes allowed, or start of the check sum. */
+/* What the next call is lent besides the image, and its number: position, kind of bitmap, writes allowed, start of the check sum, or limit of a report;
+ * the margin of a report to start, or the report to add a file to. */
 static struct lent owners, path, file, out;
-static uint32_t argument;
+static uint32_t argument, margin;
+static struct owfs_report report;
 
 /* Its answer. */
 static struct owfs_totals totals;
@@ -70,6 +75,7 @@ static struct owfs_length length_read;
 static struct owfs_answer answer;
 static struct owfs_writes writes;
 static struct owfs_mended mended;
+static struct owfs_added added;
 static uint32_t sum, blocks;
 
 /* The most bytes of stack that a call has used. */
@@ -232,6 +238,16 @@ static void make_removal(void)
 static void make_sum(void)
 {
     sum = owfs_crc16((uint16_t)argument, file.bytes, file.length);
+}
+
+static void make_report(void)
+{
+    report = owfs_report_start((int32_t)argument, (uint16_t)margin);
+}
+
+static void make_add(void)
+{
+    added = owfs_report_add(report, file.bytes, file.length);
 }
 
 /* Makes the call on the small stack. */
@@ -429,6 +445,57 @@ static void call_sum(void)
     see_given(file_bytes, file_before, file.length, "bytes of the sum");
 }
 
+/* A number of 8 bytes, low byte first. */
+static uint64_t long_number(void)
+{
+    uint64_t low = number(stdin);
+    return low | (uint64_t)number(stdin) << 32;
+}
+
+/* Reads a report, field by field. */
+static void read_report(void)
+{
+    report.cycles = long_number();
+    report.near = long_number();
+    report.weight = long_number();
+    report.limit = (int32_t)number(stdin);
+    report.greatest = (int32_t)number(stdin);
+    report.has_greatest = number(stdin);
+    report.margin = number(stdin);
+    report.version = number(stdin);
+    report.knee = number(stdin);
+    report.files = number(stdin);
+}
+
+/* Prints a report, field by field, to the end of the line. */
+static void print_report(const struct owfs_report *report)
+{
+    printf(" %" PRIu64 " %" PRIu64 " %" PRIu64 " %" PRId32 " %" PRId32, report->cycles, report->near, report->weight, report->limit, report->greatest);
+    printf(" %" PRIu32 " %" PRIu32 " %" PRIu32 " %" PRIu32 " %" PRIu32 "\n", report->has_greatest, report->margin, report->version, report->knee,
+           report->files);
+}
+
+/* t: a report that is started. */
+static void call_report(void)
+{
+    argument = number(stdin);
+    margin = number(stdin);
+    make(make_report);
+    printf("t");
+    print_report(&report);
+}
+
+/* a: a file that is added to a report. */
+static void call_add(void)
+{
+    read_report();
+    file = read_given(file_bytes, file_before, length_up_to(MOST_FILE));
+    make(make_add);
+    see_given(file_bytes, file_before, file.length, "count file");
+    printf("a %" PRIu32 " %" PRIu32, added.number, added.page);
+    print_report(&added.report);
+}
+
 /* Writes to so many bytes of the stack, a block at a time, and counts the blocks. */
 static uint32_t use_stack(uint32_t bytes)
 {
@@ -471,6 +538,8 @@ int main(int count, char **arguments)
         case 'n': call_make_directory(); break;
         case 'x': call_remove_directory(); break;
         case 'k': call_sum(); break;
+        case 't': call_report(); break;
+        case 'a': call_add(); break;
         case 's': call_stack(); break;
         default: wrong_input("no such call");
         }

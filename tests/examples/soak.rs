@@ -3,8 +3,8 @@
 //!     cargo run --release --offline --manifest-path tests/Cargo.toml --example soak -- [minutes] [seed]
 //!
 //! Without a seed the clock gives one; it is printed. Every round has a seed of its own, the next after that of the round before, and makes
-//! every call with images of every kind, a long run of edits, and now and then an image of tens of thousands of pages, and dumps for the program
-//! `list`. Every answer and every lent byte is compared. If anything differs, the round's seed and the case are printed and the status is 1; a run
+//! every call with images of every kind, a long run of edits, reports on count files, and now and then an image of tens of thousands of pages, and
+//! dumps for the program `list`. Every answer and every lent byte is compared. If anything differs, the round's seed and the case are printed and the status is 1; a run
 //! with that seed starts with that round.
 //!
 //! The archive is made by `rt staticlib owfs`, the program `list` by `rt check`.
@@ -23,6 +23,9 @@ use common::generators::{
 };
 use common::plans::{formatted_plan, geometry, may_be_local};
 use common::puts::used_plan;
+use common::reports::{
+    add_all, count_numbers, forged_report, in_any_order, random_files, random_limit, random_margin,
+};
 use common::trials::Trial;
 use common::{agreed, Button, Tally};
 use referee::builder::plan::ImagePlan;
@@ -35,7 +38,7 @@ const MINUTES: f64 = 10.0;
 const REPORT: Duration = Duration::from_secs(60);
 
 /// The calls that are counted.
-const CALLS: [&str; 11] = [
+const CALLS: [&str; 12] = [
     "check",
     "list",
     "read",
@@ -47,6 +50,7 @@ const CALLS: [&str; 11] = [
     "mend",
     "make directory",
     "remove directory",
+    "report add",
 ];
 
 /// What was done so far.
@@ -220,6 +224,19 @@ impl Soak {
         agreed::crc16(rng.next_u64() as u16, &rng.bytes(length));
     }
 
+    /// Reports on count files: one that only the calls change, with its files in several orders, and one that other hands have changed.
+    fn reports(&mut self, rng: &mut Rng) {
+        let (limit, margin) = (random_limit(rng), random_margin(rng));
+        self.begin("report", &format!(", limit {limit}, margin {margin}"));
+        let start = agreed::report_start(limit, margin);
+        let files = random_files(&start, rng, &mut self.calls);
+        in_any_order(start, &files, rng, &mut self.calls);
+        self.begin("forged report", "");
+        let forged = forged_report(rng);
+        let files = random_files(&forged, rng, &mut self.calls);
+        count_numbers(&add_all(forged, &files).1, &mut self.calls);
+    }
+
     /// A case of every kind, and a run of edits.
     fn round(&mut self, rng: &mut Rng) {
         for kind in Kind::each(rng) {
@@ -232,6 +249,7 @@ impl Soak {
         self.trial("any bytes", &any_case(rng), rng);
         self.stamps(rng);
         self.sums(rng);
+        self.reports(rng);
         self.edits(rng);
         if rng.chance(5) {
             self.dumps(rng);

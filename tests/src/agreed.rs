@@ -7,7 +7,7 @@
 use std::fmt::{Arguments, Debug};
 
 use crate::library;
-use referee::{Answer, Length, Listing, Mended, Totals, Writes};
+use referee::{Added, Answer, Length, Listing, Mended, Report, Totals, Writes};
 
 /// The bytes before and after a slice that is lent to the library.
 const MARGIN: [u8; 24] = [0x96; 24];
@@ -376,4 +376,26 @@ pub fn mend(page_length: u32, page_count: u32, image: &mut [u8], owners: &mut [u
         |image, owners| library::mend(p, n, image, owners),
         |image, owners| referee::mend(p, n, image, owners),
     )
+}
+
+/// Starts a report.
+pub fn report_start(limit: i32, margin: u16) -> Report {
+    equal(
+        format_args!("report, limit {limit}, margin {margin}"),
+        library::report_start(limit, margin),
+        referee::report_start(limit, margin),
+    )
+}
+
+/// Adds a count file to a report; a refusal tells page 0 and leaves the report as it was given.
+pub fn report_add(report: Report, file: &[u8]) -> Added {
+    let bytes = file.len();
+    let call = format_args!("count file of {bytes} bytes to {report:?}");
+    let mut lent = Lent::of(file);
+    let told = library::report_add(report, lent.slice());
+    lent.demand("count file", call, file);
+    let told = equal(call, told, referee::report_add(report, file));
+    assert_eq!(told.page, 0, "page: {call}");
+    assert!(told.number == 0 || told.report == report, "refusal: {call}");
+    told
 }

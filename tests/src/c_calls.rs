@@ -1,7 +1,7 @@
 //! The calls that the C program `tests/c/calls.c` is told to make, and what it must print of each, by the second program's answers.
 
 use crate::{Button, BEFORE};
-use referee::{Answer, Length, Listing, Mended, Totals, Writes};
+use referee::{Answer, Length, Listing, Mended, Report, Totals, Writes};
 
 /// A call that the C program is told to make.
 pub enum Call {
@@ -52,10 +52,18 @@ pub enum Call {
         owner_bytes: usize,
         path: Vec<u8>,
     },
+    ReportStart {
+        limit: i32,
+        margin: u16,
+    },
+    ReportAdd {
+        report: Report,
+        file: Vec<u8>,
+    },
 }
 
 impl Call {
-    /// The bytes of its owner table.
+    /// The bytes of its owner table; 0 if it has none.
     fn owner_bytes(&self) -> usize {
         match self {
             Call::Check { owner_bytes }
@@ -69,6 +77,7 @@ impl Call {
             | Call::MakeDirectory { owner_bytes, .. }
             | Call::RemoveDirectory { owner_bytes, .. }
             | Call::Mend { owner_bytes } => *owner_bytes,
+            Call::ReportStart { .. } | Call::ReportAdd { .. } => 0,
         }
     }
 
@@ -86,10 +95,11 @@ impl Call {
         }
     }
 
-    /// The bytes of the file to put; none if it puts none.
+    /// The bytes of the file to put or to add; none if there is none.
     fn file(&self) -> &[u8] {
         match self {
             Call::Put { bytes, .. } | Call::CarefulPut { bytes, .. } => bytes,
+            Call::ReportAdd { file, .. } => file,
             _ => &[],
         }
     }
@@ -123,6 +133,12 @@ impl Call {
             Call::Mend { .. } => request(b'm', &[owners]),
             Call::MakeDirectory { .. } => request(b'n', &[owners, path]),
             Call::RemoveDirectory { .. } => request(b'x', &[owners, path]),
+            Call::ReportStart { limit, margin } => {
+                request(b't', &[limit as u32, u32::from(margin)])
+            }
+            Call::ReportAdd { ref report, .. } => {
+                request(b'a', &[&report_numbers(report)[..], &[file]].concat())
+            }
         };
         [&request, self.path(), self.file()].concat()
     }
@@ -133,6 +149,7 @@ impl Call {
         let mut out = vec![BEFORE; self.out_bytes()];
         let first = self.answer_line(button, &mut owners, &mut out);
         let last = match self {
+            Call::ReportStart { .. } | Call::ReportAdd { .. } => return first,
             Call::Check { .. } | Call::List { .. } => String::new(),
             Call::Read { .. } => hex(&out),
             _ => hex(&button.image),
@@ -167,6 +184,14 @@ impl Call {
             }
             Call::RemoveDirectory { .. } => {
                 edit_line('x', referee::remove_directory(p, n, image, path, owners))
+            }
+            Call::ReportStart { limit, margin } => {
+                format!("t{}", report_end(&referee::report_start(limit, margin)))
+            }
+            Call::ReportAdd { report, .. } => {
+                let told = referee::report_add(report, file);
+                let end = report_end(&told.report);
+                format!("a {} {}{end}", told.number, told.page)
             }
         }
     }
@@ -211,6 +236,38 @@ fn careful_line(letter: char, told: Writes) -> String {
 /// The line of a mend.
 fn mend_line(told: Mended) -> String {
     line('m', told.number, &[told.page, told.cleared])
+}
+
+/// The fields of a report as numbers of 4 bytes, two for each of 8 bytes, the low one first.
+fn report_numbers(report: &Report) -> Vec<u32> {
+    let long = [report.cycles, report.near, report.weight];
+    let mut numbers: Vec<u32> = long
+        .iter()
+        .flat_map(|&number| [number as u32, (number >> 32) as u32])
+        .collect();
+    numbers.extend([report.limit as u32, report.greatest as u32]);
+    numbers.extend([report.has_greatest, report.margin, report.version]);
+    numbers.extend([report.knee, report.files]);
+    numbers
+}
+
+/// The end of a line with a report.
+fn report_end(report: &Report) -> String {
+    let Report {
+        cycles,
+        near,
+        weight,
+        limit,
+        greatest,
+        has_greatest,
+        margin,
+        version,
+        knee,
+        files,
+    } = report;
+    format!(
+        " {cycles} {near} {weight} {limit} {greatest} {has_greatest} {margin} {version} {knee} {files}\n"
+    )
 }
 
 /// A letter and numbers of 4 bytes, low byte first.

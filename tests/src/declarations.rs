@@ -116,6 +116,8 @@ fn c_type(text: &str) -> String {
     let known = match text {
         "u16" => "uint16_t",
         "u32" => "uint32_t",
+        "u64" => "uint64_t",
+        "i32" => "int32_t",
         "usize" => "size_t",
         "*const u8" => "const uint8_t *",
         "*mut u8" => "uint8_t *",
@@ -139,13 +141,13 @@ fn rust_item(text: &str) -> Item {
 }
 
 /// Adds the structs of a Rust or Rattle text, which are all laid out as C does: `#[repr(C)] .. pub struct NAME { .. }`.
-fn declare_structs(all: &mut Declarations, code: &str) {
+fn declare_structs(all: &mut Declarations, code: &str, read: impl Fn(&str) -> Item) {
     let marked = code.split("#[repr(C)]").skip(1);
     let structs = code.matches("pub struct ").count();
     assert_eq!(marked.clone().count(), structs, "structs marked #[repr(C)]");
     for text in marked {
         let (name, rest) = cut(cut(text, "pub struct ").1, "{");
-        let fields = items(cut(rest, "}").0, ',', rust_item);
+        let fields = items(cut(rest, "}").0, ',', &read);
         declare(all, &c_type(name.trim()), fields, None);
     }
 }
@@ -165,7 +167,7 @@ fn declare_function(all: &mut Declarations, text: &str, read: impl Fn(&str) -> V
 pub fn of_rust(text: &str) -> Declarations {
     let code = without_line_comments(text);
     let mut all = Declarations::new();
-    declare_structs(&mut all, &code);
+    declare_structs(&mut all, &code, rust_item);
     let blocks = code.matches("extern \"C\"").count();
     assert_eq!(blocks, 1, "blocks of functions of C");
     let block = cut(cut(&code, "extern \"C\" {").1, "}").0;
@@ -174,6 +176,18 @@ pub fn of_rust(text: &str) -> Declarations {
         declare_function(&mut all, text, |item| vec![rust_item(item)]);
     }
     all
+}
+
+/// A field in Rattle: whether a report has a greatest doubled peak has another name there.
+fn rattle_field(text: &str) -> Item {
+    let item = rust_item(text);
+    match item.name.as_deref() {
+        Some("found") => Item {
+            name: Some(String::from("has_greatest")),
+            ..item
+        },
+        _ => item,
+    }
 }
 
 /// A parameter in Rattle: a slice is a pointer and a length for C; page length and page count have other names there.
@@ -199,7 +213,7 @@ fn rattle_parameter(text: &str) -> Vec<Item> {
 /// What the Rattle sources export: the structs of one file, and the functions of another, `#[no_mangle] pub extern "C" fn ..`.
 pub fn of_rattle(structs: &str, functions: &str) -> Declarations {
     let mut all = Declarations::new();
-    declare_structs(&mut all, &without_line_comments(structs));
+    declare_structs(&mut all, &without_line_comments(structs), rattle_field);
     let code = words(&without_line_comments(functions));
     let exported = code.split("#[no_mangle] pub extern \"C\" fn ").skip(1);
     let marks = code.matches("extern \"C\"").count();

@@ -8,7 +8,7 @@
 //! `plans` works out what edits leave, `puts` has what puts are called with and what they meet, `write_orders` works out the page writes of careful
 //! edits, `stops` stops them after each, `trees` has small trees, `dumps` makes dumps and runs the program `list`, `c_programs` compiles and runs the C
 //! programs of `tests/c`, `c_calls` has the calls that one of them makes, `declarations` reads the header and what must agree with it,
-//! `directory_edits` makes and removes directories by one of the programs alone.
+//! `directory_edits` makes and removes directories by one of the programs alone, `reports` has count files and reports.
 
 pub mod agreed;
 pub mod both;
@@ -22,6 +22,7 @@ pub mod generators;
 pub mod library;
 pub mod plans;
 pub mod puts;
+pub mod reports;
 pub mod stops;
 pub mod trees;
 pub mod trials;
@@ -512,7 +513,7 @@ impl Tally {
 
     /// The numbers that a call answered, each with its count.
     pub fn numbers(&self, call: &str) -> Vec<(u32, u64)> {
-        let counted = (0..=22).map(|number| (number, self.count(&format!("{call} {number}"))));
+        let counted = (0..=25).map(|number| (number, self.count(&format!("{call} {number}"))));
         counted.filter(|(_, count)| *count > 0).collect()
     }
 }

@@ -1,7 +1,7 @@
 //! The library's calls, with their answers as the second program's types.
 
 use owfs::raw;
-use referee::{Answer, Length, Listing, Mended, Totals, Writes};
+use referee::{Added, Answer, Length, Listing, Mended, Report, Totals, Writes};
 
 pub use owfs::crc16;
 
@@ -167,5 +167,48 @@ pub fn mend(page_length: u32, page_count: u32, image: &mut [u8], owners: &mut [u
         number: told.number,
         page: told.page,
         cleared: told.cleared,
+    }
+}
+
+/// A report of the library.
+fn report(told: raw::Report) -> Report {
+    Report {
+        cycles: told.cycles,
+        near: told.near,
+        weight: told.weight,
+        limit: told.limit,
+        greatest: told.greatest,
+        has_greatest: told.has_greatest,
+        margin: told.margin,
+        version: told.version,
+        knee: told.knee,
+        files: told.files,
+    }
+}
+
+/// Starts a report.
+pub fn report_start(limit: i32, margin: u16) -> Report {
+    report(raw::report_start(limit, margin))
+}
+
+/// Adds a count file to a report.
+pub fn report_add(given: Report, file: &[u8]) -> Added {
+    let given = raw::Report {
+        cycles: given.cycles,
+        near: given.near,
+        weight: given.weight,
+        limit: given.limit,
+        greatest: given.greatest,
+        has_greatest: given.has_greatest,
+        margin: given.margin,
+        version: given.version,
+        knee: given.knee,
+        files: given.files,
+    };
+    let told = raw::report_add(given, file);
+    Added {
+        number: told.number,
+        page: told.page,
+        report: report(told.report),
     }
 }

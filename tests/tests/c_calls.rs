@@ -13,6 +13,7 @@ use common::generators::{
     damaged_case, fault_case, labelled_local, labelled_out_bytes, labelled_owner_bytes,
     labelled_position, random_directory_path, random_path, sound_case, Case, Made,
 };
+use common::reports::{forged_report, random_files, random_limit, random_margin};
 use common::trials::random_allowed;
 use common::{run_seeds, Button, Seed, Tally};
 use referee::builder::random::random_name;
@@ -192,6 +193,39 @@ fn check_sums_in_c_are_the_second_programs() {
     let output = caller.run(&image, &input, "calls");
     printed(&output, &expected);
     println!("bytes of stack: {}", stack_used(&output));
+}
+
+/// Reports in C: started, files added one after the other, and files added to reports that other hands have changed.
+#[test]
+fn reports_in_c_are_the_second_programs() {
+    let caller = Caller::new(folder(), "reports");
+    let none = Button::zeros(0, 0);
+    let image = caller.write_image("no.image", &none);
+    let mut tally = Tally::default();
+    let (mut input, mut expected) = (Vec::new(), String::new());
+    run_seeds(0x7200_0000..0x7200_0000 + 1_000, |seed, rng| {
+        let (limit, margin) = (random_limit(rng), random_margin(rng));
+        let mut calls = vec![Call::ReportStart { limit, margin }];
+        let mut report = match seed % 3 {
+            0 => forged_report(rng),
+            _ => referee::report_start(limit, margin),
+        };
+        for file in random_files(&report, rng, &mut tally) {
+            let next = referee::report_add(report, &file).report;
+            calls.push(Call::ReportAdd { report, file });
+            report = next;
+        }
+        for call in &calls {
+            let line = call.expected(&mut none.clone());
+            tally.add(line.split(' ').take(2).collect::<Vec<&str>>().join(" "));
+            input.extend(call.bytes());
+            expected += &line;
+        }
+    });
+    let output = caller.run(&image, &input, "calls");
+    printed(&output, &expected);
+    println!("bytes of stack: {}", stack_used(&output));
+    tally.demand_numbers("a", 500, [0, 24]);
 }
 
 /// What the example of firmware prints.

@@ -31,7 +31,7 @@ fn rattle() -> Declarations {
 }
 
 #[test]
-fn the_header_declares_twelve_functions_and_six_structs() {
+fn the_header_declares_fourteen_functions_and_eight_structs() {
     let declared = of_header(&header());
     let names: Vec<&str> = declared.keys().map(String::as_str).collect();
     let expected = [
@@ -47,27 +47,34 @@ fn the_header_declares_twelve_functions_and_six_structs() {
         "owfs_put",
         "owfs_read",
         "owfs_remove_directory",
+        "owfs_report_add",
+        "owfs_report_start",
+        "struct owfs_added",
         "struct owfs_answer",
         "struct owfs_entry",
         "struct owfs_length",
         "struct owfs_mended",
+        "struct owfs_report",
         "struct owfs_totals",
         "struct owfs_writes",
     ];
     assert_eq!(names, expected);
     let counts: Vec<usize> = declared.values().map(|one| one.items.len()).collect();
-    let functions = [9, 11, 6, 3, 8, 7, 7, 8, 6, 10, 10, 8];
-    let structs = [2, 9, 3, 3, 5, 4];
+    let functions = [9, 11, 6, 3, 8, 7, 7, 8, 6, 10, 10, 8, 3, 2];
+    let structs = [3, 2, 9, 3, 3, 10, 5, 4];
     assert_eq!(counts, [&functions[..], &structs].concat());
 }
 
-/// Each call but the check sum has its stack in its comment, and twice what its owner table needs; careful delete names careful put instead.
+/// Each call has its stack in its comment; all but the check sum and those of reports have twice what their owner table needs; careful delete names
+/// careful put instead.
 #[test]
 fn the_header_tells_stack_and_owner_table_of_each_call() {
     let text = header();
     let stack = "Stack: less than 16 KiB, for every page count,";
     assert_eq!(text.matches(stack).count(), 11);
-    assert_eq!(text.matches("Stack: ").count(), 12);
+    let stack_of_reports = "Stack: under 512 bytes";
+    assert_eq!(text.matches(stack_of_reports).count(), 2);
+    assert_eq!(text.matches("Stack: ").count(), 14);
     assert_eq!(text.matches("4 * page_count").count(), 2 * 10);
     assert_eq!(text.matches("2 * page_count").count(), 0);
 }
@@ -114,6 +121,17 @@ fn the_header_tells_the_refusals_of_directories_in_order() {
     }
 }
 
+/// Adding a file to a report has 24 in its table; no other call has it.
+#[test]
+fn the_header_tells_24_of_reports() {
+    let text = header();
+    let line = " *     24  count file malformed, or the report has 4,096 files      0\n";
+    assert_eq!(text.matches(" 24  ").count(), 1);
+    let end = text.find(" owfs_report_add(").expect("the call");
+    let comment = text[..end].rfind("/* ").expect("its comment");
+    assert!(text[comment..end].contains(line));
+}
+
 #[test]
 fn the_rust_declarations_are_the_headers() {
     let found = differences(&of_header(&header()), &rust());
@@ -127,7 +145,7 @@ fn the_rattle_exports_are_the_headers() {
 }
 
 /// Changes of the header, each with the start of a line that must tell it.
-const CHANGES: [(&str, &str, &str); 14] = [
+const CHANGES: [(&str, &str, &str); 18] = [
     (
         "uint32_t used;",
         "uint16_t used;",
@@ -181,6 +199,26 @@ const CHANGES: [(&str, &str, &str); 14] = [
         "owfs_delete(",
         "owfs_remove(",
         "owfs_delete: the header does not",
+    ),
+    (
+        "int32_t greatest;",
+        "uint32_t greatest;",
+        "struct owfs_report, item 4",
+    ),
+    (
+        "uint64_t near;",
+        "uint32_t near;",
+        "struct owfs_report, item 1",
+    ),
+    (
+        "uint16_t margin)",
+        "uint32_t margin)",
+        "owfs_report_start, item 1",
+    ),
+    (
+        "struct owfs_report report,",
+        "const struct owfs_report *report,",
+        "owfs_report_add, item 0",
     ),
 ];
 

@@ -1,16 +1,17 @@
 //! Every dump in `samples/` with the text that stands beside it.
 //!
 //! Programs: the second program in one test, the program `list` in another; both the second program and the library make the samples of a stopped put
-//! of a bad page and of a new directory, and judge those of owner stamps and of a hidden directory.
+//! of a bad page and of a new directory, judge those of owner stamps and of a hidden directory, and total the count files of those with counts.
 //! `rt check` and `rt ci` make `list`, `rt staticlib owfs` the archive.
 
 use std::fs;
 use std::path::{Path, PathBuf};
 
 use common::dumps::{dump, list_program};
-use common::{answer, chain_of, mended, no_writes, writes, Button, Tally};
+use common::reports::{add_all, count_file, count_file_with, totals};
+use common::{agreed, answer, chain_of, mended, no_writes, writes, Button, Tally};
 use referee::builder::pages::{path, Pages};
-use referee::list_text;
+use referee::{list_text, Report};
 
 /// A sample dump.
 fn sample(name: &str) -> Vec<u8> {
@@ -234,4 +235,63 @@ fn new_directories_are_made_and_an_empty_one_is_removed() {
     assert_eq!(button.remove_directory(b"BM01").0, answer(20, 0));
     assert_eq!(button.remove_directory(b"BM02").0, answer(0, 0));
     assert_eq!(button.read(&count), (0, b"Monday 12".to_vec()));
+}
+
+/// The sample with counts: LOAD.7, BOOM/LOAD.7, which has four bytes between its header and its rows, and BOOM/IDLE.7, which has no rows. NOTE.12 is no
+/// count file.
+#[test]
+fn count_files_are_totalled() {
+    let mut pages = Pages::new(32, 16);
+    let root = [
+        pages.local_control(&(0..6).collect::<Vec<usize>>()),
+        pages.entry("LOAD", 7, 1, 1),
+        pages.entry("NOTE", 12, 2, 1),
+        pages.entry("BOOM", 127, 3, 0),
+    ];
+    let boom = [
+        pages.sub_control("ROOT", 0),
+        pages.entry("LOAD", 7, 4, 1),
+        pages.entry("IDLE", 7, 5, 1),
+    ];
+    let load = count_file(&[(100, 200, 1_000), (-50, 300, 20), (250, 380, 3)]);
+    let boom_load = count_file_with(b"BOOM", &[(120, 610, 2), (300, 300, 1)]);
+    pages.packet(0, &root.concat(), 0).packet(1, &load, 0);
+    pages.packet(2, b"week 12", 0).packet(3, &boom.concat(), 0);
+    pages
+        .packet(4, &boom_load, 0)
+        .packet(5, &count_file(&[]), 0);
+    assert_eq!(dump(32, 16, 8, &pages.image), sample("counts.dump"));
+    let button = Button::from(&pages);
+    let paths = [
+        path(&[], "LOAD", 7),
+        path(&["BOOM"], "LOAD", 7),
+        path(&["BOOM"], "IDLE", 7),
+    ];
+    let start = agreed::report_start(900, 50);
+    let expected = Report {
+        cycles: 1_026,
+        near: 5,
+        greatest: 900,
+        has_greatest: 1,
+        files: 3,
+        ..start
+    };
+    let files = paths.map(|path| button.read(&path).1);
+    assert_eq!(totals(start, &files), expected);
+}
+
+/// The sample with a count file that was cut: LOAD.7 has two of its three rows and half of the last. The button is accepted, the file is 24.
+#[test]
+fn count_file_that_was_cut_is_24() {
+    let mut button = Button::formatted(32, 16, true);
+    let (load, pins) = (path(&[], "LOAD", 7), path(&[], "PINS", 8));
+    let whole = count_file(&[(100, 200, 1_000), (-50, 300, 20), (250, 380, 3)]);
+    assert_eq!(button.put(&load, &whole[..24]).0, answer(0, 0));
+    let row = count_file(&[(10, 20, 7)]);
+    assert_eq!(button.put(&pins, &row).0, answer(0, 0));
+    assert_eq!(dump(32, 16, 8, &button.image), sample("counts-cut.dump"));
+    let files = [load, pins].map(|path| button.read(&path).1);
+    let (told, numbers) = add_all(agreed::report_start(900, 50), &files);
+    assert_eq!(numbers, [24, 0]);
+    assert_eq!((told.files, told.cycles, told.greatest), (1, 7, 40));
 }

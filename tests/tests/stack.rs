@@ -1,5 +1,5 @@
 //! Every call on a stack of 16 KiB, for the largest images: 50,000 entries in one directory, directories nested to level eight, one file on all
-//! pages; some entries have stamps.
+//! pages; some entries have stamps. Reports with the longest count file.
 //!
 //! Programs: the library, by the C program `tests/c/calls.c`, which makes each call on a small stack above memory that may not be touched, and the second
 //! program, whose answers and lent bytes the C program must print. Small images and faults of every kind are in `c_calls.rs`, on the same stack.
@@ -12,9 +12,11 @@ use common::c_calls::{request, Call};
 use common::c_programs::{printed, stack_used, Caller, SMALL_STACK};
 use common::generators::{deep_shape, largest_image};
 use common::plans::geometry;
+use common::reports::{count_file_with, forged_report};
 use common::{table_bytes, Button};
 use referee::builder::plan::{Built, BuiltEntry};
 use referee::builder::random::{random_plan, Shape};
+use referee::report_start;
 use referee::rng::Rng;
 
 /// N of all images here.
@@ -32,7 +34,7 @@ fn owner_bytes(more: usize) -> usize {
 }
 
 /// Makes calls after each other on the small stack: each prints what the second program answers and leaves. Tells the stack that was used.
-fn on_small_stack(button: &Button, image: &Path, calls: &[Call], what: &str) {
+fn on_small_stack(button: &Button, image: &Path, calls: &[Call], what: &str) -> usize {
     let mut button = button.clone();
     let input: Vec<u8> = calls.iter().flat_map(Call::bytes).collect();
     let expected = calls.iter().map(|call| call.expected(&mut button));
@@ -42,6 +44,7 @@ fn on_small_stack(button: &Button, image: &Path, calls: &[Call], what: &str) {
     let used = stack_used(&output);
     println!("{what}: {used} bytes of stack");
     assert!(used < SMALL_STACK, "{what}");
+    used
 }
 
 /// The limit is a limit: what is lent can be used, and no byte more.
@@ -56,6 +59,39 @@ fn the_stack_is_limited() {
     assert!(more.status.code().is_none(), "{}", more.status);
     let much_more = caller().run(&image, &request(b's', &[900 * 1_024]), "much-more");
     assert!(much_more.status.code().is_none(), "{}", much_more.status);
+}
+
+/// The bytes of stack that the header promises for a call of reports.
+const REPORT_STACK: usize = 512;
+
+/// Reports are started, and the longest count file is added to them: whole, cut by a byte, and to reports that other hands have changed.
+#[test]
+fn reports_with_the_longest_file_run_on_a_small_stack() {
+    let rng = &mut Rng::new(0x57AC_0001);
+    let rows: Vec<(i16, u16, u32)> = (0..65_535)
+        .map(|_| {
+            (
+                rng.next_u64() as i16,
+                rng.next_u64() as u16,
+                rng.next_u64() as u32,
+            )
+        })
+        .collect();
+    let whole = count_file_with(&[0x5A; 65_531], &rows);
+    let mut calls = Vec::new();
+    for (limit, margin) in [(100_000, 65_535), (i32::MIN, 0), (i32::MAX, 1)] {
+        calls.push(Call::ReportStart { limit, margin });
+        for length in [whole.len(), whole.len() - 1, 0] {
+            for report in [report_start(limit, margin), forged_report(rng)] {
+                let file = whole[..length].to_vec();
+                calls.push(Call::ReportAdd { report, file });
+            }
+        }
+    }
+    let none = Button::zeros(0, 0);
+    let image = caller().write_image("reports.image", &none);
+    let used = on_small_stack(&none, &image, &calls, "reports");
+    assert!(used < REPORT_STACK, "{used} bytes of stack");
 }
 
 /// 50,000 entries in the root, and the file of the image for the C program.

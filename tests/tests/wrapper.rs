@@ -8,6 +8,7 @@ use common::generators::{
     labelled_position, random_directory_path, random_path, sound_case, Case, Wanted,
 };
 use common::plans::{is_directory_path, is_path};
+use common::reports::{random_files, random_limit, random_margin};
 use common::trials::random_allowed;
 use common::{run_seeds, Button, Tally};
 use owfs::{
@@ -385,6 +386,40 @@ fn entries_come_in_walk_order_with_their_paths() {
         }
     });
     assert!(entries > 2_000, "{entries} entries");
+}
+
+/// What a report tells, as the second program has it.
+fn demand_report(report: &owfs::Report, expected: &referee::Report) {
+    let greatest = (expected.has_greatest == 1).then_some(expected.greatest);
+    assert_eq!(report.greatest(), greatest);
+    assert_eq!(report.files(), expected.files);
+    assert_eq!(report.cycles(), expected.cycles);
+    assert_eq!(report.near_misses(), expected.near);
+    assert_eq!(report.limit(), expected.limit);
+    assert_eq!(report.margin(), expected.margin);
+}
+
+/// Reports with any limits, margins and files.
+#[test]
+fn reports_are_the_second_programs() {
+    let mut tally = Tally::default();
+    run_seeds(0xD300_0000..0xD300_0000 + 2_000, |_, rng| {
+        let (limit, margin) = (random_limit(rng), random_margin(rng));
+        let mut report = owfs::Report::start(limit, margin);
+        let mut expected = referee::report_start(limit, margin);
+        demand_report(&report, &expected);
+        for file in random_files(&expected, rng, &mut tally) {
+            let before = report;
+            let told = referee::report_add(expected, &file);
+            let done = report.add(&file);
+            assert_eq!(done, result(told.number, told.page, ()));
+            expected = told.report;
+            demand_report(&report, &expected);
+            assert!(done.is_ok() || report == before);
+            tally.add(format!("report add {}", told.number));
+        }
+    });
+    tally.demand_numbers("report add", 1_000, [0, 24]);
 }
 
 /// Names, extension numbers and numbers of directories make a path exactly if it is well formed.

@@ -6,3 +6,4 @@ pub mod CallLaws
 pub mod CarefulAnswers
 pub mod TreeLaws
 pub mod Telling
+pub mod ReportTelling

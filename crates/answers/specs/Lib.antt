@@ -1,2 +1,3 @@
 pub mod ExportedAnswers
 pub mod Small
+pub mod ExportedReports

@@ -1,4 +1,6 @@
 // What the exported calls answer: plain numbers of 32 bits.
+use reports::Added;
+use reports::Report;
 use rules::Checked;
 use rules::Edited;
 use rules::Halted;
@@ -9,6 +11,7 @@ ghost use mathlib.Core.Path.{_≡_};
 ghost use Rattle.rules.specs.Answers.{checkResult, editResult, lineResult, lengthResult, countResult, mendResult};
 ghost use Rattle.rules.specs.PageSets.{bit};
 ghost use Rattle.answers.specs.ExportedAnswers.{totalsFor, entryFor, lengthFor, answerFor, writesFor, mendedFor};
+ghost use Rattle.answers.specs.ExportedReports.{reportOf, reportFor, addedFor};
 ghost use Rattle.answers.specs.Small.{Small, TotalsSmall, LineSmall, LengthSmall, DoneSmall, WritesSmall};
 
 // What check answers: 0 and the totals, or the number of a refusal and its page.
@@ -66,6 +69,30 @@ pub struct OwfsMended {
     pub number: u32,
     pub page: u32,
     pub cleared: u32,
+}
+
+// A report: exact sums, limit and greatest peak, 1 if there is a greatest (else 0), margin; the number of files is the last. Weight, version and knee are 0.
+#[repr(C)]
+pub struct OwfsReport {
+    pub cycles: u64,
+    pub near: u64,
+    pub weight: u64,
+    pub limit: i32,
+    pub greatest: i32,
+    // has_greatest in C
+    pub found: u32,
+    pub margin: u32,
+    pub version: u32,
+    pub knee: u32,
+    pub files: u32,
+}
+
+// What adding a count file answers: 0 or the number of a refusal, page 0, and the report, after a refusal the one that was given.
+#[repr(C)]
+pub struct OwfsAdded {
+    pub number: u32,
+    pub page: u32,
+    pub report: OwfsReport,
 }
 
 // An answer of the check as the caller sees it.
@@ -201,6 +228,60 @@ pub fn tell_mended(answer: Mended) -> OwfsMended
             number: number as u32,
             page: page as u32,
             cleared: 0,
+        },
+    }
+}
+
+// A report as the caller sees it.
+pub fn tell_report(report: Report) -> OwfsReport
+    ensures { λ r. ⌜ r ≡ reportFor report ⌝ }
+{
+    OwfsReport {
+        cycles: report.cycles,
+        near: report.near,
+        weight: 0,
+        limit: report.limit,
+        greatest: report.greatest,
+        found: one_if(report.found),
+        margin: report.margin,
+        version: 0,
+        knee: 0,
+        files: report.files,
+    }
+}
+
+// The report that a caller hands over, whoever made it.
+pub fn report_of(told: OwfsReport) -> Report
+    ensures { λ r. ⌜ r ≡ reportOf told ⌝ }
+{
+    Report {
+        cycles: told.cycles,
+        near: told.near,
+        limit: told.limit,
+        greatest: told.greatest,
+        found: told.found != 0,
+        margin: told.margin,
+        files: told.files,
+    }
+}
+
+// An answer of adding a count file as the caller sees it; after a refusal with the report that was given.
+pub fn tell_added(answer: Added, given: OwfsReport) -> OwfsAdded
+    ensures { λ r. ⌜ r ≡ addedFor given answer ⌝ }
+{
+    match answer {
+        Added::Done(report) => {
+            let told = tell_report(report);
+            OwfsAdded {
+                number: 0,
+                page: 0,
+                report: told,
+            }
+        }
+        Added::Refused(refusal) => OwfsAdded {
+            number: refusal as u32,
+            page: 0,
+            report: given,
         },
     }
 }

@@ -1,16 +1,21 @@
 // The calls for C and Rust programs.
+use answers::OwfsAdded;
 use answers::OwfsAnswer;
 use answers::OwfsEntry;
 use answers::OwfsLength;
 use answers::OwfsMended;
+use answers::OwfsReport;
 use answers::OwfsTotals;
 use answers::OwfsWrites;
 ghost use mathlib.Core.Path.{_≡_};
+ghost use mathlib.Core.List.{[]};
 ghost use Rattle.crc16.specs.Crc16.{crc16};
 ghost use Rattle.rules.specs.Listing.{lineAt, linesOf};
 ghost use Rattle.rules.specs.Calls.{readBytes, lengthOf, filled};
 ghost use Rattle.rules.specs.Promises.{Accepts, TellsTree, Formats, Puts, Deletes, Makes, Removes};
 ghost use Rattle.rules.specs.CarefulPromises.{CarefullyPuts, CarefullyDeletes, Mends};
+ghost use Rattle.reports.specs.ReportPromises.{Tells, Adds};
+ghost use Rattle.answers.specs.ExportedReports.{reportOf, addedOf, startAnswer, addAnswer};
 ghost use Rattle.answers.specs.ExportedAnswers.{entryFor, lengthFor, answerFor, asksLocal, mendedFor, countTold, checkAnswer, listAnswer, readAnswer, formatAnswer, putAnswer, deleteAnswer};
 ghost use Rattle.answers.specs.ExportedAnswers.{makeAnswer, removeAnswer, carefulPutAnswer, carefulDeleteAnswer, mendAnswer};
 
@@ -184,4 +189,22 @@ pub extern "C" fn owfs_mend(
     ensures { λ r. ⌜ Mends size pages (now (image .entry)) (now (owners .entry)) (r .number ≡ 0) (λ x. r ≡ mendedFor x) (r .cleared) (now (image .exit)) ⌝ }
 {
     answers::tell_mended(mend::mend(image, size, pages, owners))
+}
+
+// Starts a report, empty, with its limit and margin.
+#[no_mangle]
+pub extern "C" fn owfs_report_start(limit: i32, margin: u16) -> OwfsReport
+    ensures { λ r. ⌜ r ≡ startAnswer limit margin ⌝ }
+    ensures { λ r. ⌜ Tells limit margin [] (reportOf r) ⌝ }
+{
+    answers::tell_report(reports::start(limit, margin))
+}
+
+// Adds a count file to a report, or refuses it and answers the report that was given.
+#[no_mangle]
+pub extern "C" fn owfs_report_add(report: OwfsReport, file: &[u8]) -> OwfsAdded
+    ensures { λ r. ⌜ r ≡ addAnswer report (now (file .entry)) ⌝ }
+    ensures { λ r. ⌜ Adds (reportOf report) (now (file .entry)) (addedOf r) ⌝ }
+{
+    answers::tell_added(reports::add(answers::report_of(report), file), report)
 }

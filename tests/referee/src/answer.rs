@@ -62,7 +62,7 @@ pub struct Mended {
     pub cleared: u32,
 }
 
-/// The refusals by name; the value of each is its number in document 01, from 20 up in document 02 (A1, A6).
+/// The refusals by name; the value of each is its number in document 01, from 20 up in document 02 (A1, A6, A11).
 #[derive(Clone, Copy, Debug, PartialEq, Eq)]
 pub(crate) enum Fault {
     Arguments = 1,
@@ -87,6 +87,7 @@ pub(crate) enum Fault {
     NotEmpty = 20,
     AlreadyThere = 21,
     Hidden = 22,
+    CountFile = 24,
 }
 
 impl Fault {
