@@ -316,18 +316,18 @@ struct owfs_mended {
  * Stack: less than 16 KiB, for every page count, however many entries a directory has. */
 struct owfs_mended owfs_mend(uint32_t page_length, uint32_t page_count, uint8_t *image, size_t image_length, uint8_t *owners, size_t owners_length);
 
-/* A report on count files: what has been totalled so far. owfs_report_start makes one, owfs_report_add tells the next; nothing else should change a
- * field. It holds no pointer, and a copy of it is a report of its own. */
+/* A report on count files: what has been totalled so far. owfs_report_start or owfs_report_start_weighted makes one, owfs_report_add tells the next;
+ * nothing else should change a field. It holds no pointer, and a copy of it is a report of its own. */
 struct owfs_report {
     uint64_t cycles;        /* the cycles of all rows of the files counted */
     uint64_t near;          /* near misses: the cycles of all rows whose doubled peak is below the limit by no more than the margin */
-    uint64_t weight;        /* 0 in a report without weight */
+    uint64_t weight;        /* the sum over all rows of cycles times weight, in version 2 times K squared; 0 in a report without weight */
     int32_t limit;
     int32_t greatest;       /* the greatest doubled peak of a row, 0 while there is none */
     uint32_t has_greatest;  /* 1 if there is a greatest doubled peak, else 0 */
     uint32_t margin;        /* 0 to 65,535 */
-    uint32_t version;       /* 0 in a report without weight */
-    uint32_t knee;          /* 0 in a report without weight */
+    uint32_t version;       /* 0 in a report without weight, else 1 or 2; 0xFFFFFFFF if another was asked for */
+    uint32_t knee;          /* K, which only version 2 looks at; 0 in a report without weight */
     uint32_t files;         /* the files counted, at most 4,096 */
 };
 
@@ -335,6 +335,18 @@ struct owfs_report {
  * there is no greatest doubled peak.
  * Stack: under 512 bytes. */
 struct owfs_report owfs_report_start(int32_t limit, uint16_t margin);
+
+/* Starts a report with a weight: empty, with its limit, its margin, its version and its K. Any numbers are taken, and nothing is refused.
+ *
+ * version  what a cycle of a row weighs
+ *       1  the cube of the range; the K that is given is kept and not looked at
+ *       2  the cube of the range at and above K, below it the fifth power divided by K squared; the sum is carried times K squared, so that it is
+ *          whole: a cycle adds the cube times K squared, or the fifth power; K is 1 to 1,000
+ *   other  a version that no report has: it is kept as 0xFFFFFFFF with K 0
+ *
+ * With another version than 1 and 2, 0 among them, and with a K of version 2 out of its limits, owfs_report_add answers 25 for every well-formed file.
+ * Stack: under 512 bytes. */
+struct owfs_report owfs_report_start_weighted(int32_t limit, uint16_t margin, uint32_t version, uint32_t knee);
 
 /* What adding a file answers: number 0, page 0 and the new report, or a refusal's number and page 0 with the report as it was given. */
 struct owfs_added {
@@ -351,14 +363,19 @@ struct owfs_added {
  * number  meaning, in the order in which it is judged              page
  *      0  done                                                     0
  *     24  count file malformed, or the report has 4,096 files      0
+ *     25  only for a report with a weight: a range above 1,000,    0
+ *         version neither 1 nor 2, version 2's K not 1 to 1,000,
+ *         or the weighted sum past 64 bits
  *
  * After 0 `files` is one more, `cycles` has grown by the cycles of all rows, `near` by the cycles of the rows whose doubled peak is below the limit by
  * no more than the margin, which are none at the limit and none with a margin of 0, and `greatest` is the greatest doubled peak of all rows so far,
- * rows of 0 cycles too; while no file had a row, `has_greatest` is 0. A refusal adds nothing: the report is as if the file had not been given. For up
- * to 4,096 well-formed files their order changes no field.
- * No sum passes 64 bits in a report that only these calls have changed. Any other is taken too: 24 if `cycles` or `near` would pass 64 bits or `files`
- * is above 4,096; any `has_greatest` but 0 means that there is a greatest, and after 0 it is 0 or 1; `greatest` beside a 0 says nothing; a margin above
- * 65,535 is taken as it is. Any arguments are taken.
+ * rows of 0 cycles too; while no file had a row, `has_greatest` is 0. In a report with a weight, `weight` has grown by the cycles times weight of all
+ * rows. A refusal adds nothing: the report is as if the file had not been given. For up to 4,096 well-formed files, of which none gets 25, their order
+ * changes no field; it may decide which file would bring the weighted sum past 64 bits.
+ * A range above 1,000 is 25 in a row of 0 cycles too, and so are a version other than 1 and 2 and a version 2 K that is not 1 to 1,000, for a file without rows too.
+ * `cycles` and `near` do not pass 64 bits in a report that only these calls have changed. Any other is taken too: 24 if `cycles` or `near` would pass
+ * 64 bits or `files` is above 4,096; any `has_greatest` but 0 means that there is a greatest, and after 0 it is 0 or 1; `greatest` beside a 0 says
+ * nothing; a margin above 65,535 is taken as it is; beside version 0 `knee` is 0 after 0 and `weight` stays. Any arguments are taken.
  * Stack: under 512 bytes, however many rows the file has. */
 struct owfs_added owfs_report_add(struct owfs_report report, const uint8_t *file, size_t length);
 

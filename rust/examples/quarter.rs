@@ -3,8 +3,9 @@
 //!     rt staticlib owfs
 //!     cargo run --offline --manifest-path rust/Cargo.toml --example quarter -- 900 50 7,8 samples/counts.dump samples/counts-cut.dump
 //!
-//! The arguments are the report's limit and margin, the extension numbers that are count files, with commas between them, then the dumps. A file of
-//! such an extension is added wherever it stands, below hidden directories too.
+//! The arguments are the report's limit and margin, its weight if it has one, the extension numbers that are count files, with commas between them, then
+//! the dumps. The weight is `v1` for version 1, or `v2:300` for version 2 with the knee 300. A file of such an extension is added wherever it stands,
+//! below hidden directories too.
 //!
 //! A file that is refused and a dump that is refused are named on standard error. The totals are then headed `incomplete`, and the status is 1: no count
 //! is left out without a word.
@@ -13,13 +14,13 @@ use std::env;
 use std::fs;
 use std::process::ExitCode;
 
-use owfs::{entries, owner_table, read_to_vec, Geometry, Listed, Refusal, Report};
+use owfs::{entries, owner_table, read_to_vec, Geometry, Listed, Refusal, Report, Weighting};
 
 /// The bytes of a dump's header: page length (2), page count (2), offset of page 0 (4), low byte first.
 const HEADER: usize = 8;
 
 /// What stands on standard error if the arguments are not as above.
-const USAGE: &str = "arguments: limit, margin, extension numbers with commas between them, dumps\n";
+const USAGE: &str = "arguments: limit, margin, v1 or v2:K if the report has a weight, extension numbers with commas between them, dumps\n";
 
 /// A dump that is malformed, as `list` tells it.
 const MALFORMED: Refusal = Refusal {
@@ -41,11 +42,16 @@ fn number(bytes: &[u8]) -> u32 {
     high_first.fold(0, |number, &byte| number << 8 | u32::from(byte))
 }
 
-/// The geometry and the image of a dump; none if there is no header, or no image at its offset.
+/// The greatest offset of page 0, and the most bytes of an image, that `list` takes.
+const MOST: usize = 32_768;
+
+/// The geometry and the image of a dump; none if it is malformed as `list` says: no whole header, an offset out of its limits, a longer image.
 fn parts(dump: &[u8]) -> Option<(Geometry, &[u8])> {
     let header = dump.get(..HEADER)?;
     let offset = number(&header[4..8]) as usize;
-    let image = dump.get(offset..).filter(|_| offset >= HEADER)?;
+    let image = dump
+        .get(offset..)
+        .filter(|image| offset >= HEADER && offset <= MOST && image.len() <= MOST)?;
     let geometry = Geometry::new(number(&header[..2]), number(&header[2..4]));
     Some((geometry, image))
 }
@@ -78,6 +84,7 @@ impl Quarter {
         let (geometry, image) = parts(dump).ok_or(MALFORMED)?;
         let mut owners = owner_table(geometry.page_count);
         let all: Result<Vec<Listed>, Refusal> = entries(geometry, image, &mut owners).collect();
+        let mut files = Vec::new();
         for listed in all? {
             let path = listed
                 .path()
@@ -86,8 +93,11 @@ impl Quarter {
                 continue;
             };
             let file = read_to_vec(geometry, image, &path, &mut owners)?;
-            if let Err(refusal) = self.report.add(&file) {
-                let (file, number) = (words(&listed), refusal.number);
+            files.push((words(&listed), file));
+        }
+        for (file, bytes) in files {
+            if let Err(refusal) = self.report.add(&bytes) {
+                let number = refusal.number;
                 self.left_out
                     .push(format!("{name}: file {file} refused {number}"));
             }
@@ -106,8 +116,16 @@ impl Quarter {
             Some(peak) => format!("greatest doubled peak {peak}"),
             None => String::from("no greatest doubled peak"),
         };
+        let weight = match report.weighting() {
+            None => String::new(),
+            Some(Weighting::Version1) => format!("weight {} version 1\n", report.weight()),
+            Some(Weighting::Version2 { knee }) => {
+                let weight = report.weight();
+                format!("weight {weight} version 2 knee {knee} times knee squared\n")
+            }
+        };
         format!(
-            "{heading}dumps {} count files {}\ncycles {}\n{greatest}\nnear misses {} limit {} margin {}\n",
+            "{heading}dumps {} count files {}\ncycles {}\n{greatest}\nnear misses {} limit {} margin {}\n{weight}",
             self.dumps,
             report.files(),
             report.cycles(),
@@ -123,11 +141,24 @@ fn extension(text: &str) -> Option<u8> {
     text.parse().ok().filter(|&number| number <= 99)
 }
 
+/// The weight that an argument names; none if it names none.
+fn weighting(text: &str) -> Option<Weighting> {
+    if text == "v1" {
+        return Some(Weighting::Version1);
+    }
+    let knee = text.strip_prefix("v2:")?.parse().ok()?;
+    Some(Weighting::Version2 { knee })
+}
+
 /// The report that the arguments ask for, with nothing added yet, and the dumps; none if they are not as above.
 fn asked(arguments: &[String]) -> Option<(Quarter, &[String])> {
     let (limit, rest) = arguments.split_first()?;
     let (margin, rest) = rest.split_first()?;
-    let report = Report::start(limit.parse().ok()?, margin.parse().ok()?);
+    let (limit, margin) = (limit.parse().ok()?, margin.parse().ok()?);
+    let (report, rest) = match rest.first().and_then(|text| weighting(text)) {
+        Some(weighting) => (Report::start_weighted(limit, margin, weighting), &rest[1..]),
+        None => (Report::start(limit, margin), rest),
+    };
     let (extensions, dumps) = rest.split_first().filter(|(_, dumps)| !dumps.is_empty())?;
     let extensions: Option<Vec<u8>> = extensions.split(',').map(extension).collect();
     let quarter = Quarter {

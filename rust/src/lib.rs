@@ -53,4 +53,4 @@ pub use entry::{entries, Entries, Entry, Kind, Listed};
 pub use owners::{owner_of, owner_table, Owner, Record};
 pub use path::{directory_path, path, Name, PathError};
 pub use refusal::{Reason, Refusal};
-pub use report::Report;
+pub use report::{Report, Weighting};

@@ -1,4 +1,4 @@
-//! The twelve functions of `include/owfs.h` over slices, with the answers as C has them: number and page beside every other field.
+//! The fifteen functions of `include/owfs.h` over slices, with the answers as C has them: number and page beside every other field.
 //!
 //! This is the only module with unsafe code. The functions of the crate's root are made of these and are what most callers want; these are for
 //! those who compare whole answers, the fields of a refusal too.
@@ -101,7 +101,7 @@ pub struct Report {
     pub cycles: u64,
     /// The near misses: the cycles of the rows whose doubled peak is below the limit by no more than the margin.
     pub near: u64,
-    /// 0.
+    /// The weighted sum, 0 in a report without weight; that of version 2 is carried times K squared.
     pub weight: u64,
     /// The limit.
     pub limit: i32,
@@ -111,9 +111,9 @@ pub struct Report {
     pub has_greatest: u32,
     /// The margin, 0 to 65,535.
     pub margin: u32,
-    /// 0.
+    /// 0 in a report without weight, 1 or 2 in one that carries that version; any other number is a version that no report has.
     pub version: u32,
-    /// 0.
+    /// K, which only version 2 looks at; 0 in a report without weight.
     pub knee: u32,
     /// The files counted, 0 to 4,096.
     pub files: u32,
@@ -258,6 +258,8 @@ extern "C" {
     ) -> Mended;
 
     fn owfs_report_start(limit: i32, margin: u16) -> Report;
+
+    fn owfs_report_start_weighted(limit: i32, margin: u16, version: u32, knee: u32) -> Report;
 
     fn owfs_report_add(report: Report, file: *const u8, length: usize) -> Added;
 }
@@ -520,6 +522,12 @@ pub fn mend(page_length: u32, page_count: u32, image: &mut [u8], owners: &mut [u
 pub fn report_start(limit: i32, margin: u16) -> Report {
     // SAFETY: any numbers are taken.
     unsafe { owfs_report_start(limit, margin) }
+}
+
+/// [`crate::Report::start_weighted`] with the whole report: any version but 1 and 2 is kept as 0xFFFFFFFF with K 0.
+pub fn report_start_weighted(limit: i32, margin: u16, version: u32, knee: u32) -> Report {
+    // SAFETY: any numbers are taken.
+    unsafe { owfs_report_start_weighted(limit, margin, version, knee) }
 }
 
 /// [`crate::Report::add`] with the whole answer.

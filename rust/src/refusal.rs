@@ -16,7 +16,7 @@ use std::fmt;
 /// ```
 #[derive(Clone, Copy, Debug, PartialEq, Eq, Hash)]
 pub struct Refusal {
-    /// The number, 1 to 18, 20 to 22 or 24.
+    /// The number, 1 to 18, 20 to 22, 24 or 25.
     pub number: u32,
     /// The page, as the reason's description says; 0 if it tells none.
     pub page: u32,
@@ -69,12 +69,14 @@ pub enum Reason {
     Hidden,
     /// 24: count file is malformed, or the report has 4,096 files. No page.
     CountFile,
+    /// 25: a range is above 1,000, the version is neither 1 nor 2, version 2's K is not 1 to 1,000, or the weighted sum would pass 64 bits. No page.
+    Weight,
     /// Any other number; no call is refused with one.
     Other(u32),
 }
 
 /// The reasons with their numbers; 19 is the program `list`'s, 23 is no call's.
-const REASONS: [(u32, Reason); 22] = [
+const REASONS: [(u32, Reason); 23] = [
     (1, Reason::Arguments),
     (2, Reason::Packet),
     (3, Reason::Marker),
@@ -97,6 +99,7 @@ const REASONS: [(u32, Reason); 22] = [
     (21, Reason::AlreadyThere),
     (22, Reason::Hidden),
     (24, Reason::CountFile),
+    (25, Reason::Weight),
 ];
 
 impl Refusal {
@@ -160,6 +163,9 @@ impl Reason {
             Reason::AlreadyThere => "a directory of that name is already there",
             Reason::Hidden => "a directory on the path is hidden",
             Reason::CountFile => "count file is malformed, or the report has 4,096 files",
+            Reason::Weight => {
+                "range above 1,000, version neither 1 nor 2, K not 1 to 1,000, or weighted sum past 64 bits"
+            }
             Reason::Other(_) => "reason is not known",
         }
     }
@@ -179,6 +185,7 @@ impl Reason {
                 | Reason::AlreadyThere
                 | Reason::Hidden
                 | Reason::CountFile
+                | Reason::Weight
         )
     }
 }
@@ -213,7 +220,7 @@ mod tests {
             assert_eq!(reason.number(), number);
             assert_eq!(u32::from(reason), number);
         }
-        for number in [0, 19, 23, 25, 256, 276, 277, 278, 280, u32::MAX] {
+        for number in [0, 19, 23, 26, 256, 276, 277, 278, 280, 281, u32::MAX] {
             assert_eq!(Reason::from(number), Reason::Other(number));
             assert_eq!(Reason::Other(number).number(), number);
         }
@@ -232,6 +239,7 @@ mod tests {
             (21, Reason::AlreadyThere),
             (22, Reason::Hidden),
             (24, Reason::CountFile),
+            (25, Reason::Weight),
         ];
         for (number, reason) in known {
             assert_eq!(reason.number(), number);
@@ -268,6 +276,10 @@ mod tests {
         assert_eq!(
             text(24, 0),
             "count file is malformed, or the report has 4,096 files (refusal 24)"
+        );
+        assert_eq!(
+            text(25, 0),
+            "range above 1,000, version neither 1 nor 2, K not 1 to 1,000, or weighted sum past 64 bits (refusal 25)"
         );
     }
 }

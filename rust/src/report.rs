@@ -4,7 +4,21 @@ use crate::calls::done;
 use crate::raw;
 use crate::refusal::Refusal;
 
-/// A report: the totals of the count files that were added to it. Only [`Report::start`] and [`Report::add`] make and change one.
+/// How a report weighs a cycle of a row.
+#[derive(Clone, Copy, Debug, PartialEq, Eq, Hash)]
+pub enum Weighting {
+    /// Version 1: by the cube of the range.
+    Version1,
+    /// Version 2: by the cube of the range at and above the knee K, below it by the fifth power divided by K squared. The sum is carried times K squared,
+    /// so that it is whole.
+    Version2 {
+        /// K, 1 to 1,000. Any other is taken too, and every well-formed file is then refused with 25.
+        knee: u32,
+    },
+}
+
+/// A report: the totals of the count files that were added to it. Only [`Report::start`], [`Report::start_weighted`] and [`Report::add`] make and
+/// change one.
 ///
 /// A count file has a header of two numbers of 16 bits, row count and offset of the first row, then rows of eight bytes: mean stress (signed 16 bits),
 /// range (unsigned 16) and cycles (unsigned 32), low byte first. The offset is at least 4 and, plus eight for each row, is the file's length; bytes
@@ -38,18 +52,47 @@ pub struct Report {
 }
 
 impl Report {
-    /// An empty report with its limit and margin.
+    /// An empty report without weight, with its limit and margin.
     pub fn start(limit: i32, margin: u16) -> Report {
         Report {
             told: raw::report_start(limit, margin),
         }
     }
 
-    /// Adds a count file. After a refusal the report is as before. For up to 4,096 files that are added their order changes nothing.
+    /// An empty report that carries a weight, with its limit and margin. Nothing is refused here.
+    ///
+    /// ```
+    /// use owfs::{Report, Weighting};
+    ///
+    /// // One row: mean 0, range 9, 2 cycles.
+    /// let file = [1, 0, 4, 0, 0, 0, 9, 0, 2, 0, 0, 0];
+    /// let mut report = Report::start_weighted(900, 50, Weighting::Version1);
+    /// report.add(&file)?;
+    /// assert_eq!(report.weight(), 2 * 9 * 9 * 9);
+    ///
+    /// // Below the knee the fifth power divided by K squared, and the sum times K squared.
+    /// let mut report = Report::start_weighted(900, 50, Weighting::Version2 { knee: 10 });
+    /// report.add(&file)?;
+    /// assert_eq!(report.weight(), 2 * 9 * 9 * 9 * 9 * 9);
+    /// # Ok::<(), owfs::Refusal>(())
+    /// ```
+    pub fn start_weighted(limit: i32, margin: u16, weighting: Weighting) -> Report {
+        let (version, knee) = match weighting {
+            Weighting::Version1 => (1, 0),
+            Weighting::Version2 { knee } => (2, knee),
+        };
+        Report {
+            told: raw::report_start_weighted(limit, margin, version, knee),
+        }
+    }
+
+    /// Adds a count file. After a refusal the report is as before. For up to 4,096 files that are added their order changes nothing; in a report with a
+    /// weight it may decide which file would bring the weighted sum past 64 bits and is refused.
     ///
     /// # Errors
     ///
-    /// 24 if the file is malformed or the report has 4,096 files already.
+    /// 24 if the file is malformed or the report has 4,096 files already; then, only in a report with a weight, 25 if a range is above 1,000, also of a
+    /// row of 0 cycles, if version 2's K is not 1 to 1,000, or if the weighted sum would pass 64 bits.
     pub fn add(&mut self, file: &[u8]) -> Result<(), Refusal> {
         let added = raw::report_add(self.told, file);
         done(added.number, added.page)?;
@@ -85,5 +128,21 @@ impl Report {
     /// The near misses.
     pub fn near_misses(&self) -> u64 {
         self.told.near
+    }
+
+    /// The weight that the report carries; none if it is without weight. A report of this type has no other version than 1 and 2.
+    pub fn weighting(&self) -> Option<Weighting> {
+        match self.told.version {
+            1 => Some(Weighting::Version1),
+            2 => Some(Weighting::Version2 {
+                knee: self.told.knee,
+            }),
+            _ => None,
+        }
+    }
+
+    /// The sum over all rows of cycles times weight, 0 in a report without weight; that of version 2 is carried times K squared.
+    pub fn weight(&self) -> u64 {
+        self.told.weight
     }
 }

@@ -131,10 +131,50 @@ fn refused_dumps_are_named_and_the_totals_are_incomplete() {
     assert_eq!(lines[4], "in-progress.dump: refused 5 page 0");
 }
 
+/// The weighted sums of the sample, as `docs/OFFICE.md` works them out by hand.
+#[test]
+fn weighted_reports_name_their_version() {
+    let totals = "dumps 1 count files 3\n\
+                  cycles 1026\n\
+                  greatest doubled peak 900\n\
+                  near misses 5 limit 900 margin 50\n";
+    let version_1 = format!("{totals}weight 9185578000 version 1\n");
+    demand(&["900", "50", "v1", "7", "counts.dump"], 0, &version_1, "");
+    let version_2 =
+        format!("{totals}weight 426702020000000 version 2 knee 300 times knee squared\n");
+    demand(
+        &["900", "50", "v2:300", "7", "counts.dump"],
+        0,
+        &version_2,
+        "",
+    );
+}
+
+/// A knee out of its limits: no file is added, each is named.
+#[test]
+fn file_that_cannot_be_weighed_is_named() {
+    for knee in ["0", "1001", "65543", "4000000000"] {
+        let weight = format!("v2:{knee}");
+        let totals = format!(
+            "incomplete: left out 2\n\
+             dumps 1 count files 0\n\
+             cycles 0\n\
+             no greatest doubled peak\n\
+             near misses 0 limit 900 margin 50\n\
+             weight 0 version 2 knee {knee} times knee squared\n"
+        );
+        let said = "counts-cut.dump: file LOAD.007 refused 24\n\
+                    counts-cut.dump: file PINS.008 refused 25\n";
+        let arguments = ["900", "50", &weight, "7,8", "counts-cut.dump"];
+        demand(&arguments, 1, &totals, said);
+    }
+}
+
 /// Numbers that do not fit and arguments that are missing.
 #[test]
 fn other_arguments_are_none() {
-    let usage = "arguments: limit, margin, extension numbers with commas between them, dumps\n";
+    let usage = "arguments: limit, margin, v1 or v2:K if the report has a weight, \
+                 extension numbers with commas between them, dumps\n";
     for arguments in [
         &[][..],
         &["900", "50", "7"],
@@ -144,6 +184,11 @@ fn other_arguments_are_none() {
         &["900", "50", "100", "counts.dump"],
         &["900", "50", "7,", "counts.dump"],
         &["900", "50", "counts.dump", "counts.dump"],
+        &["900", "50", "v1", "7"],
+        &["900", "50", "v3", "7", "counts.dump"],
+        &["900", "50", "v2", "7", "counts.dump"],
+        &["900", "50", "v2:4294967296", "7", "counts.dump"],
+        &["900", "50", "v1", "v1", "7", "counts.dump"],
     ] {
         demand(arguments, 2, "", usage);
     }

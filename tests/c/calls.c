@@ -17,14 +17,14 @@
  *   x  bytes of the owner table, bytes of the path, then the path of the directory to remove
  *   k  start of the check sum, number of bytes, then the bytes
  *   t  limit and margin of a report to start
+ *   w  limit, margin, version and K of a report with a weight to start
  *   a  a report, each field of 8 bytes as two numbers, the low one first, then bytes of the count file, then the count file
  *   s  bytes of stack to use in blocks of 1,024, to show that the limit of the stack holds
  *
  * For each call it prints the letter and the fields of the answer, then a line with the owner table, for `r` one with the output and for `f`, `p`,
- * `d`, `P`, `D`, `m`, `n` and `x` one with the image, in hexadecimal; for `k`, `t`, `a` and `s` the first line alone. The calls after an edit have the image
- * as it left it.
- * Owner table and output hold the byte C7 before each call. A slice of no bytes has no address. In the end it tells on standard error the most bytes
- * of stack that a call has used.
+ * `d`, `P`, `D`, `m`, `n` and `x` one with the image, in hexadecimal; for `k`, `t`, `w`, `a` and `s` the first line alone. The calls after an edit have
+ * the image as it left it. Owner table and output hold the byte C7 before each call. A slice of no bytes has no address. In the end it tells on
+ * standard error the most bytes of stack that a call has used.
  * It ends with 1 if a call changed the path, the file's bytes, bytes next to a lent slice, or the image where it must not (c, l, r and every
  * refusal), with 2 if its input is not as above, and by a signal if a call needs more stack.
  */
@@ -63,9 +63,9 @@ static struct lent image;
 static uint32_t page_length, page_count;
 
 /* What the next call is lent besides the image, and its number: position, kind of bitmap, writes allowed, start of the check sum, or limit of a report;
- * the margin of a report to start, or the report to add a file to. */
+ * margin, version and K of a report to start, or the report to add a file to. */
 static struct lent owners, path, file, out;
-static uint32_t argument, margin;
+static uint32_t argument, margin, version, knee;
 static struct owfs_report report;
 
 /* Its answer. */
@@ -243,6 +243,11 @@ static void make_sum(void)
 static void make_report(void)
 {
     report = owfs_report_start((int32_t)argument, (uint16_t)margin);
+}
+
+static void make_weighted_report(void)
+{
+    report = owfs_report_start_weighted((int32_t)argument, (uint16_t)margin, version, knee);
 }
 
 static void make_add(void)
@@ -485,6 +490,18 @@ static void call_report(void)
     print_report(&report);
 }
 
+/* w: a report with a weight that is started. */
+static void call_weighted_report(void)
+{
+    argument = number(stdin);
+    margin = number(stdin);
+    version = number(stdin);
+    knee = number(stdin);
+    make(make_weighted_report);
+    printf("w");
+    print_report(&report);
+}
+
 /* a: a file that is added to a report. */
 static void call_add(void)
 {
@@ -539,6 +556,7 @@ int main(int count, char **arguments)
         case 'x': call_remove_directory(); break;
         case 'k': call_sum(); break;
         case 't': call_report(); break;
+        case 'w': call_weighted_report(); break;
         case 'a': call_add(); break;
         case 's': call_stack(); break;
         default: wrong_input("no such call");

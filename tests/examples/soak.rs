@@ -24,7 +24,8 @@ use common::generators::{
 use common::plans::{formatted_plan, geometry, may_be_local};
 use common::puts::used_plan;
 use common::reports::{
-    add_all, count_numbers, forged_report, in_any_order, random_files, random_limit, random_margin,
+    add_all, count_numbers, forged_weighted_report, in_any_order, random_files, random_limit,
+    random_margin, random_weight, weighed_files,
 };
 use common::trials::Trial;
 use common::{agreed, Button, Tally};
@@ -224,16 +225,24 @@ impl Soak {
         agreed::crc16(rng.next_u64() as u16, &rng.bytes(length));
     }
 
-    /// Reports on count files: one that only the calls change, with its files in several orders, and one that other hands have changed.
+    /// Reports on count files: without weight and with one, each with its files in several orders, and one that other hands have changed.
     fn reports(&mut self, rng: &mut Rng) {
         let (limit, margin) = (random_limit(rng), random_margin(rng));
         self.begin("report", &format!(", limit {limit}, margin {margin}"));
         let start = agreed::report_start(limit, margin);
         let files = random_files(&start, rng, &mut self.calls);
         in_any_order(start, &files, rng, &mut self.calls);
+        let (version, knee) = random_weight(rng);
+        self.begin(
+            "report with a weight",
+            &format!(", version {version}, K {knee}"),
+        );
+        let start = agreed::report_start_weighted(limit, margin, version, knee);
+        let files = weighed_files(&start, rng, &mut self.calls);
+        in_any_order(start, &files, rng, &mut self.calls);
         self.begin("forged report", "");
-        let forged = forged_report(rng);
-        let files = random_files(&forged, rng, &mut self.calls);
+        let forged = forged_weighted_report(rng);
+        let files = weighed_files(&forged, rng, &mut self.calls);
         count_numbers(&add_all(forged, &files).1, &mut self.calls);
     }
 

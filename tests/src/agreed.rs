@@ -387,6 +387,15 @@ pub fn report_start(limit: i32, margin: u16) -> Report {
     )
 }
 
+/// Starts a report that carries a version with its K.
+pub fn report_start_weighted(limit: i32, margin: u16, version: u32, knee: u32) -> Report {
+    equal(
+        format_args!("report, limit {limit}, margin {margin}, version {version}, knee {knee}"),
+        library::report_start_weighted(limit, margin, version, knee),
+        referee::report_start_weighted(limit, margin, version, knee),
+    )
+}
+
 /// Adds a count file to a report; a refusal tells page 0 and leaves the report as it was given.
 pub fn report_add(report: Report, file: &[u8]) -> Added {
     let bytes = file.len();

@@ -56,6 +56,12 @@ pub enum Call {
         limit: i32,
         margin: u16,
     },
+    ReportStartWeighted {
+        limit: i32,
+        margin: u16,
+        version: u32,
+        knee: u32,
+    },
     ReportAdd {
         report: Report,
         file: Vec<u8>,
@@ -77,7 +83,9 @@ impl Call {
             | Call::MakeDirectory { owner_bytes, .. }
             | Call::RemoveDirectory { owner_bytes, .. }
             | Call::Mend { owner_bytes } => *owner_bytes,
-            Call::ReportStart { .. } | Call::ReportAdd { .. } => 0,
+            Call::ReportStart { .. }
+            | Call::ReportStartWeighted { .. }
+            | Call::ReportAdd { .. } => 0,
         }
     }
 
@@ -136,6 +144,12 @@ impl Call {
             Call::ReportStart { limit, margin } => {
                 request(b't', &[limit as u32, u32::from(margin)])
             }
+            Call::ReportStartWeighted {
+                limit,
+                margin,
+                version,
+                knee,
+            } => request(b'w', &[limit as u32, u32::from(margin), version, knee]),
             Call::ReportAdd { ref report, .. } => {
                 request(b'a', &[&report_numbers(report)[..], &[file]].concat())
             }
@@ -149,7 +163,9 @@ impl Call {
         let mut out = vec![BEFORE; self.out_bytes()];
         let first = self.answer_line(button, &mut owners, &mut out);
         let last = match self {
-            Call::ReportStart { .. } | Call::ReportAdd { .. } => return first,
+            Call::ReportStart { .. }
+            | Call::ReportStartWeighted { .. }
+            | Call::ReportAdd { .. } => return first,
             Call::Check { .. } | Call::List { .. } => String::new(),
             Call::Read { .. } => hex(&out),
             _ => hex(&button.image),
@@ -187,6 +203,15 @@ impl Call {
             }
             Call::ReportStart { limit, margin } => {
                 format!("t{}", report_end(&referee::report_start(limit, margin)))
+            }
+            Call::ReportStartWeighted {
+                limit,
+                margin,
+                version,
+                knee,
+            } => {
+                let told = referee::report_start_weighted(limit, margin, version, knee);
+                format!("w{}", report_end(&told))
             }
             Call::ReportAdd { report, .. } => {
                 let told = referee::report_add(report, file);

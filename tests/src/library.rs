@@ -191,6 +191,11 @@ pub fn report_start(limit: i32, margin: u16) -> Report {
     report(raw::report_start(limit, margin))
 }
 
+/// Starts a report that carries a version with its K.
+pub fn report_start_weighted(limit: i32, margin: u16, version: u32, knee: u32) -> Report {
+    report(raw::report_start_weighted(limit, margin, version, knee))
+}
+
 /// Adds a count file to a report.
 pub fn report_add(given: Report, file: &[u8]) -> Added {
     let given = raw::Report {

@@ -1,4 +1,4 @@
-//! Count files and reports for tests: well-formed files, malformed ones, reports that other hands have changed.
+//! Count files and reports for tests: well-formed files, malformed ones, reports with a weight, reports that other hands have changed.
 
 use crate::agreed;
 use crate::Tally;
@@ -256,7 +256,8 @@ pub fn count_numbers(numbers: &[u32], tally: &mut Tally) {
     }
 }
 
-/// Adds files to a report, in their order, in another, and without those that are refused: the totals are the same. Each answer is counted.
+/// Adds files to a report, in their order, in another, and without those that are refused: the totals are the same. Each answer is counted. If a file
+/// gets 25, another order is tried only without those that are refused.
 pub fn in_any_order(report: Report, files: &[Vec<u8>], rng: &mut Rng, tally: &mut Tally) -> Report {
     let (told, numbers) = add_all(report, files);
     count_numbers(&numbers, tally);
@@ -267,8 +268,99 @@ pub fn in_any_order(report: Report, files: &[Vec<u8>], rng: &mut Rng, tally: &mu
     let mut taken: Vec<Vec<u8>> = taken.map(|(file, _)| file.clone()).collect();
     rng.shuffle(&mut taken);
     assert_eq!(totals(report, &taken), told, "without refused files");
-    let mut shuffled = files.to_vec();
-    rng.shuffle(&mut shuffled);
-    assert_eq!(add_all(report, &shuffled).0, told, "in another order");
+    if !numbers.contains(&25) {
+        let mut shuffled = files.to_vec();
+        rng.shuffle(&mut shuffled);
+        assert_eq!(add_all(report, &shuffled).0, told, "in another order");
+    }
     told
+}
+
+/// A K: at an end of its limits, within them, or out of them.
+pub fn random_knee(rng: &mut Rng) -> u32 {
+    match rng.below(12) {
+        0 => [0, 1_001, 65_543, 65_536, 4_000_000_000, u32::MAX][rng.below(6)],
+        1 | 2 => [1, 2, 999, 1_000][rng.below(4)],
+        _ => rng.between(1, 1_000) as u32,
+    }
+}
+
+/// A version and a K; now and then a version that no report has.
+pub fn random_weight(rng: &mut Rng) -> (u32, u32) {
+    let version = match rng.below(12) {
+        0 => [0, 3, 257, 65_538, u32::MAX - 1, u32::MAX][rng.below(6)],
+        1..=4 => 1,
+        _ => 2,
+    };
+    (version, random_knee(rng))
+}
+
+/// A range at or near the knee, at an end of those that are weighed, or any of these; with `is_above` now and then one above 1,000.
+fn weighed_range(knee: u32, is_above: bool, rng: &mut Rng) -> u16 {
+    if is_above && rng.chance(30) {
+        return [1_001, 1_002, 1_024, 65_535][rng.below(4)];
+    }
+    let near = (knee.min(1_000) + rng.below(3) as u32).saturating_sub(1);
+    match rng.below(4) {
+        0 => [0, 1, 2, 999, 1_000][rng.below(5)],
+        1 => rng.below(1_001) as u16,
+        _ => near.min(1_000) as u16,
+    }
+}
+
+/// A well-formed count file for a report with a weight.
+pub fn weighed_file(report: &Report, rng: &mut Rng) -> Vec<u8> {
+    let count = [0, 1, rng.below(4), rng.below(20)][rng.below(4)];
+    let is_above = rng.chance(15);
+    let has_many = rng.chance(20);
+    let rows: Vec<Row> = (0..count)
+        .map(|_| {
+            let cycles = if has_many {
+                random_cycles(rng)
+            } else {
+                rng.below(900) as u32
+            };
+            let range = weighed_range(report.knee, is_above, rng);
+            (random_mean(rng), range, cycles)
+        })
+        .collect();
+    let between = [0, 0, rng.below(9)][rng.below(3)];
+    count_file_with(&rng.bytes(between), &rows)
+}
+
+/// Some files, malformed ones among them, for a report with a weight; each malformed one is counted.
+pub fn weighed_files(report: &Report, rng: &mut Rng, tally: &mut Tally) -> Vec<Vec<u8>> {
+    let count = [rng.below(4), rng.below(16)][rng.below(2)];
+    let mut files = Vec::new();
+    for _ in 0..count {
+        if rng.chance(15) {
+            let (label, file) = malformed_file(report, rng);
+            tally.add(label);
+            files.push(file);
+        } else {
+            files.push(weighed_file(report, rng));
+        }
+    }
+    files
+}
+
+/// A report, with a weight or without, that other hands have changed.
+pub fn forged_weighted_report(rng: &mut Rng) -> Report {
+    let (version, knee) = random_weight(rng);
+    let weight = match rng.below(3) {
+        0 => u64::MAX - rng.next_u64() % 1_000_000_000_000_000_000,
+        _ => random_sum(rng),
+    };
+    let mut report = Report {
+        weight,
+        version,
+        knee,
+        ..forged_report(rng)
+    };
+    if rng.chance(70) {
+        // Not full yet, so that the weight decides.
+        (report.cycles, report.near) = (report.cycles / 2, report.near / 2);
+        report.files %= MOST_FILES;
+    }
+    report
 }

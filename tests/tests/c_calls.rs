@@ -13,7 +13,9 @@ use common::generators::{
     damaged_case, fault_case, labelled_local, labelled_out_bytes, labelled_owner_bytes,
     labelled_position, random_directory_path, random_path, sound_case, Case, Made,
 };
-use common::reports::{forged_report, random_files, random_limit, random_margin};
+use common::reports::{
+    forged_weighted_report, random_files, random_limit, random_margin, random_weight, weighed_files,
+};
 use common::trials::random_allowed;
 use common::{run_seeds, Button, Seed, Tally};
 use referee::builder::random::random_name;
@@ -195,7 +197,7 @@ fn check_sums_in_c_are_the_second_programs() {
     println!("bytes of stack: {}", stack_used(&output));
 }
 
-/// Reports in C: started, files added one after the other, and files added to reports that other hands have changed.
+/// Reports in C: started with a weight and without, files added one after the other, and files added to reports that other hands have changed.
 #[test]
 fn reports_in_c_are_the_second_programs() {
     let caller = Caller::new(folder(), "reports");
@@ -205,12 +207,26 @@ fn reports_in_c_are_the_second_programs() {
     let (mut input, mut expected) = (Vec::new(), String::new());
     run_seeds(0x7200_0000..0x7200_0000 + 1_000, |seed, rng| {
         let (limit, margin) = (random_limit(rng), random_margin(rng));
-        let mut calls = vec![Call::ReportStart { limit, margin }];
+        let (version, knee) = random_weight(rng);
+        let mut calls = vec![
+            Call::ReportStart { limit, margin },
+            Call::ReportStartWeighted {
+                limit,
+                margin,
+                version,
+                knee,
+            },
+        ];
         let mut report = match seed % 3 {
-            0 => forged_report(rng),
+            0 => forged_weighted_report(rng),
+            1 => referee::report_start_weighted(limit, margin, version, knee),
             _ => referee::report_start(limit, margin),
         };
-        for file in random_files(&report, rng, &mut tally) {
+        let files = match report.version {
+            0 => random_files(&report, rng, &mut tally),
+            _ => weighed_files(&report, rng, &mut tally),
+        };
+        for file in files {
             let next = referee::report_add(report, &file).report;
             calls.push(Call::ReportAdd { report, file });
             report = next;
@@ -225,7 +241,7 @@ fn reports_in_c_are_the_second_programs() {
     let output = caller.run(&image, &input, "calls");
     printed(&output, &expected);
     println!("bytes of stack: {}", stack_used(&output));
-    tally.demand_numbers("a", 500, [0, 24]);
+    tally.demand_numbers("a", 500, [0, 24, 25]);
 }
 
 /// What the example of firmware prints.

@@ -31,7 +31,7 @@ fn rattle() -> Declarations {
 }
 
 #[test]
-fn the_header_declares_fourteen_functions_and_eight_structs() {
+fn the_header_declares_fifteen_functions_and_eight_structs() {
     let declared = of_header(&header());
     let names: Vec<&str> = declared.keys().map(String::as_str).collect();
     let expected = [
@@ -49,6 +49,7 @@ fn the_header_declares_fourteen_functions_and_eight_structs() {
         "owfs_remove_directory",
         "owfs_report_add",
         "owfs_report_start",
+        "owfs_report_start_weighted",
         "struct owfs_added",
         "struct owfs_answer",
         "struct owfs_entry",
@@ -60,7 +61,7 @@ fn the_header_declares_fourteen_functions_and_eight_structs() {
     ];
     assert_eq!(names, expected);
     let counts: Vec<usize> = declared.values().map(|one| one.items.len()).collect();
-    let functions = [9, 11, 6, 3, 8, 7, 7, 8, 6, 10, 10, 8, 3, 2];
+    let functions = [9, 11, 6, 3, 8, 7, 7, 8, 6, 10, 10, 8, 3, 2, 4];
     let structs = [3, 2, 9, 3, 3, 10, 5, 4];
     assert_eq!(counts, [&functions[..], &structs].concat());
 }
@@ -73,8 +74,8 @@ fn the_header_tells_stack_and_owner_table_of_each_call() {
     let stack = "Stack: less than 16 KiB, for every page count,";
     assert_eq!(text.matches(stack).count(), 11);
     let stack_of_reports = "Stack: under 512 bytes";
-    assert_eq!(text.matches(stack_of_reports).count(), 2);
-    assert_eq!(text.matches("Stack: ").count(), 14);
+    assert_eq!(text.matches(stack_of_reports).count(), 3);
+    assert_eq!(text.matches("Stack: ").count(), 15);
     assert_eq!(text.matches("4 * page_count").count(), 2 * 10);
     assert_eq!(text.matches("2 * page_count").count(), 0);
 }
@@ -121,15 +122,18 @@ fn the_header_tells_the_refusals_of_directories_in_order() {
     }
 }
 
-/// Adding a file to a report has 24 in its table; no other call has it.
+/// Adding a file to a report has 24 and after it 25 in its table; no other call has them.
 #[test]
-fn the_header_tells_24_of_reports() {
+fn the_header_tells_24_and_25_of_reports() {
     let text = header();
-    let line = " *     24  count file malformed, or the report has 4,096 files      0\n";
-    assert_eq!(text.matches(" 24  ").count(), 1);
+    let lines = " *     24  count file malformed, or the report has 4,096 files      0\n\
+                 \x20*     25  only for a report with a weight: a range above 1,000,    0\n";
+    for number in [" 24  ", " 25  "] {
+        assert_eq!(text.matches(number).count(), 1);
+    }
     let end = text.find(" owfs_report_add(").expect("the call");
     let comment = text[..end].rfind("/* ").expect("its comment");
-    assert!(text[comment..end].contains(line));
+    assert!(text[comment..end].contains(lines));
 }
 
 #[test]
@@ -145,7 +149,7 @@ fn the_rattle_exports_are_the_headers() {
 }
 
 /// Changes of the header, each with the start of a line that must tell it.
-const CHANGES: [(&str, &str, &str); 18] = [
+const CHANGES: [(&str, &str, &str); 20] = [
     (
         "uint32_t used;",
         "uint16_t used;",
@@ -214,6 +218,16 @@ const CHANGES: [(&str, &str, &str); 18] = [
         "uint16_t margin)",
         "uint32_t margin)",
         "owfs_report_start, item 1",
+    ),
+    (
+        "uint32_t knee)",
+        "uint16_t knee)",
+        "owfs_report_start_weighted, item 3",
+    ),
+    (
+        "uint64_t weight;",
+        "uint32_t weight;",
+        "struct owfs_report, item 2",
     ),
     (
         "struct owfs_report report,",

@@ -12,12 +12,12 @@ use common::c_calls::{request, Call};
 use common::c_programs::{printed, stack_used, Caller, SMALL_STACK};
 use common::generators::{deep_shape, largest_image};
 use common::plans::geometry;
-use common::reports::{count_file_with, forged_report};
+use common::reports::{count_file_with, forged_weighted_report};
 use common::{table_bytes, Button};
 use referee::builder::plan::{Built, BuiltEntry};
 use referee::builder::random::{random_plan, Shape};
-use referee::report_start;
 use referee::rng::Rng;
+use referee::{report_start, report_start_weighted};
 
 /// N of all images here.
 const PAGES: u32 = 65_535;
@@ -64,7 +64,8 @@ fn the_stack_is_limited() {
 /// The bytes of stack that the header promises for a call of reports.
 const REPORT_STACK: usize = 512;
 
-/// Reports are started, and the longest count file is added to them: whole, cut by a byte, and to reports that other hands have changed.
+/// Reports are started, with a weight and without, and the longest count file is added to them: whole, cut by a byte, and to reports that other hands
+/// have changed. Its ranges are weighed in both versions.
 #[test]
 fn reports_with_the_longest_file_run_on_a_small_stack() {
     let rng = &mut Rng::new(0x57AC_0001);
@@ -72,17 +73,30 @@ fn reports_with_the_longest_file_run_on_a_small_stack() {
         .map(|_| {
             (
                 rng.next_u64() as i16,
-                rng.next_u64() as u16,
-                rng.next_u64() as u32,
+                rng.below(1_001) as u16,
+                rng.below(3) as u32,
             )
         })
         .collect();
     let whole = count_file_with(&[0x5A; 65_531], &rows);
     let mut calls = Vec::new();
-    for (limit, margin) in [(100_000, 65_535), (i32::MIN, 0), (i32::MAX, 1)] {
+    for (limit, margin, version, knee) in [
+        (100_000, 65_535, 1, 0),
+        (i32::MIN, 0, 2, 100),
+        (i32::MAX, 1, 2, 1_000),
+        (0, 9, 3, 5),
+    ] {
         calls.push(Call::ReportStart { limit, margin });
+        calls.push(Call::ReportStartWeighted {
+            limit,
+            margin,
+            version,
+            knee,
+        });
+        let weighted = report_start_weighted(limit, margin, version, knee);
+        let plain = report_start(limit, margin);
         for length in [whole.len(), whole.len() - 1, 0] {
-            for report in [report_start(limit, margin), forged_report(rng)] {
+            for report in [plain, weighted, forged_weighted_report(rng)] {
                 let file = whole[..length].to_vec();
                 calls.push(Call::ReportAdd { report, file });
             }

@@ -8,11 +8,12 @@ use common::generators::{
     labelled_position, random_directory_path, random_path, sound_case, Case, Wanted,
 };
 use common::plans::{is_directory_path, is_path};
-use common::reports::{random_files, random_limit, random_margin};
+use common::reports::{random_files, random_knee, random_limit, random_margin, weighed_files};
 use common::trials::random_allowed;
 use common::{run_seeds, Button, Tally};
 use owfs::{
-    Bitmap, Entry, Geometry, Kind, Listed, Name, Owner, PathError, Record, Refusal, Totals, Writes,
+    Bitmap, Entry, Geometry, Kind, Listed, Name, Owner, PathError, Record, Refusal, Totals,
+    Weighting, Writes,
 };
 use referee::builder::plan::{Built, BuiltEntry, ChainOf};
 use referee::builder::random::random_name;
@@ -397,29 +398,54 @@ fn demand_report(report: &owfs::Report, expected: &referee::Report) {
     assert_eq!(report.near_misses(), expected.near);
     assert_eq!(report.limit(), expected.limit);
     assert_eq!(report.margin(), expected.margin);
+    assert_eq!(report.weight(), expected.weight);
 }
 
-/// Reports with any limits, margins and files.
+/// The weighting of a report, and the version and K that it stands for.
+fn random_weighting(rng: &mut Rng) -> (Option<Weighting>, u32, u32) {
+    let knee = random_knee(rng);
+    match rng.below(4) {
+        0 => (None, 0, 0),
+        1 => (Some(Weighting::Version1), 1, 0),
+        _ => (Some(Weighting::Version2 { knee }), 2, knee),
+    }
+}
+
+/// Reports with any limits, margins, weights and files.
 #[test]
 fn reports_are_the_second_programs() {
     let mut tally = Tally::default();
-    run_seeds(0xD300_0000..0xD300_0000 + 2_000, |_, rng| {
+    run_seeds(0xD300_0000..0xD300_0000 + 3_000, |_, rng| {
         let (limit, margin) = (random_limit(rng), random_margin(rng));
-        let mut report = owfs::Report::start(limit, margin);
-        let mut expected = referee::report_start(limit, margin);
+        let (weighting, version, knee) = random_weighting(rng);
+        let (mut report, mut expected) = match weighting {
+            None => (
+                owfs::Report::start(limit, margin),
+                referee::report_start(limit, margin),
+            ),
+            Some(weighting) => (
+                owfs::Report::start_weighted(limit, margin, weighting),
+                referee::report_start_weighted(limit, margin, version, knee),
+            ),
+        };
         demand_report(&report, &expected);
-        for file in random_files(&expected, rng, &mut tally) {
+        let files = match weighting {
+            None => random_files(&expected, rng, &mut tally),
+            Some(_) => weighed_files(&expected, rng, &mut tally),
+        };
+        for file in files {
             let before = report;
             let told = referee::report_add(expected, &file);
             let done = report.add(&file);
             assert_eq!(done, result(told.number, told.page, ()));
             expected = told.report;
             demand_report(&report, &expected);
+            assert_eq!(report.weighting(), weighting);
             assert!(done.is_ok() || report == before);
             tally.add(format!("report add {}", told.number));
         }
     });
-    tally.demand_numbers("report add", 1_000, [0, 24]);
+    tally.demand_numbers("report add", 1_000, [0, 24, 25]);
 }
 
 /// Names, extension numbers and numbers of directories make a path exactly if it is well formed.

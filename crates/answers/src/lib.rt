@@ -1,6 +1,7 @@
 // What the exported calls answer: plain numbers of 32 bits.
 use reports::Added;
 use reports::Report;
+use reports::Version;
 use rules::Checked;
 use rules::Edited;
 use rules::Halted;
@@ -11,7 +12,7 @@ ghost use mathlib.Core.Path.{_≡_};
 ghost use Rattle.rules.specs.Answers.{checkResult, editResult, lineResult, lengthResult, countResult, mendResult};
 ghost use Rattle.rules.specs.PageSets.{bit};
 ghost use Rattle.answers.specs.ExportedAnswers.{totalsFor, entryFor, lengthFor, answerFor, writesFor, mendedFor};
-ghost use Rattle.answers.specs.ExportedReports.{reportOf, reportFor, addedFor};
+ghost use Rattle.answers.specs.ExportedReports.{versionFor, kneeFor, askedVersion, versionOf, reportOf, reportFor, addedFor};
 ghost use Rattle.answers.specs.Small.{Small, TotalsSmall, LineSmall, LengthSmall, DoneSmall, WritesSmall};
 
 // What check answers: 0 and the totals, or the number of a refusal and its page.
@@ -71,7 +72,7 @@ pub struct OwfsMended {
     pub cleared: u32,
 }
 
-// A report: exact sums, limit and greatest peak, 1 if there is a greatest (else 0), margin; the number of files is the last. Weight, version and knee are 0.
+// A report: exact sums, limit and greatest peak, 1 if there is a greatest (else 0), margin, version and knee; the number of files is the last. Weight, version and knee are 0 in a report without weight.
 #[repr(C)]
 pub struct OwfsReport {
     pub cycles: u64,
@@ -232,20 +233,73 @@ pub fn tell_mended(answer: Mended) -> OwfsMended
     }
 }
 
+// The number of an unknown version.
+pub const NO_VERSION: u32 = 0xFFFFFFFF;
+
+// A version's number as the caller sees it: 0 without weight.
+fn tell_version(version: Version) -> u32
+    ensures { λ r. ⌜ r ≡ versionFor version ⌝ }
+{
+    match version {
+        Version::None => 0,
+        Version::One(_) => 1,
+        Version::Two(_) => 2,
+        Version::Unknown => NO_VERSION,
+    }
+}
+
+// A version's K as the caller sees it: 0 where there is none.
+fn tell_knee(version: Version) -> u32
+    ensures { λ r. ⌜ r ≡ kneeFor version ⌝ }
+{
+    match version {
+        Version::None => 0,
+        Version::One(knee) => knee,
+        Version::Two(knee) => knee,
+        Version::Unknown => 0,
+    }
+}
+
+// The version that a caller asks for by its number; no number but 1 and 2 is one.
+pub fn asked_version(number: u32, knee: u32) -> Version
+    ensures { λ r. ⌜ r ≡ askedVersion number knee ⌝ }
+{
+    if number == 1 {
+        return Version::One(knee);
+    }
+    if number == 2 {
+        return Version::Two(knee);
+    }
+    Version::Unknown
+}
+
+// The version of a report that a caller hands over: 0 is one without weight.
+fn version_of(number: u32, knee: u32) -> Version
+    ensures { λ r. ⌜ r ≡ versionOf number knee ⌝ }
+{
+    if number == 0 {
+        return Version::None;
+    }
+    asked_version(number, knee)
+}
+
 // A report as the caller sees it.
 pub fn tell_report(report: Report) -> OwfsReport
     ensures { λ r. ⌜ r ≡ reportFor report ⌝ }
 {
+    let version = report.version;
+    let number = tell_version(version);
+    let knee = tell_knee(version);
     OwfsReport {
         cycles: report.cycles,
         near: report.near,
-        weight: 0,
+        weight: report.weight,
         limit: report.limit,
         greatest: report.greatest,
         found: one_if(report.found),
         margin: report.margin,
-        version: 0,
-        knee: 0,
+        version: number,
+        knee: knee,
         files: report.files,
     }
 }
@@ -254,13 +308,16 @@ pub fn tell_report(report: Report) -> OwfsReport
 pub fn report_of(told: OwfsReport) -> Report
     ensures { λ r. ⌜ r ≡ reportOf told ⌝ }
 {
+    let version = version_of(told.version, told.knee);
     Report {
         cycles: told.cycles,
         near: told.near,
+        weight: told.weight,
         limit: told.limit,
         greatest: told.greatest,
         found: told.found != 0,
         margin: told.margin,
+        version: version,
         files: told.files,
     }
 }

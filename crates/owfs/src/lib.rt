@@ -14,8 +14,9 @@ ghost use Rattle.rules.specs.Listing.{lineAt, linesOf};
 ghost use Rattle.rules.specs.Calls.{readBytes, lengthOf, filled};
 ghost use Rattle.rules.specs.Promises.{Accepts, TellsTree, Formats, Puts, Deletes, Makes, Removes};
 ghost use Rattle.rules.specs.CarefulPromises.{CarefullyPuts, CarefullyDeletes, Mends};
-ghost use Rattle.reports.specs.ReportPromises.{Tells, Adds};
-ghost use Rattle.answers.specs.ExportedReports.{reportOf, addedOf, startAnswer, addAnswer};
+ghost use Rattle.reports.specs.Reports.{reportAfter};
+ghost use Rattle.reports.specs.ReportPromises.{TellsWith, Tells, Adds, AddsWeighted};
+ghost use Rattle.answers.specs.ExportedReports.{askedVersion, reportOf, addedOf, startAnswer, startWeightedAnswer, addAnswer};
 ghost use Rattle.answers.specs.ExportedAnswers.{entryFor, lengthFor, answerFor, asksLocal, mendedFor, countTold, checkAnswer, listAnswer, readAnswer, formatAnswer, putAnswer, deleteAnswer};
 ghost use Rattle.answers.specs.ExportedAnswers.{makeAnswer, removeAnswer, carefulPutAnswer, carefulDeleteAnswer, mendAnswer};
 
@@ -200,11 +201,28 @@ pub extern "C" fn owfs_report_start(limit: i32, margin: u16) -> OwfsReport
     answers::tell_report(reports::start(limit, margin))
 }
 
+// Starts a report with a weight: version 1 or 2 with its K. Any other version is one that there is not, and every well-formed file then gets 25.
+#[no_mangle]
+pub extern "C" fn owfs_report_start_weighted(
+    limit: i32,
+    margin: u16,
+    version: u32,
+    knee: u32,
+) -> OwfsReport
+    ensures { λ r. ⌜ r ≡ startWeightedAnswer limit margin version knee ⌝ }
+    ensures { λ r. ⌜ TellsWith limit margin (askedVersion version knee) [] (reportOf r) ⌝ }
+{
+    let asked = answers::asked_version(version, knee);
+    answers::tell_report(reports::start_weighted(limit, margin, asked))
+}
+
 // Adds a count file to a report, or refuses it and answers the report that was given.
 #[no_mangle]
 pub extern "C" fn owfs_report_add(report: OwfsReport, file: &[u8]) -> OwfsAdded
     ensures { λ r. ⌜ r ≡ addAnswer report (now (file .entry)) ⌝ }
     ensures { λ r. ⌜ Adds (reportOf report) (now (file .entry)) (addedOf r) ⌝ }
+    ensures { λ r. ⌜ AddsWeighted (reportOf report) (now (file .entry)) (addedOf r) ⌝ }
+    ensures { λ r. ⌜ reportOf (r .report) ≡ reportAfter (reportOf report) (addedOf r) ⌝ }
 {
     answers::tell_added(reports::add(answers::report_of(report), file), report)
 }

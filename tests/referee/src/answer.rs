@@ -62,7 +62,7 @@ pub struct Mended {
     pub cleared: u32,
 }
 
-/// The refusals by name; the value of each is its number in document 01, from 20 up in document 02 (A1, A6, A11).
+/// The refusals by name; the value of each is its number in document 01, from 20 up in document 02 (A1, A6, A11, A12).
 #[derive(Clone, Copy, Debug, PartialEq, Eq)]
 pub(crate) enum Fault {
     Arguments = 1,
@@ -88,6 +88,7 @@ pub(crate) enum Fault {
     AlreadyThere = 21,
     Hidden = 22,
     CountFile = 24,
+    Weight = 25,
 }
 
 impl Fault {

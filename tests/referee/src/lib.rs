@@ -1,6 +1,6 @@
 //! A second implementation of the file structure of document 01: check, list, read, format, put, delete; and of document 02's careful put, careful
 //! delete and mend (A4), owner records (A8), stamps, that is extended entries before the entry they belong to (A2), hidden directories, which
-//! refuse edits (A6), making and removing directories (A1), and reports on count files (A11).
+//! refuse edits (A6), making and removing directories (A1), and reports on count files (A11), which may have a weight (A12).
 //!
 //! It is written from the specification alone and serves as a referee for another implementation.
 //! Numbers are `u32` as a C caller gives them; the owner table is bytes, four for each page.
@@ -29,7 +29,10 @@ pub mod rng;
 
 pub use answer::{Answer, Length, Listing, Mended, Totals, Writes};
 pub use crc::{check_bytes, crc16};
-pub use report::{add as report_add, start as report_start, Added, Report};
+pub use report::{
+    add as report_add, start as report_start, start_weighted as report_start_weighted, Added,
+    Report,
+};
 
 use answer::Fault;
 use careful::WriteList;
