@@ -1,4 +1,6 @@
 // What the exported calls answer: plain numbers of 32 bits.
+#![tactic(auto)]
+
 ghost use Rattle.std.specs.Prelude.{◌≡◌};
 ghost use Rattle.rules.specs.Answers.{check_result, edit_result, line_result, length_result, count_result, mend_result};
 ghost use Rattle.rules.specs.PageSets.{bit};
@@ -11,7 +13,7 @@ use rules::{Checked, Edited, Halted, Length, Listed, Mended};
 
 // What check answers: 0 and the totals, or the number of a refusal and its page.
 #[repr(C)]
-#[derive(Drop)]
+#[derive(Clone, Copy)]
 pub struct OwfsTotals {
     pub number: u32,
     pub page: u32,
@@ -22,7 +24,7 @@ pub struct OwfsTotals {
 
 // What listing answers: 0 and a line, or the number of a refusal and its page.
 #[repr(C)]
-#[derive(Drop)]
+#[derive(Clone, Copy)]
 pub struct OwfsEntry {
     pub number: u32,
     pub page: u32,
@@ -38,7 +40,7 @@ pub struct OwfsEntry {
 
 // What reading answers: 0 and the bytes read, or the number of a refusal and its page.
 #[repr(C)]
-#[derive(Drop)]
+#[derive(Clone, Copy)]
 pub struct OwfsLength {
     pub number: u32,
     pub page: u32,
@@ -47,7 +49,7 @@ pub struct OwfsLength {
 
 // What an edit answers: 0, or the number of a refusal and its page.
 #[repr(C)]
-#[derive(Drop)]
+#[derive(Clone, Copy)]
 pub struct OwfsAnswer {
     pub number: u32,
     pub page: u32,
@@ -55,7 +57,7 @@ pub struct OwfsAnswer {
 
 // What a careful edit answers: 0, the page writes made, and 1 if any are left, else 0; or the number of a refusal and its page.
 #[repr(C)]
-#[derive(Drop)]
+#[derive(Clone, Copy)]
 pub struct OwfsWrites {
     pub number: u32,
     pub page: u32,
@@ -65,7 +67,7 @@ pub struct OwfsWrites {
 
 // What a mend answers: 0 and the marks cleared, or the number of a refusal and its page.
 #[repr(C)]
-#[derive(Drop)]
+#[derive(Clone, Copy)]
 pub struct OwfsMended {
     pub number: u32,
     pub page: u32,
@@ -74,7 +76,7 @@ pub struct OwfsMended {
 
 // A report: exact sums, limit and greatest peak, 1 if there is a greatest (else 0), margin, version and knee; the number of files is the last. Weight, version and knee are 0 in a report without weight.
 #[repr(C)]
-#[derive(Drop)]
+#[derive(Clone, Copy)]
 pub struct OwfsReport {
     pub cycles: u64,
     pub near: u64,
@@ -91,7 +93,7 @@ pub struct OwfsReport {
 
 // What adding a count file answers: 0 or the number of a refusal, page 0, and the report, after a refusal the one that was given.
 #[repr(C)]
-#[derive(Drop)]
+#[derive(Clone, Copy)]
 pub struct OwfsAdded {
     pub number: u32,
     pub page: u32,

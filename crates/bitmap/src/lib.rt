@@ -1,4 +1,6 @@
 // The bitmap compared with the owner table, in the root or in a file of its own.
+#![tactic(auto)]
+
 ghost use Rattle.std.specs.Prelude.{◌≡◌, ◌+◌, ◌*◌, ◌/◌, ◌%◌, ◌^◌, ◌≤◌, ◌<◌, not, ltb, leb, eqb, length};
 ghost use Rattle.geometry.specs.Choose.{choose};
 ghost use Rattle.geometry.specs.Geometry.{Fit};
@@ -12,7 +14,7 @@ use chain::{Cursor, Step};
 use geometry::Geometry;
 
 // A bitmap compared with the table: all bits right, or the lowest that is wrong.
-#[derive(Drop)]
+#[derive(Clone, Copy)]
 pub enum Bits {
     Same,
     Differ(usize),
@@ -90,7 +92,7 @@ pub fn compare_chain(image: &[u8], g: Geometry, start: usize, table: &[u8]) -> B
 }
 
 // The marks of a bitmap against the owner table: how many pages are marked that have no owner; or a page with an owner is unmarked, or a bit past the last page is set.
-#[derive(Drop)]
+#[derive(Clone, Copy)]
 pub enum Survey {
     Unowned(usize),
     Uncovered,

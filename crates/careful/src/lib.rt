@@ -1,4 +1,6 @@
 // Careful edits: put and delete within a limit of page writes. Whatever write is the last, a mend of the image gives back every file.
+#![tactic(auto)]
+
 ghost use Rattle.std.specs.Prelude.{◌*◌, ◌≡◌, length};
 ghost use Rattle.owners.specs.Records.{records_of};
 ghost use Rattle.geometry.specs.Geometry.{Fit};

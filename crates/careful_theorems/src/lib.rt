@@ -1,1 +1,3 @@
 // The careful edits and the mend: the theorems are in specs/.
+#![tactic(auto)]
+

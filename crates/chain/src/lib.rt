@@ -1,4 +1,6 @@
 // Chains: a position that steps from page to page and carries its count; a chain's pages claimed for an owner, and made free again.
+#![tactic(auto)]
+
 ghost use Rattle.std.specs.Prelude.{◌≡◌, true, ◌+◌, ◌*◌, ◌<◌, length};
 ghost use Rattle.geometry.specs.Geometry.{Fit};
 ghost use Rattle.packet.specs.Packet.{view_of};
@@ -16,7 +18,7 @@ use geometry::Geometry;
 use packet::Judged;
 
 // A position in a chain: the page to come, the page that holds its number, and how many pages and data bytes were passed.
-#[derive(Drop)]
+#[derive(Clone, Copy)]
 pub struct Cursor {
     pub page: usize,
     pub from: usize,
@@ -25,7 +27,7 @@ pub struct Cursor {
 }
 
 // One step: the page that was passed has so many data bytes, and the next position. The chain ends where the next page is 0.
-#[derive(Drop)]
+#[derive(Clone, Copy)]
 pub enum Step {
     Page(usize, Cursor),
     // the number of a refusal of document 01, and its page
@@ -33,14 +35,14 @@ pub enum Step {
 }
 
 // A page that a chain may have: the next position.
-#[derive(Drop)]
+#[derive(Clone, Copy)]
 pub enum Entered {
     On(Cursor),
     Refused(u8, usize),
 }
 
 // A chain claimed: its pages and its data bytes.
-#[derive(Drop)]
+#[derive(Clone, Copy)]
 pub enum Claim {
     Chain(usize, usize),
     Refused(u8, usize),

@@ -1,4 +1,6 @@
 // The check sum of document 01, CRC-16 (x^16 + x^15 + x^2 + 1, least significant bit first), as Application Note 27 writes it: a one-bit shift and exclusive-or.
+#![tactic(auto)]
+
 ghost use Rattle.std.specs.Prelude.{◌≡◌};
 ghost use Rattle.crc16.specs.Crc16.{byte_step, crc16};
 

@@ -12,7 +12,7 @@ use geometry::{
 };
 
 // What the root's control field says.
-#[derive(Drop)]
+#[derive(Clone, Copy)]
 pub enum Root {
     // the four bytes are the bitmap
     Local,
@@ -23,7 +23,7 @@ pub enum Root {
 }
 
 // What kind of chain a page belongs to.
-#[derive(Drop)]
+#[derive(Clone, Copy)]
 pub enum Kind {
     // a file or the bitmap file
     File,

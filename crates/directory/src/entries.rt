@@ -14,14 +14,14 @@ use rules::Entry;
 const MOST_FIRST_BYTE: u32 = 127;
 
 // What stands in a slot of a directory's page: a plain entry, or an extended one, a stamp of the plain entry after it.
-#[derive(Drop)]
+#[derive(Clone, Copy)]
 pub enum Item {
     Plain(Entry),
     Extended,
 }
 
 // A place in a directory's page.
-#[derive(Drop)]
+#[derive(Clone, Copy)]
 pub struct EntryReader<'a> {
     pub page: &'a [u8],
     pub at: usize,

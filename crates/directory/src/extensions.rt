@@ -6,7 +6,7 @@ ghost use Rattle.directory.specs.Extensions.{Means};
 use geometry::{ATTRIBUTE, DIRECTORY, MOST_FILE};
 
 // What an entry stands for.
-#[derive(Drop)]
+#[derive(Clone, Copy)]
 pub enum EntryKind {
     File,
     Directory,
@@ -15,7 +15,7 @@ pub enum EntryKind {
 }
 
 // The number in the low seven bits, the attribute in the top bit (of a file read-only, of a subdirectory hidden), and what the number stands for.
-#[derive(Drop)]
+#[derive(Clone, Copy)]
 pub struct Extension {
     pub kind: EntryKind,
     pub number: u8,

@@ -1,4 +1,6 @@
 // The text of `list` for a dump: P (2 bytes), N (2), offset of page 0 (4), low byte first; the image stands at that offset and ends the dump.
+#![tactic(auto)]
+
 ghost use Rattle.std.specs.Prelude.{◌≡◌, ◌≤◌};
 ghost use Rattle.geometry.specs.Geometry.{Fit};
 ghost use Rattle.rules.specs.Chain.{views_of};
@@ -13,21 +15,21 @@ use listing::LineSearch;
 use rules::{Checked, Totals};
 
 // What is printed: so many bytes of the output, or none because it is too short.
-#[derive(Drop)]
+#[derive(Clone, Copy)]
 pub enum Printed {
     Text(usize),
     TooShort,
 }
 
 // Where the image stands in a dump; none if the dump is malformed.
-#[derive(Drop)]
+#[derive(Clone, Copy)]
 enum Place {
     At(usize),
     Malformed,
 }
 
 // The answer of an image's check.
-#[derive(Drop)]
+#[derive(Clone, Copy)]
 enum Opened {
     Refused(u8, usize),
     Done(Geometry, Totals),

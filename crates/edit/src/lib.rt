@@ -1,4 +1,6 @@
 // The steps of an edit of one directory: free pages found; then, within a budget of page writes, a new chain's pages, the directory's pages and the bitmap's pages.
+#![tactic(auto)]
+
 ghost use Rattle.std.specs.Prelude.{◌≡◌, ◌+◌, ◌≤◌, ◌<◌, ◌*◌, length};
 ghost use Rattle.owners.specs.Records.{records_of};
 ghost use Rattle.geometry.specs.Geometry.{Fit};
@@ -17,7 +19,7 @@ use rules::Entry;
 use writes::Change;
 
 // The pages that an edit takes, all of them free: one that joins the directory, 0 if none does; the start page of a new chain; and a bound below which they lie.
-#[derive(Drop)]
+#[derive(Clone, Copy)]
 pub struct Pages {
     pub joins: usize,
     pub start: usize,
@@ -25,14 +27,14 @@ pub struct Pages {
 }
 
 // Pages found, or too few are free.
-#[derive(Drop)]
+#[derive(Clone, Copy)]
 pub enum Taken {
     At(Pages),
     Full,
 }
 
 // What an edit within a budget answers: what is left of the budget, or the number of a refusal of document 01 and its page.
-#[derive(Drop)]
+#[derive(Clone, Copy)]
 pub enum Outcome {
     Done(Budget),
     Refused(u8, usize),
@@ -40,7 +42,7 @@ pub enum Outcome {
 
 // A file to be put, or a directory to be made: name and extension, the chain that it replaces, and where its entry goes. On the page of `slot` it replaces the entries `first` to `last`, `last` not among them;
 // or, if `extra` is 1, a page joins the directory after that page with the entry.
-#[derive(Drop)]
+#[derive(Clone, Copy)]
 pub struct NewFile {
     pub name: u32,
     pub extension: u8,

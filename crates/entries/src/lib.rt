@@ -1,4 +1,6 @@
 // The entries of a directory: the step to the next of them, and to the next page; their number, and the search for a second entry of one name.
+#![tactic(auto)]
+
 ghost use Rattle.std.specs.Prelude.{◌≡◌, ◌+◌, ◌*◌, ◌≤◌, ◌<◌, min, eqb, length, drop};
 ghost use Rattle.geometry.specs.Geometry.{entry_size, Fit, Valid};
 ghost use Rattle.packet.specs.Packet.{view_of};
@@ -16,7 +18,7 @@ use directory::extensions::extension_of;
 use geometry::{ATTRIBUTE, Geometry, LENGTH_BYTES};
 
 // A place in a directory: a page, the bytes before its entries, how many it has and the next of them; the position of the page after it.
-#[derive(Drop)]
+#[derive(Clone, Copy)]
 pub struct Slot {
     pub page: usize,
     pub skip: usize,
@@ -26,7 +28,7 @@ pub struct Slot {
 }
 
 // The next place of a directory, or that there is none.
-#[derive(Drop)]
+#[derive(Clone, Copy)]
 pub enum Next {
     At(Slot),
     End,

@@ -51,14 +51,8 @@ module _ (at k : ℕ) (b last : List ℕ) where
   unfolding overwritten
   filled xs e f = rw (add-sub_cancel_left at k, f, e)
 
-pub bytes_put : (at : ℕ) (xs b last : List ℕ) → last ≡ take (length xs) xs ++ drop (length xs) (take (at + length xs - at) (drop at b))
-    → take at b ++ (last ++ drop (at + length xs - at) (drop at b)) ≡ overwritten at xs b
-bytes_put at xs b last e = filled at (length xs) b last xs refl (e ∙ copied)
-  where
-    copied : take (length xs) xs ++ drop (length xs) (take (at + length xs - at) (drop at b)) ≡ xs
-    copied =
-        let z : length (take (length xs) (drop at b)) ≤ length xs = simp length-take (omega arith) in
-        rw (add-sub_cancel_left at (length xs), drop_of_length-le (take (length xs) (drop at b)) z, take-length xs) (append-nil xs)
+pub bytes_put : (at : ℕ) (xs b last : List ℕ) → last ≡ xs → take at b ++ (last ++ drop (at + length xs - at) (drop at b)) ≡ overwritten at xs b
+bytes_put at xs b last e = filled at (length xs) b last xs refl e
 
 pub number_put : (at n x : ℕ) (b last : List ℕ) → at + n ≤ length b → last ≡ number_bytes (length (take (at + n - at) (drop at b))) x
     → take at b ++ (last ++ drop (at + n - at) (drop at b)) ≡ overwritten at (number_bytes n x) b

@@ -1,11 +1,13 @@
 // The sizes of an image, numbers of n bytes, and an image's pages.
+#![tactic(auto)]
+
 ghost use Rattle.std.specs.Prelude.{◌≡◌, ◌+◌, ◌*◌, ◌/◌, ◌^◌, ◌≤◌, ◌<◌, length, take, drop};
 ghost use Rattle.geometry.specs.Geometry.{geometry_of, data_capacity, entry_size, control_size, first_entries, later_entries, bitmap_size, Valid, Fit};
 ghost use Rattle.geometry.specs.Number.{number, number_bytes};
 ghost use Rattle.geometry.specs.Page.{overwritten, page_of};
 
 // Page length P, page count N, bytes of a page number n.
-#[derive(Drop)]
+#[derive(Clone, Copy)]
 pub struct Geometry {
     pub size: usize,
     pub pages: usize,
@@ -13,7 +15,7 @@ pub struct Geometry {
 }
 
 // A geometry that fits, or refusal 1.
-#[derive(Drop)]
+#[derive(Clone, Copy)]
 pub enum Shape {
     Fits(Geometry),
     Invalid,
@@ -283,7 +285,7 @@ pub fn put_bytes(target: &mut [u8], at: usize, bytes: &[u8])
     ensures { target.new ≡ overwritten at bytes.now target.old }
 {
     let end = at + bytes.len();
-    bytes::copy(bytes, &mut target[at..end]);
+    target[at..end].copy_from_slice(bytes);
 }
 
 // Writes a number of n bytes into a slice from a place on.

@@ -1,4 +1,6 @@
 // A directory and all below it laid into consecutive pages of another image: its entries are counted, for its further pages, then laid one after the other.
+#![tactic(auto)]
+
 ghost use Rattle.std.specs.Prelude.{◌≡◌, ◌+◌, ◌*◌, ◌≤◌, ◌<◌, length};
 ghost use Rattle.geometry.specs.Geometry.{Fit, entry_size};
 ghost use Rattle.geometry.specs.Page.{overwritten};
@@ -14,14 +16,14 @@ use geometry::{Geometry, LENGTH_BYTES, MOST_CONTROL_BYTES, MOST_PAGE_BYTES};
 use rules::Entry;
 
 // The slots that are left on a directory's page, and the pages that its entries have opened.
-#[derive(Drop)]
+#[derive(Clone, Copy)]
 pub struct Room {
     pub left: usize,
     pub opened: usize,
 }
 
 // A directory being laid: the page at hand, the bytes and the slots left of it, the next further page, the next page of a chain below.
-#[derive(Drop)]
+#[derive(Clone, Copy)]
 pub struct Laid {
     pub page: usize,
     pub held: usize,

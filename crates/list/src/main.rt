@@ -1,4 +1,6 @@
 // Prints what a dump on standard input holds: totals and entries, or the refusal.
+#![tactic(auto)]
+
 ghost use Rattle.std.specs.Prelude.{◌≤◌, length};
 ghost use Rattle.io.specs.Counts.{IsPrefixLen};
 ghost use Rattle.list.specs.Input.{PrintsText};

@@ -1,4 +1,6 @@
 // The entry at a walk position of an image that is known to be accepted, found in the image alone.
+#![tactic(auto)]
+
 ghost use Rattle.std.specs.Prelude.{◌≡◌, ◌+◌, ◌≤◌};
 ghost use Rattle.geometry.specs.Geometry.{Fit};
 ghost use Rattle.rules.specs.Chain.{views_of};
@@ -11,7 +13,7 @@ use geometry::{Geometry, MOST_LEVELS};
 use rules::{Entry, Line};
 
 // The line at a position, or how far past the last line it lies.
-#[derive(Drop)]
+#[derive(Clone, Copy)]
 pub enum LineSearch {
     Found(Line),
     Left(usize),

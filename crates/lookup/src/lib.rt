@@ -1,4 +1,6 @@
 // Entries found by name in an image that is known to be accepted: in a directory, and along the directories of a path.
+#![tactic(auto)]
+
 pub mod path;
 pub mod space;
 
@@ -18,21 +20,21 @@ use geometry::{DIRECTORY, Geometry, NAME_BYTES, ROOT};
 use rules::Entry;
 
 // The entry that was looked for: its place, how many stamps stand right before it, and itself.
-#[derive(Drop)]
+#[derive(Clone, Copy)]
 pub enum Spot {
     At(Slot, usize, Entry),
     Absent,
 }
 
 // The entry that was looked for.
-#[derive(Drop)]
+#[derive(Clone, Copy)]
 pub enum Search {
     Found(Entry),
     Absent,
 }
 
 // A directory that the names of a path lead to: its start page, its name as those below it give it, and whether it or one on the way to it is hidden.
-#[derive(Drop)]
+#[derive(Clone, Copy)]
 pub struct Reached {
     pub start: usize,
     pub name: u32,
@@ -40,14 +42,14 @@ pub struct Reached {
 }
 
 // The directory that was looked for.
-#[derive(Drop)]
+#[derive(Clone, Copy)]
 pub enum Resolved {
     Directory(Reached),
     Absent,
 }
 
 // What stands at a path.
-#[derive(Drop)]
+#[derive(Clone, Copy)]
 pub enum PathLookup {
     // the path is malformed: 14
     Malformed,

@@ -14,7 +14,7 @@ const MOST_BYTES: usize = MOST_LEVELS * NAME_BYTES + LEAST_BYTES;
 const MOST_DIRECTORY_BYTES: usize = MOST_LEVELS * NAME_BYTES;
 
 // What the bytes of a path are.
-#[derive(Drop)]
+#[derive(Clone, Copy)]
 pub enum Parsed {
     // so many directory names, then the name and extension of the file, or of the directory itself
     Path(usize, u32, u8),

@@ -8,7 +8,7 @@ use entries::{Next, Slot};
 use geometry::Geometry;
 
 // The page of a directory that a new entry goes to.
-#[derive(Drop)]
+#[derive(Clone, Copy)]
 pub enum Space {
     // the first page with space
     At(Slot),

@@ -1,4 +1,6 @@
 // Makes a directory: one page with its control field, and its entry in the directory above it.
+#![tactic(auto)]
+
 ghost use Rattle.std.specs.Prelude.{◌*◌, ◌≡◌, length};
 ghost use Rattle.owners.specs.Records.{records_of};
 ghost use Rattle.geometry.specs.Geometry.{Fit};
@@ -19,7 +21,7 @@ use packet::Budget;
 use rules::{Checked, Edited};
 
 // Where a new directory goes.
-#[derive(Drop)]
+#[derive(Clone, Copy)]
 pub enum Vacancy {
     // the directory above it, and its entry's place
     At(Reached, NewFile),

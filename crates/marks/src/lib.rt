@@ -1,4 +1,6 @@
 // The bitmap written from the owner table: bit k is 1 for every page k below a bound, and for each that has an owner.
+#![tactic(auto)]
+
 ghost use Rattle.std.specs.Prelude.{◌≡◌, ◌+◌, ◌*◌, ◌≤◌, ◌<◌, length};
 ghost use Rattle.owners.specs.Records.{records_of};
 ghost use Rattle.geometry.specs.Geometry.{Fit};

@@ -1,4 +1,6 @@
 // Mend: in an image that a careful edit left halfway, the marks of pages that no chain owns are cleared.
+#![tactic(auto)]
+
 ghost use Rattle.std.specs.Prelude.{◌*◌, ◌≡◌, length};
 ghost use Rattle.owners.specs.Records.{records_of};
 ghost use Rattle.geometry.specs.Geometry.{Fit};

@@ -1,4 +1,6 @@
 // The calls for C and Rust programs.
+#![tactic(auto)]
+
 ghost use Rattle.std.specs.Prelude.{◌≡◌, []};
 ghost use Rattle.crc16.specs.Crc16.{crc16};
 ghost use Rattle.rules.specs.Listing.{line_at, lines_of};

@@ -1,4 +1,6 @@
 // The owner table: bytes, four for each page: its owner, 0 for a free page, then its place in the owner's chain, each low byte first. Every access to the table stands here.
+#![tactic(auto)]
+
 ghost use Rattle.std.specs.Prelude.{◌≡◌, ◌+◌, ◌*◌, ◌/◌, ◌≤◌, ◌<◌, length, set, replicate};
 ghost use Rattle.rules.specs.Owners.{held};
 ghost use Rattle.owners.specs.Records.{records_of};
@@ -8,7 +10,7 @@ ghost use Rattle.owners.specs.Free.{NextFree, Rooms};
 use geometry::{RECORD_BYTES, ROOT_OWNER};
 
 // Room for new pages: the free pages below this page are enough, and the last of them is the page before it; or there is none.
-#[derive(Drop)]
+#[derive(Clone, Copy)]
 pub enum Room {
     Below(usize),
     Full,

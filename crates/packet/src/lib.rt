@@ -1,4 +1,6 @@
 // Packets: a page judged, its data read, a packet written; page writes within a budget.
+#![tactic(auto)]
+
 ghost use Rattle.std.specs.Prelude.{◌≡◌, ◌+◌, ◌*◌, ◌≤◌, ◌<◌, length, take, drop};
 ghost use Rattle.geometry.specs.Geometry.{Fit};
 ghost use Rattle.packet.specs.Packet.{packet_of, written, write_page, write, same_list, is_packet_of};
@@ -11,7 +13,7 @@ use geometry::{CHECK_BYTES, FRAME_BYTES, Geometry, LENGTH_BYTES};
 const INVERTED: usize = 0xFFFF;
 
 // What a page holds.
-#[derive(Drop)]
+#[derive(Clone, Copy)]
 pub enum Judged {
     // a right packet, with so many data bytes and that continuation pointer
     Whole { length: usize, next: usize },
@@ -127,7 +129,7 @@ fn holds(page: &[u8], p: usize, n: usize, bytes: &[u8], next: usize) -> bool
 }
 
 // How many page writes are allowed yet.
-#[derive(Drop)]
+#[derive(Clone, Copy)]
 pub struct Budget {
     // without a limit every write is made
     pub limited: bool,

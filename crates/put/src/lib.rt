@@ -1,4 +1,6 @@
 // Put: a file made or replaced, in the lowest free pages.
+#![tactic(auto)]
+
 ghost use Rattle.std.specs.Prelude.{◌*◌, ◌≡◌, length};
 ghost use Rattle.owners.specs.Records.{records_of};
 ghost use Rattle.geometry.specs.Geometry.{Fit};
@@ -23,7 +25,7 @@ use packet::Budget;
 use rules::{Checked, Edited};
 
 // Where the file of a path goes.
-#[derive(Drop)]
+#[derive(Clone, Copy)]
 pub enum Placed {
     At(NewFile),
     // 14, 15, 22, 16

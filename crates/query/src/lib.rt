@@ -1,4 +1,6 @@
 // Questions about an image: the entry at a walk position, and the bytes of a file.
+#![tactic(auto)]
+
 ghost use Rattle.std.specs.Prelude.{◌≡◌};
 ghost use Rattle.geometry.specs.Geometry.{Fit};
 ghost use Rattle.packet.specs.Packet.{view_of};

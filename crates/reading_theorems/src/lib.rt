@@ -1,1 +1,3 @@
 // Accepted images are exactly the well-formed ones: the theorems are in specs/.
+#![tactic(auto)]
+

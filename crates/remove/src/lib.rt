@@ -1,4 +1,6 @@
 // Removes a directory without entries: its entry goes from the directory above it, and its pages are free.
+#![tactic(auto)]
+
 ghost use Rattle.std.specs.Prelude.{◌*◌, ◌≡◌, length};
 ghost use Rattle.owners.specs.Records.{records_of};
 ghost use Rattle.geometry.specs.Geometry.{Fit};

@@ -1,1 +1,3 @@
 // The starred examples of document 01 are proved in specs/.
+#![tactic(auto)]
+

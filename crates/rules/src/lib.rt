@@ -1,7 +1,9 @@
 // The types that the rules speak of; the rules are in specs/.
+#![tactic(auto)]
+
 
 // A directory entry as it stands in its page.
-#[derive(Drop)]
+#[derive(Clone, Copy)]
 pub struct Entry {
     // four bytes as stored, the first lowest
     pub name: u32,
@@ -12,7 +14,7 @@ pub struct Entry {
 }
 
 // The totals that an accepting check answers.
-#[derive(Drop)]
+#[derive(Clone, Copy)]
 pub struct Totals {
     pub used: usize,
     pub files: usize,
@@ -20,7 +22,7 @@ pub struct Totals {
 }
 
 // What a listing answers for an entry.
-#[derive(Drop)]
+#[derive(Clone, Copy)]
 pub struct Line {
     // 0 in the root
     pub level: usize,
@@ -34,49 +36,49 @@ pub struct Line {
 }
 
 // What a check answers: the totals, or the number of a refusal of document 01 and its page.
-#[derive(Drop)]
+#[derive(Clone, Copy)]
 pub enum Checked {
     Done(Totals),
     Refused(u8, usize),
 }
 
 // What an edit answers: done, or the number of a refusal of document 01 and its page.
-#[derive(Drop)]
+#[derive(Clone, Copy)]
 pub enum Edited {
     Done,
     Refused(u8, usize),
 }
 
 // What listing answers: a line, or the number of a refusal of document 01 and its page.
-#[derive(Drop)]
+#[derive(Clone, Copy)]
 pub enum Listed {
     Entry(Line),
     Refused(u8, usize),
 }
 
 // What reading answers: the bytes read, or the number of a refusal of document 01 and its page.
-#[derive(Drop)]
+#[derive(Clone, Copy)]
 pub enum Length {
     Done(usize),
     Refused(u8, usize),
 }
 
 // How many page writes a careful call has made, and whether any are left.
-#[derive(Drop)]
+#[derive(Clone, Copy)]
 pub struct WriteCount {
     pub made: usize,
     pub left: bool,
 }
 
 // What a careful edit answers: its page writes, or the number of a refusal of document 01 and its page.
-#[derive(Drop)]
+#[derive(Clone, Copy)]
 pub enum Halted {
     Done(WriteCount),
     Refused(u8, usize),
 }
 
 // What a mend answers: the marks cleared, or the number of a refusal of document 01 and its page.
-#[derive(Drop)]
+#[derive(Clone, Copy)]
 pub enum Mended {
     Done(usize),
     Refused(u8, usize),

@@ -1,4 +1,6 @@
 // A chain's bytes laid into consecutive pages of another image, packets full but the last.
+#![tactic(auto)]
+
 ghost use Rattle.geometry.specs.Geometry.{Fit};
 ghost use Rattle.packet.specs.Packet.{view_of};
 ghost use Rattle.runs.specs.Runs.{Ready, Takes, KnownRun, LaysRun};
@@ -7,7 +9,7 @@ use chain::{Cursor, Step};
 use geometry::{Geometry, MOST_PAGE_BYTES};
 
 // A packet being filled: the bytes held in the buffer, and the page it will go to.
-#[derive(Drop)]
+#[derive(Clone, Copy)]
 pub struct Filling {
     pub held: usize,
     pub page: usize,

@@ -1,5 +1,7 @@
 // The text that the program `list` prints. A writer writes what falls inside the output, drops the rest, and hands back the position after the text.
 // A position is named after what is written there.
+#![tactic(auto)]
+
 ghost use Rattle.std.specs.Prelude.{◌≡◌, [], ◌∷◌, ◌++◌, ◌+◌, ◌^◌, ◌≤◌, length};
 ghost use Rattle.geometry.specs.Number.{number_bytes};
 ghost use Rattle.rules.specs.Result.{err};

@@ -1,4 +1,6 @@
 // The walk over a directory and all below it: every chain is claimed in the owner table, every entry judged, in the order of the check.
+#![tactic(auto)]
+
 ghost use Rattle.std.specs.Prelude.{◌≡◌, false, ◌+◌, ◌-◌, ◌*◌, ◌<◌, length};
 ghost use Rattle.owners.specs.Records.{records_of};
 ghost use Rattle.geometry.specs.Geometry.{Fit};
@@ -18,7 +20,7 @@ use geometry::{FIRST_OWNER, Geometry};
 use rules::{Checked, Entry, Totals};
 
 // The directory that an entry stands in: its name, its start page and how many entries of both kinds it has.
-#[derive(Drop)]
+#[derive(Clone, Copy)]
 pub struct Directory {
     pub name: u32,
     pub start: usize,

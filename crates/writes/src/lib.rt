@@ -1,4 +1,6 @@
 // The page writes of an edit: bytes stored as a chain of free pages, and a directory's pages written with its entries changed.
+#![tactic(auto)]
+
 ghost use Rattle.std.specs.Prelude.{◌≡◌, ◌+◌, ◌-◌, ◌≤◌, ◌<◌, ◌*◌, length};
 ghost use Rattle.owners.specs.Records.{records_of};
 ghost use Rattle.geometry.specs.Geometry.{Fit};
@@ -94,7 +96,7 @@ fn rewrite(
 
 // A change of a directory's pages: on the page of `slot` other bytes replace its entries `first` to `last`, `last` not among them, and the page's later entries follow them;
 // or, if it is not 0, the page `joins` comes after that page with these bytes.
-#[derive(Drop)]
+#[derive(Clone, Copy)]
 pub struct Change {
     pub slot: Slot,
     pub first: usize,
