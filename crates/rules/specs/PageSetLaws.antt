@@ -1,6 +1,6 @@
 -- Laws of page sets: counts of joined lists, the pigeonhole law, the numbers below n, claimed pages, free pages.
 use Rattle.std.specs.Prelude.{◌≡◌, refl, Bool, true, false, not, cond, List, [], ◌∷◌, ◌++◌, ℕ, zero, suc, ◌+◌, ◌≤◌, ◌<◌, T, eqb, length, take, drop}
-use Rattle.std.proofs.Common.{ap, sym, ◌∙◌, inl, inr, eq-zero-or-pos, arith, length-append, take-append-drop, eqb-true, ltb-false, eq-eqb, ne_eqb, lt-ltb, le-ltb}
+use Rattle.std.proofs.Common.{ap, subst, sym, ◌∙◌, inl, inr, eq-zero-or-pos, arith, length-append, take-append-drop, eqb-true, ltb-false, eq-eqb, ne_eqb, lt-ltb, le-ltb}
 use Rattle.std.proofs.Math.Decide.{dec_lt}
 use Rattle.std.proofs.Math.Dec.{eqb_refl}
 use Rattle.std.proofs.lemmas.Bool.{eqb-false, not-true}
@@ -87,7 +87,9 @@ pub within_cons : (N p : ℕ) (claimed : List ℕ) → p < N → count p claimed
 within_cons N p claimed h k fit x = go (hits x p)
   where
     go : Hit x p → count x (p ∷ claimed) ≤ count x (range N)
-    go (same e i) = rw e (omega (arith, range_below p N h, hit_same p))
+    go (same e i) =
+        let at_p : count p (p ∷ claimed) ≤ count p (range N) = omega (arith, range_below p N h, hit_same p) in
+        subst (λ (y : ℕ). count y (p ∷ claimed) ≤ count y (range N)) (sym e) at_p
     go (other e i) = omega (arith, fit x)
 
 -- the test whether a page is free

@@ -1,7 +1,6 @@
 // The types that the rules speak of; the rules are in specs/.
 #![tactic(auto)]
 
-
 // A directory entry as it stands in its page.
 #[derive(Clone, Copy)]
 pub struct Entry {
