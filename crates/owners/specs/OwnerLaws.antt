@@ -1,6 +1,6 @@
 -- Laws of the owner table: the claimed pages that it represents, one page more and less, the owners of an image, and how many pages have one.
 use Rattle.std.specs.Prelude.{◌≡◌, refl, List, [], ◌∷◌, ◌++◌, ℕ, zero, suc, ◌+◌, ◌≤◌, ◌<◌, length, get_or, set, replicate}
-use Rattle.std.proofs.Common.{ap, sym, ◌∙◌, inl, inr, eq-zero-or-pos, arith, length-set, get_or-set_same, get_or-set_other, eq-eqb, eqb-true}
+use Rattle.std.proofs.Common.{ap, subst, sym, ◌∙◌, inl, inr, eq-zero-or-pos, arith, length-set, get_or-set_same, get_or-set_other, eq-eqb, eqb-true}
 use mathlib.Core.Bool.{Bool, true, false, not}
 use Rattle.std.proofs.Math.Decide.{dec_lt}
 use Rattle.std.proofs.lemmas.List.{length-replicate}
@@ -76,7 +76,11 @@ represents_same table claimed others e h x = e x ∙ h x
 pub represents_set : (table : List OwnerRecord) (claimed : List ℕ) (p : ℕ) (r : OwnerRecord) → Represents table claimed → p < length table → owner_at table p ≡ 0 → 0 < r.owner
     → Represents (set table p r) (p ∷ claimed)
 represents_set table claimed p r h i z k x = elim (hits x p) [
-  | same e q ↦ rw e (omega (arith, hit_same p, h p, ap nonzero z, ap nonzero (owner_set table p r i), nonzero_pos r.owner k))
+  | same e q ↦ (
+      let at_p : count p (p ∷ claimed) ≡ nonzero (owner_at (set table p r) p) =
+          omega (arith, hit_same p, h p, ap nonzero z, ap nonzero (owner_set table p r i), nonzero_pos r.owner k) in
+      subst (λ (y : ℕ). count y (p ∷ claimed) ≡ nonzero (owner_at (set table p r) y)) (sym e) at_p
+    )
   | other e q ↦ omega (arith, h x, ap nonzero (owner_other table p x r e))
 ]
 
