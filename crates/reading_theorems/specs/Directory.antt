@@ -1,6 +1,6 @@
 -- A directory that stands in a view, with all below it, clear of other pages: what both halves of the theorem speak of.
 use Rattle.std.specs.Prelude.{◌≡◌, refl, List, [], ◌∷◌, ◌++◌, ℕ, suc, ◌+◌, ◌%◌, ◌≤◌, ◌<◌, length, take, drop}
-use Rattle.std.proofs.Common.{ap, ◌∙◌, arith, length-append}
+use Rattle.std.proofs.Common.{ap, subst, sym, ◌∙◌, arith, length-append}
 use Rattle.geometry.specs.declared.Geometry.{Geometry}
 use Rattle.geometry.specs.Geometry.{entry_size, control_size}
 use Rattle.geometry.specs.Number.{Bytes}
@@ -98,7 +98,9 @@ pub once_cons : (y : ℕ) (ys : List ℕ) → count y ys ≡ 0 → Once ys → O
 once_cons y ys h o x = go (hits x y)
   where
     go : Hit x y → count x (y ∷ ys) ≤ 1
-    go (same e i) = rw e (omega (arith, hit_same y))
+    go (same e i) =
+        let at_y : count y (y ∷ ys) ≤ 1 = omega (arith, hit_same y) in
+        subst (λ (z : ℕ). count z (y ∷ ys) ≤ 1) (sym e) at_y
     go (other e i) = omega (arith, o x)
 
 -- ---- a well-formed image is its root, with all below it, and the bitmap's place
