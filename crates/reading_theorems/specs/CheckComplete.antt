@@ -13,7 +13,7 @@ use Rattle.rules.specs.Result.{ok}
 use Rattle.rules.specs.ResultLaws.{then_ok, refuse_true}
 use Rattle.rules.specs.PageSets.{hit, count, Within}
 use Rattle.rules.specs.PageSetLaws.{hit_same, range_le}
-use Rattle.rules.specs.Chain.{Views, pages, first, content, linked, any_page}
+use Rattle.rules.specs.Chain.{Views, first, content, linked, any_page}
 use Rattle.rules.specs.ChainLaws.{packet_good, first_nonzero, any_passes, walk_accepts}
 use Rattle.rules.specs.Tree.{Items, end, page, file, dir, start_of, tokens, token_bytes, token_links, directory_links, all_pages}
 use Rattle.rules.specs.Tree.{Map, in_root, in_file, map_pages, Image, used}

@@ -13,7 +13,7 @@ use Rattle.packet.specs.Packet.{good}
 use Rattle.rules.specs.Result.{ok}
 use Rattle.rules.specs.ResultLaws.{ok_inj, on_then, on_refuse}
 use Rattle.rules.specs.PageSets.{Within}
-use Rattle.rules.specs.Chain.{Views, Link, link, pages, first, content, linked, Body, any_page}
+use Rattle.rules.specs.Chain.{Views, Link, link, first, content, linked, Body, any_page}
 use Rattle.rules.specs.ChainLaws.{packet_inv, walk_sound}
 use Rattle.rules.specs.Tree.{Map, map_pages, Image, used}
 use Rattle.rules.specs.Control.{root_control, the_root, Head, map_start, root_page}
