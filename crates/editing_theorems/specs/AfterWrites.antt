@@ -1,7 +1,7 @@
 -- An image after page writes: its length, its view, its bytes, and every byte outside the packets written.
 use Rattle.std.specs.Prelude.{◌≡◌, ℕ, ◌+◌, ◌-◌, ◌^◌, ◌≤◌, ◌<◌, max, eqb, length, drop}
 use Rattle.std.proofs.Math.Path.{refl, ap, fun_ext}
-use Rattle.std.proofs.Common.{sym, ◌∙◌, arith, drop-drop, eq-eqb, ne_eqb}
+use Rattle.std.proofs.Common.{subst, sym, ◌∙◌, arith, drop-drop, eq-eqb, ne_eqb}
 use mathlib.Core.List.{List, [], ◌∷◌, ◌++◌}
 use Rattle.geometry.specs.declared.Geometry.{Geometry}
 use Rattle.geometry.specs.Choose.{choose}
@@ -171,9 +171,11 @@ module _ (g : Geometry) where
   unfolding after_writes
   rest_of_page [] f image fit x = refl
   rest_of_page (write p b n ∷ ws) f image fit x = elim (hits x p) [
-    | same e i ↦ simp (eq-eqb x p e, choose_true) (rw e (drop_larger (length b + g.width + 3) (reach g p ws)
-        (page_of g p (after_writes g ws (write_page g (write p b n) image))) (page_of g p (write_page g (write p b n) image)) (page_of g p image)
-        (rest_of_page ws f.1 (write_page g (write p b n) image) (write_fit g p b n f.0 image fit) p) (after_packet g p b n f.0 image fit)))
+    | same e i ↦ simp (eq-eqb x p e, choose_true) (drop_larger (length b + g.width + 3) (reach g x ws)
+        (page_of g x (after_writes g ws (write_page g (write p b n) image))) (page_of g x (write_page g (write p b n) image)) (page_of g x image)
+        (rest_of_page ws f.1 (write_page g (write p b n) image) (write_fit g p b n f.0 image fit) x)
+        (subst (λ (y : ℕ). drop (length b + g.width + 3) (page_of g y (write_page g (write p b n) image)) ≡ drop (length b + g.width + 3) (page_of g y image)) (sym e)
+          (after_packet g p b n f.0 image fit)))
     | other e i ↦ simp (ne_eqb x p e, choose_false)
         (rest_of_page ws f.1 (write_page g (write p b n) image) (write_fit g p b n f.0 image fit) x ∙ ap (drop (reach g x ws)) (page_elsewhere g p b n f.0 image fit x e))
   ]
