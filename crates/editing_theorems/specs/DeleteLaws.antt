@@ -11,8 +11,8 @@ use Rattle.rules.specs.Result.{Res, ok}
 use Rattle.rules.specs.ResultLaws.{ok_inj, clash, refuse_inv, on_then}
 use Rattle.rules.specs.PageSets.{count}
 use Rattle.rules.specs.PageSetLaws.{same, other, hits, count_append}
-use Rattle.rules.specs.Chain.{Views, one_view, views_of, Link}
-use Rattle.rules.specs.Tree.{Label, key_of, Items, end, page, file, dir, start_of, inner_pages, all_pages, keys, map_pages, Image, used}
+use Rattle.rules.specs.Chain.{Views, one_view, views_of}
+use Rattle.rules.specs.Tree.{key_of, Items, end, page, file, dir, start_of, inner_pages, all_pages, keys, map_pages, Image, used}
 use Rattle.rules.specs.Control.{Parent}
 use Rattle.rules.specs.Bitmap.{bitmap_of}
 use Rattle.rules.specs.Check.{check}

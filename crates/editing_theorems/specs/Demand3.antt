@@ -19,7 +19,7 @@ use Rattle.rules.specs.RefusalLaws.{Refuses}
 use Rattle.rules.specs.FuelLaws.{check_faults}
 use Rattle.rules.specs.Candidate.{Accepted, OnlyRoom, Exists, at_path, stamps_of, target_path, file_path, Candidate, chain_pages, pages_in_use, CandidateFor, Demand3}
 use Rattle.rules.specs.Calls.{in_geometry, shape, plainly, effect, changed}
-use Rattle.reading_theorems.specs.Accepted.{accepted_iff, accepted}
+use Rattle.reading_theorems.specs.Accepted.{accepted}
 use Rattle.geometry.specs.ShapeLaws.{fit_of}
 use Rattle.editing_theorems.specs.CallEdits.{done_ok}
 use Rattle.editing_theorems.specs.PutLaws.{same_length, Asked, located, all_old, kept, kept_within, free, free_clear, extra, wanted, result, kept_old, put_total, put_edited}

@@ -16,7 +16,7 @@ use Rattle.rules.specs.Chain.{first, linked}
 use Rattle.rules.specs.Names.{entry_bytes}
 use Rattle.rules.specs.Tree.{Label, Items, end, page, file, dir, file_entry, directory_entry, Token, entry, stamp_tokens, tokens, token_bytes, token_links, directory_links, own_pages}
 use Rattle.rules.specs.WellFormed.{HasPackets, Stamps, Named, Entries}
-use Rattle.rules.specs.StampLaws.{stamps_links, group_links}
+use Rattle.rules.specs.StampLaws.{group_links}
 use Rattle.rules.specs.Writes.{same_write, changes, backwards}
 use Rattle.geometry.specs.BoolLaws.{both}
 use Rattle.reading_theorems.specs.PacketLaws.{ByteView, packets_left, packets_right}

@@ -1,17 +1,17 @@
 -- The calls that put something: a put, and the making of a directory.
-use Rattle.std.specs.Prelude.{◌≡◌, refl, true, false, List, [], ◌∷◌, ◌++◌, ℕ, length}
+use Rattle.std.specs.Prelude.{◌≡◌, refl, List, ℕ, length}
 use Rattle.std.proofs.Common.{ap, sym, ◌∙◌, arith, eqb-true, eq-eqb}
 use Rattle.geometry.specs.declared.Geometry.{Geometry}
 use Rattle.geometry.specs.Geometry.{Valid, data_capacity}
 use Rattle.geometry.specs.Number.{Bytes}
-use Rattle.rules.specs.Result.{ok, err}
+use Rattle.rules.specs.Result.{ok}
 use Rattle.rules.specs.ResultLaws.{clash, refuse_inv, refuse_true}
 use Rattle.rules.specs.Chain.{Link, pages_for}
 use Rattle.rules.specs.ChainLaws.{pages_least}
 use Rattle.rules.specs.Names.{attribute}
-use Rattle.rules.specs.Tree.{Label, Items}
+use Rattle.rules.specs.Tree.{Label}
 use Rattle.rules.specs.Control.{Parent, sub_control}
-use Rattle.rules.specs.Paths.{path_of, directory_path_of, file_key, Found, nothing, a_file, a_directory, find, Place, Target}
+use Rattle.rules.specs.Paths.{path_of, directory_path_of, file_key, Found, nothing, a_file, a_directory, find}
 use Rattle.rules.specs.Put.{writable, put_target}
 use Rattle.rules.specs.Directories.{vacant, make_target, new_directory}
 use Rattle.rules.specs.TargetLaws.{reached, target_is, put_target_is, put_met, make_target_is, make_met}
@@ -24,8 +24,8 @@ use Rattle.editing_theorems.specs.Capacity.{capacity_least}
 use Rattle.editing_theorems.specs.MapWrites.{sub_bytes}
 use Rattle.editing_theorems.specs.FormedPaths.{formed, formed_directory}
 use Rattle.editing_theorems.specs.PutDirectory.{as_file, as_directory}
-use Rattle.editing_theorems.specs.LowerBound.{Needs, file_needs, directory_needs}
-use Rattle.editing_theorems.specs.PutDone.{Met, PutCall}
+use Rattle.editing_theorems.specs.LowerBound.{file_needs, directory_needs}
+use Rattle.editing_theorems.specs.PutDone.{PutCall}
 
 -- ---- read-only
 writable_ok : (f : Found) → ((l : Label) (ls : List Link) → f ≡ a_file l ls → attribute l.extension ≡ 0) → writable f ≡ ok tt

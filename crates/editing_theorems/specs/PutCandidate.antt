@@ -4,7 +4,7 @@ use Rattle.std.proofs.Common.{ap, sym, ◌∙◌, subst, arith}
 use Rattle.geometry.specs.declared.Geometry.{Geometry}
 use Rattle.rules.specs.PageSets.{count}
 use Rattle.rules.specs.Result.{Res}
-use Rattle.rules.specs.Chain.{Link, pages, content}
+use Rattle.rules.specs.Chain.{Link, content}
 use Rattle.rules.specs.Paths.{Path, Found, Place}
 use Rattle.rules.specs.Tree.{Label, Map, in_root, in_file, Image}
 use Rattle.rules.specs.Bitmap.{remap}
