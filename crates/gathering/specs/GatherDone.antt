@@ -4,13 +4,12 @@ use Rattle.std.proofs.Math.Path.{refl, ap, sym, subst}
 use Rattle.std.proofs.Common.{◌∙◌, arith, eqb-true, eq-eqb}
 use Rattle.std.proofs.Math.Nat.{mul-le-mul_right, mul_comm, suc-mul}
 use Rattle.std.proofs.Math.Dec.{eqb}
-use Rattle.std.proofs.lemmas.List.{length-replicate}
 use Rattle.geometry.specs.declared.Geometry.{Geometry}
 use Rattle.geometry.specs.declared.Shape.{Shape}
 use Rattle.geometry.specs.declared.Shape.TheVariants.{Fits, Invalid}
 use Rattle.geometry.specs.Choose.{choose}
 use Rattle.geometry.specs.ChooseLaws.{choose_true, choose_false}
-use Rattle.geometry.specs.Geometry.{Valid, Fit, geometry_of}
+use Rattle.geometry.specs.Geometry.{Fit, geometry_of}
 use Rattle.geometry.specs.ShapeLaws.{fit_of}
 use Rattle.geometry.specs.Number.{Bytes}
 use Rattle.geometry.specs.Page.{page_of}

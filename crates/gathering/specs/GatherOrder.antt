@@ -1,5 +1,5 @@
 -- For contracts: the writes of a gathering in the order of one pass over the source's entries, each directory's page written when it is closed; the image they leave is the gathered one.
-use Rattle.std.specs.Prelude.{◌≡◌, List, [], ◌∷◌, ◌++◌, ℕ, zero, suc, ◌+◌, ◌-◌, ◌≤◌, ◌<◌, length}
+use Rattle.std.specs.Prelude.{◌≡◌, List, [], ◌∷◌, ◌++◌, ℕ, zero, suc, ◌+◌, ◌≤◌, ◌<◌, length}
 use Rattle.std.proofs.Math.Path.{refl}
 use Rattle.std.proofs.Common.{ap, ap₂, sym, ◌∙◌, append-nil, append_assoc, add-mul, arith, length-append}
 use mathlib.Core.Bool.{Bool, true, false}

@@ -1,12 +1,11 @@
 -- For contracts: the gathered bytes as the code writes them: the bitmap file, then one pass over the source; and the bitmap's bytes as numbers.
-use Rattle.std.specs.Prelude.{◌≡◌, ltb, length, replicate}
+use Rattle.std.specs.Prelude.{◌≡◌, ltb, length}
 use Rattle.std.proofs.Math.Path.{ap, sym}
 use Rattle.std.proofs.Common.{ap₂, ◌∙◌, subst, pow-suc, arith, length-append, take_at, drop_at, take_all, lt-ltb, le-ltb}
 use mathlib.Core.List.{List, [], ◌∷◌, ◌++◌, append_assoc}
-use Prim.Native.Nat.{ℕ, zero, suc, ◌+◌, ◌-◌, ◌*◌, ◌/◌, ◌^◌, ◌≤◌, ◌<◌, min}
+use Prim.Native.Nat.{ℕ, zero, suc, ◌+◌, ◌-◌, ◌/◌, ◌^◌, ◌≤◌, ◌<◌, min}
 use Rattle.std.proofs.Math.Nat.{add-div_left, div-eq_of_lt}
 use Rattle.std.proofs.Math.Decide.{dec_lt}
-use Rattle.std.proofs.lemmas.List.{length-replicate}
 use Rattle.geometry.specs.declared.Geometry.{Geometry}
 use Rattle.geometry.specs.Geometry.{Valid, Fit, data_capacity, first_entries}
 use Rattle.packet.specs.Packet.{Write, write, after_writes}

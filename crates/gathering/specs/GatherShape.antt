@@ -9,7 +9,6 @@ use Rattle.rules.specs.Tree.{Label, width, Items, page, file, dir, Image}
 use Rattle.rules.specs.Bitmap.{bitmap_from}
 use Rattle.rules.specs.BitmapLaws.{length_bitmap}
 use Rattle.rules.specs.Format.{upward}
-use Rattle.editing_theorems.specs.Capacity.{capacity_least}
 use Rattle.editing_theorems.specs.NewChains.{length_upward}
 use Rattle.gathering.specs.Gather.{Bare, bare_end, bare_file, bare_dir, BareImage, fits_here, opens, opened, left_after, slots_left, further}
 use Rattle.gathering.specs.Gather.{own_size, file_size, below_size, file_chain, laid, map_needs, gathered_size, gathered_map, gathered_image}
