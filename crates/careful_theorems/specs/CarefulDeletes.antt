@@ -14,7 +14,7 @@ use Rattle.rules.specs.WellFormed.{IsDirectory}
 use Rattle.rules.specs.Paths.{path_of, file_key}
 use Rattle.rules.specs.Delete.{remove, remove_edit, delete_edit}
 use Rattle.rules.specs.EditLaws.{remove_own}
-use Rattle.rules.specs.Candidate.{at_path, file_path}
+use Rattle.rules.specs.Candidate.{file_path}
 use Rattle.rules.specs.Calls.{Effect}
 use Rattle.rules.specs.Demand2.{IsFile}
 use Rattle.rules.specs.Careful.{halted_at, careful_writes, careful_delete}

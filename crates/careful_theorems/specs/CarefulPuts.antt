@@ -10,7 +10,7 @@ use Rattle.rules.specs.ResultLaws.{ok_inj, on_then, on_refuse}
 use Rattle.rules.specs.PageSets.{count, range, free_pages}
 use Rattle.rules.specs.PageSetLaws.{hit_same, range_le, free_law}
 use Rattle.rules.specs.Chain.{Link, link, pages}
-use Rattle.rules.specs.Tree.{Label, key_of, Items, end, page, file, dir, tokens, directory_links, own_pages, all_pages, keys, map_pages, Image, used}
+use Rattle.rules.specs.Tree.{Label, key_of, Items, end, page, file, dir, tokens, directory_links, own_pages, all_pages, keys, map_pages, used}
 use Rattle.rules.specs.WellFormed.{IsDirectory}
 use Rattle.rules.specs.Paths.{path_of, Found, a_file}
 use Rattle.rules.specs.Writes.{Edit}
@@ -22,7 +22,7 @@ use Rattle.rules.specs.CarefulPromises.{CarefullyPut}
 use Rattle.editing_theorems.specs.Contexts.{filled_all}
 use Rattle.editing_theorems.specs.PutLaws.{Asked, kept, kept_old, label, extra, wanted, chain, after, the_edit, edit_is, located, here_shaped, taken, own_then, length_chain, pages_then, result, one_edit}
 use Rattle.editing_theorems.specs.PutDirectory.{after_new, after_old}
-use Rattle.editing_theorems.specs.PutDone.{path_in, planned, put_shows, put_links, PutCall, asked_at}
+use Rattle.editing_theorems.specs.PutDone.{path_in, planned, put_shows, put_links, asked_at}
 use Rattle.editing_theorems.specs.PutCalls.{a_put_lem}
 use Rattle.careful_theorems.specs.VisibleWrite.{Change, touch_page, insert_touch, replace_touch}
 use Rattle.careful_theorems.specs.Stops.{CarefulEdit}

@@ -4,19 +4,19 @@ use Rattle.std.proofs.Math.Path.{refl, ap, sym}
 use Rattle.std.proofs.Common.{◌∙◌}
 use Rattle.std.proofs.Math.Bool.{true, false}
 use mathlib.Core.List.{List, [], ◌∷◌, ◌++◌}
-use Prim.Native.Nat.{ℕ, zero, suc, ◌-◌, ◌≤◌, min}
+use Prim.Native.Nat.{ℕ, zero, suc, ◌-◌, ◌≤◌}
 use native.Mathlib.Omega.{arith}
 use Rattle.std.proofs.Math.Decide.{dec_lt}
 use Rattle.std.proofs.Math.Dec.{ltb}
 use Rattle.std.proofs.Math.ListN.{length}
-use borrow.Author.Tests.{lt-ltb, le-ltb, eq-eqb, ne_eqb}
+use borrow.Author.Tests.{lt-ltb, le-ltb, ne_eqb}
 use Rattle.geometry.specs.declared.Geometry.{Geometry}
 use Rattle.geometry.specs.Choose.{choose}
 use Rattle.geometry.specs.ChooseLaws.{choose_true, choose_false}
 use Rattle.geometry.specs.Geometry.{Fit}
 use Rattle.geometry.specs.Number.{Bytes}
 use Rattle.packet.specs.Packet.{Write, write, write_page, after_writes, unchanged, made}
-use Rattle.packet.specs.Budgets.{Progress, with_limit, spend, write_one, write_all}
+use Rattle.packet.specs.Budgets.{Progress, with_limit, write_one, write_all}
 use Rattle.packet.specs.BudgetLaws.{stopped_all}
 use Rattle.rules.specs.Careful.{halted_at}
 use Rattle.editing_theorems.specs.AfterWrites.{WritesFit, write_fit, bytes_write}

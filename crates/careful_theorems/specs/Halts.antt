@@ -13,7 +13,7 @@ use Rattle.rules.specs.Result.{Res, err}
 use Rattle.rules.specs.ResultLaws.{ok_inj, clash}
 use Rattle.rules.specs.PageSets.{count}
 use Rattle.rules.specs.Chain.{views_of}
-use Rattle.rules.specs.Tree.{Items, directory_links, own_pages, map_pages, Image}
+use Rattle.rules.specs.Tree.{Items, own_pages, map_pages, Image}
 use Rattle.rules.specs.Check.{Scan}
 use Rattle.rules.specs.WellFormed.{WellFormed}
 use Rattle.rules.specs.Paths.{a_directory}
@@ -24,7 +24,7 @@ use Rattle.rules.specs.Careful.{halted_at, careful_writes}
 use Rattle.rules.specs.CarefulPromises.{HasTree, page_written, Unowned, StoppedAt}
 use Rattle.reading_theorems.specs.CheckComplete.{scan_complete}
 use Rattle.reading_theorems.specs.Directory.{own_links}
-use Rattle.editing_theorems.specs.AfterWrites.{WritesFit, rest_of_page}
+use Rattle.editing_theorems.specs.AfterWrites.{rest_of_page}
 use Rattle.editing_theorems.specs.MadeWrites.{made_fits, made_rest}
 use Rattle.careful_theorems.specs.MapStops.{MarkedImage, fits_take}
 use Rattle.careful_theorems.specs.MarkLaws.{Left, accepted, marked_free, check_left}

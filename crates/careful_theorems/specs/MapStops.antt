@@ -14,7 +14,7 @@ use Rattle.packet.specs.Packet.{View, view_of, Write, write, after_writes}
 use Rattle.rules.specs.PageSets.{count, range, Once}
 use Rattle.rules.specs.PageSetLaws.{same, other, hits, count_append, range_le}
 use Rattle.rules.specs.Chain.{views_of, Link, link, pages, first, content, linked}
-use Rattle.rules.specs.Tree.{Items, file, directory_links, own_pages, inner_pages, all_pages, Map, in_root, in_file, map_pages, Image, used}
+use Rattle.rules.specs.Tree.{Items, directory_links, own_pages, inner_pages, all_pages, Map, in_root, in_file, map_pages, Image, used}
 use Rattle.rules.specs.Control.{marker, place_bytes, root_control, the_root}
 use Rattle.rules.specs.Bitmap.{refill, remap}
 use Rattle.rules.specs.BitmapLaws.{first_refill, pages_refill, pages_remap}

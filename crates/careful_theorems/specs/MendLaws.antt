@@ -17,7 +17,7 @@ use Rattle.rules.specs.Chain.{views_of}
 use Rattle.rules.specs.Tree.{Items, map_pages, Image, used}
 use Rattle.rules.specs.Bitmap.{bit_at, map_size, bitmap_of}
 use Rattle.rules.specs.BitmapLaws.{bit_most, length_bitmap, bytes_bitmap}
-use Rattle.rules.specs.Check.{Scan, scan, check}
+use Rattle.rules.specs.Check.{Scan, scan}
 use Rattle.rules.specs.Writes.{map_writes}
 use Rattle.reading_theorems.specs.Accepted.{scanned_iff}
 use Rattle.reading_theorems.specs.CheckComplete.{scan_complete}

@@ -6,8 +6,8 @@ use mathlib.Core.List.{List, [], ◌∷◌, ◌++◌, append_assoc}
 use Rattle.std.proofs.Math.Decide.{dec_lt}
 use Rattle.geometry.specs.declared.Geometry.{Geometry}
 use Rattle.geometry.specs.Number.{Bytes}
-use Rattle.packet.specs.Packet.{view_of, Write, write, after_writes}
-use Rattle.rules.specs.PageSets.{count, range, Within}
+use Rattle.packet.specs.Packet.{Write, after_writes}
+use Rattle.rules.specs.PageSets.{count, Within}
 use Rattle.rules.specs.PageSetLaws.{hit_same, count_append, range_of}
 use Rattle.rules.specs.Chain.{views_of, Link, link, pages, content, linked}
 use Rattle.rules.specs.Tree.{Items, end, page, file, dir, start_of, directory_links, own_pages, all_pages, Map, in_root, in_file, map_pages, Image, used}
