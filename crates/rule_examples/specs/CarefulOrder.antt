@@ -1,7 +1,7 @@
 -- The order of a careful edit, write by write, on the image of example 3 (DEMO.12 in page 1); and what a program with another order leaves, which no careful call may.
 use Rattle.std.specs.Prelude.{◌≡◌, refl, ◌⊎◌, List, [], ◌∷◌, ◌++◌, map, ℕ, zero, suc, get_or, take, drop, replicate}
 use Rattle.std.proofs.Common.{ap, inl, inr, arith}
-use Rattle.packet.specs.Packet.{Write, write, after_writes, made}
+use Rattle.packet.specs.Packet.{Write, write, after_writes}
 use Rattle.rules.specs.declared.WriteCount.{WriteCount}
 use Rattle.rules.specs.Result.{Res, ok, err, and_then}
 use Rattle.rules.specs.PageSets.{bit}

@@ -5,7 +5,6 @@ use Rattle.geometry.specs.Number.{number_bytes}
 use Rattle.packet.specs.Packet.{check_of}
 use Rattle.rules.specs.Result.{Res, ok, err, and_then}
 use Rattle.rules.specs.Chain.{views_of}
-use Rattle.rules.specs.Tree.{width}
 use Rattle.rules.specs.Check.{check}
 use Rattle.rules.specs.Owners.{totals}
 use Rattle.rules.specs.Listing.{lines_of, line_at}

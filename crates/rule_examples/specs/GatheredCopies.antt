@@ -1,7 +1,7 @@
 -- Document 02, A7, on small images: a page of the root without entries goes, a stamp stays with its entry, the root's further page comes before the files, a second image of another length is refused.
 use Rattle.std.specs.Prelude.{◌≡◌, refl, false, List, [], ◌∷◌, ◌++◌, ℕ, take, drop, replicate}
 use Rattle.geometry.specs.Page.{page_of}
-use Rattle.rules.specs.Result.{Res, ok, err}
+use Rattle.rules.specs.Result.{ok, err}
 use Rattle.rules.specs.Calls.{format_call, put_call, delete_call}
 use Rattle.gathering.specs.Gather.{fits_here, gathered_image, gathered_bytes, gather, gather_call}
 use Rattle.rule_examples.specs.Cases.{g, DEMO}
