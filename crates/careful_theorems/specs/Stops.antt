@@ -61,9 +61,9 @@ refill_again (link p c ∷ ls) a b h =
     ∙ ap (λ (l : List Link). link p (take (length c) b) ∷ l) (refill_again ls (drop (length c) a) (drop (length c) b) (simp length-drop (omega arith)))
 
 control_same : (n : ℕ) (bits : List ℕ) (m : Map) (site : Site) → control_of n bits (remap bits m) site ≡ control_of n bits m site
-control_same n bits in_root at_root = refl
-control_same n bits (in_file ls) at_root = root_same n bits bits ls
-control_same n bits m (below up) = refl
+control_same n b in_root at_root = refl
+control_same n b (in_file ls) at_root = root_same n b b ls
+control_same n b m (below up) = refl
 
 -- an edit over any marks: once its file's pages and its directory's pages are written, the new tree stands with the same marks
 visible_stands : {g : Geometry} {image marks : List ℕ} {D : DirectoryOf g image marks} (E : OneEdit D) → MarkedImage g (image₂ E) marks (record { tree = whole E; map = D.tree.map })
@@ -183,8 +183,8 @@ module _ {g : Geometry} {image : List ℕ} (c : CarefulEdit g image) where
   pub s_a : MarkedImage g image_a marks i_a
   s_a = map_all g image bits₀ i.tree m s₀ marks marks_size marks_bytes
 
-  used-A : used i_a ≡ used i
-  used-A = ap (λ (l : List ℕ). all_pages i.tree ++ l) (pages_remap marks m)
+  used_a : used i_a ≡ used i
+  used_a = ap (λ (l : List ℕ). all_pages i.tree ++ l) (pages_remap marks m)
 
   -- the same directory and its edit, over the marks
   abbrev pub directory_a : DirectoryOf g image_a marks
@@ -213,15 +213,15 @@ module _ {g : Geometry} {image : List ℕ} (c : CarefulEdit g image) where
   twice in_root h a = refl
   twice (in_file ls) h a = ap in_file (refill_again ls marks bits₁ (a ∙ ap length (sym h.1)))
 
-  bits-A : bits edit_a ≡ bits₁
-  bits-A = ap₂ (λ (us : List ℕ) (n : ℕ). bitmap_from (all_pages t' ++ us) 0 n) (pages_remap marks m) (map_size_lem g marks m)
+  bits_a : bits edit_a ≡ bits₁
+  bits_a = ap₂ (λ (us : List ℕ) (n : ℕ). bitmap_from (all_pages t' ++ us) 0 n) (pages_remap marks m) (map_size_lem g marks m)
 
   pub four_parts : careful_writes g c.names the_edit c.tree ≡ A ++ (linked c.edit.chain ++ (ws₂ edit_a ++ ws₃ edit_a))
   unfolding careful_writes edit_writes
   four_parts =
       let release : map_writes g (bitmap_of g (used after) after.map) after.tree after.map ≡ ws₃ edit_a =
       ap (λ (b : List ℕ). map_writes g b after.tree after.map) bits_after ∙ ap (λ (k : Image). map_writes g bits₁ k.tree k.map) after_is
-      ∙ ap (map_writes g bits₁ t') (sym (twice m c.well.holds.map marks_size)) ∙ ap (λ (b : List ℕ). map_writes g b t' (remap b (remap marks m))) (sym bits-A) in
+      ∙ ap (map_writes g bits₁ t') (sym (twice m c.well.holds.map marks_size)) ∙ ap (λ (b : List ℕ). map_writes g b t' (remap b (remap marks m))) (sym bits_a) in
       let turn : (c₀ : List ℕ) → c₀ ≡ control → backwards (changes (linked (directory_links g c₀ c.place.items)) (linked (directory_links g c₀ c.edit.after))) ≡ ws₂ edit_a =
       λ c₀ q. ap (λ (c₁ : List ℕ). backwards (changes (linked (directory_links g c₁ c.place.items)) (linked (directory_links g c₁ c.edit.after)))) q in
       ap₂ (λ (us vs : List Write). A ++ (linked chain ++ (us ++ vs))) (turn (control_of g.width marks m c.place.site) (sym (control_same g.width marks m c.place.site))) release
@@ -247,7 +247,7 @@ module _ {g : Geometry} {image : List ℕ} (c : CarefulEdit g image) where
 
   -- the file's pages alone leave the old tree
   pub chain_stands : MarkedImage g (after_writes g (linked c.edit.chain) (after_writes g A image)) marks (record { tree = c.tree.tree; map = remap marks c.tree.map })
-  chain_stands = free_stays g image_a marks i_a s_a (linked chain) c.edit.fits (λ x j. ap (count x) (pages_linked chain) ∙ c.chain_free x (omega (arith, ap (count x) used-A)))
+  chain_stands = free_stays g image_a marks i_a s_a (linked chain) c.edit.fits (λ x j. ap (count x) (pages_linked chain) ∙ c.chain_free x (omega (arith, ap (count x) used_a)))
 
   pub none_stands : changes (linked old) (linked new) ≡ [] → MarkedImage g (after_writes g (linked c.edit.chain) (after_writes g A image)) marks (record { tree = t'; map = remap marks c.tree.map })
   unfolding after_writes
@@ -278,7 +278,7 @@ module _ {g : Geometry} {image : List ℕ} (c : CarefulEdit g image) where
 
     B-free : (x : ℕ) → 1 ≤ count x (used i_a) → count x (write_pages B) ≡ 0
     B-free x j =
-        let k : 1 ≤ count x (used i) = omega (arith, ap (count x) used-A) in
+        let k : 1 ≤ count x (used i) = omega (arith, ap (count x) used_a) in
         omega (
           arith,
           count_joined x (linked chain) (backwards (linked fresh)),
@@ -292,8 +292,8 @@ module _ {g : Geometry} {image : List ℕ} (c : CarefulEdit g image) where
           ap (count x) (own_links g control c.edit.after),
         )
 
-    in-B : (k : ℕ) → MarkedImage g (after_writes g (take k B) image_a) marks i_a
-    in-B k = free_stays g image_a marks i_a s_a (take k B) (fits_take g k B B-fits) (λ x j. omega (arith, count_take x k B, B-free x j))
+    in_b : (k : ℕ) → MarkedImage g (after_writes g (take k B) image_a) marks i_a
+    in_b k = free_stays g image_a marks i_a s_a (take k B) (fits_take g k B B-fits) (λ x j. omega (arith, count_take x k B, B-free x j))
 
     -- ---- before the visible write
     pub before_seen : (k : ℕ) → Left g (after_writes g (take k (A ++ B)) image) c.tree.tree (map_pages c.tree.map)
@@ -306,8 +306,8 @@ module _ {g : Geometry} {image : List ℕ} (c : CarefulEdit g image) where
             bits = marks;
             map = remap marks m;
             map_pages_same = pages_remap marks m;
-            stands = in-B (k - length A);
-            covers = marks_cover (used i_a) (λ x j. omega (arith, ap (count x) used-A));
+            stands = in_b (k - length A);
+            covers = marks_cover (used i_a) (λ x j. omega (arith, ap (count x) used_a));
           })
       | no q ↦
           let y : k - length A ≡ 0 = omega arith in
