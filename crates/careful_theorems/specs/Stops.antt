@@ -273,11 +273,11 @@ module _ {g : Geometry} {image : List ℕ} (c : CarefulEdit g image) where
     fresh_fits : WritesFit g (backwards (linked fresh))
     fresh_fits = fits_left g (backwards (linked fresh)) (w ∷ []) (subst (WritesFit g) turn_is (fits₂ edit_a))
 
-    B-fits : WritesFit g B
-    B-fits = fits_join g (linked chain) (backwards (linked fresh)) c.edit.fits fresh_fits
+    B_fits : WritesFit g B
+    B_fits = fits_join g (linked chain) (backwards (linked fresh)) c.edit.fits fresh_fits
 
-    B-free : (x : ℕ) → 1 ≤ count x (used i_a) → count x (write_pages B) ≡ 0
-    B-free x j =
+    B_free : (x : ℕ) → 1 ≤ count x (used i_a) → count x (write_pages B) ≡ 0
+    B_free x j =
         let k : 1 ≤ count x (used i) = omega (arith, ap (count x) used_a) in
         omega (
           arith,
@@ -293,7 +293,7 @@ module _ {g : Geometry} {image : List ℕ} (c : CarefulEdit g image) where
         )
 
     in_b : (k : ℕ) → MarkedImage g (after_writes g (take k B) image_a) marks i_a
-    in_b k = free_stays g image_a marks i_a s_a (take k B) (fits_take g k B B-fits) (λ x j. omega (arith, count_take x k B, B-free x j))
+    in_b k = free_stays g image_a marks i_a s_a (take k B) (fits_take g k B B_fits) (λ x j. omega (arith, count_take x k B, B_free x j))
 
     -- ---- before the visible write
     pub before_seen : (k : ℕ) → Left g (after_writes g (take k (A ++ B)) image) c.tree.tree (map_pages c.tree.map)
@@ -383,7 +383,7 @@ module _ {g : Geometry} {image : List ℕ} (c : CarefulEdit g image) where
 
     -- every write can be made
     pub front_fits : WritesFit g (A ++ B)
-    front_fits = fits_join g A B marks_fit B-fits
+    front_fits = fits_join g A B marks_fit B_fits
 
     pub back_fits : WritesFit g C
     back_fits = map_fit g image_s marks t' (remap marks m) s_s bits₁ size₁ (bytes_bitmap (all_pages t' ++ map_pages m) 0 (map_size g m))
