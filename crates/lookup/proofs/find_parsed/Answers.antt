@@ -33,26 +33,22 @@ returns-in-Malformed c =
 pub returns-in-Absent : goal.returns-in-Absent
 returns-in-Absent c =
     let a = c.args in
-    let v = c.parsed-1.given.0 in
     looks_taken a.g (views_of a.g a.image.now) a.path.now a.parsed _ _ _ c.in-Path.is lookup.Nowhere λ i h.
-    nowhere a.g (views_of a.g a.image.now) a.path.now i v.0 v.1.0 v.1.1.0 c.resolve.result
+    nowhere a.g (views_of a.g a.image.now) a.path.now i c.in-Path.names c.in-Path.name c.in-Path.extension c.resolve.result
     (c.resolve.ensures (root_place i.tree) (root_reached _ _ i h)) c.in-Absent.is
 
 pub returns-in-Absent-find_place : goal.returns-in-Absent-find_place
 returns-in-Absent-find_place c =
     let a = c.args in
-    let v = c.parsed-1.given.0 in
-    looks_taken a.g (views_of a.g a.image.now) a.path.now a.parsed _ _ _ c.in-Path.is (lookup.Absent c.in-Directory.d v.1.0 v.1.1.0) λ i h.
-    path_absent a.g (views_of a.g a.image.now) a.path.now i v.0 v.1.0 v.1.1.0 c.resolve.result
+    looks_taken a.g (views_of a.g a.image.now) a.path.now a.parsed _ _ _ c.in-Path.is (lookup.Absent c.in-Directory.d c.in-Path.name c.in-Path.extension) λ i h.
+    path_absent a.g (views_of a.g a.image.now) a.path.now i c.in-Path.names c.in-Path.name c.in-Path.extension c.resolve.result
     (c.resolve.ensures (root_place i.tree) (root_reached _ _ i h)) _ c.in-Directory.is _ c.key_of-key.ensures c.find_place.result
     c.find_place.ensures c.in-Absent-find_place.is
 
 pub returns-in-At : goal.returns-in-At
 returns-in-At c =
     let a = c.args in
-    let v = c.parsed-1.given.0 in
-    let w = c.slot-1.given.0 in
-    looks_taken a.g (views_of a.g a.image.now) a.path.now a.parsed _ _ _ c.in-Path.is (lookup.At c.in-Directory.d w.0 w.1.0 w.1.1.0) λ i h.
-    entry_at a.g (views_of a.g a.image.now) a.path.now i v.0 v.1.0 v.1.1.0 c.resolve.result
+    looks_taken a.g (views_of a.g a.image.now) a.path.now a.parsed _ _ _ c.in-Path.is (lookup.At c.in-Directory.d c.in-At.slot c.in-At.stamps c.in-At.e) λ i h.
+    entry_at a.g (views_of a.g a.image.now) a.path.now i c.in-Path.names c.in-Path.name c.in-Path.extension c.resolve.result
     (c.resolve.ensures (root_place i.tree) (root_reached _ _ i h)) _ c.in-Directory.is _ c.key_of-key.ensures c.find_place.result
     c.find_place.ensures _ _ _ c.in-At.is
