@@ -1,0 +1,48 @@
+-- The check's fault first; else the make, and then the table of the image as it stands.
+use mathlib.Core.Path.{ap, ◌∙◌}
+use Rattle.owners.specs.Records.{records_of}
+use Rattle.packet.specs.declared.Budget.{Budget}
+use Rattle.volume.proofs.EditLaws.{fit_same, fault_leaves, table_of}
+use Rattle.make.proofs.Calling.{make_fault}
+use Rattle.make.proofs.PathMakes.{answer_done, answer_refused}
+use Rattle.make.proofs.make_in.Goals as goal
+
+pub make_path-outcome-requires : goal.make_path-outcome-requires
+make_path-outcome-requires c =
+    let a = c.args in
+    let T = table_of a.g a.image.now c.check_table.result (records_of c.check_table.new.table) c.check_table.ensures
+    (λ i. (c.slice_known-1.given i).fits) _ c.in-Done.is in record { fit = c.requires.fit; table_len = (c.check_table.auto.table ∙ c.requires.table_len, T, ap (λ (x : Budget). x.stopped) c.unlimited.ensures) }
+
+pub check_table-requires-in-Done : goal.check_table-requires-in-Done
+check_table-requires-in-Done c =
+    let s = c.requires in record { fit = fit_same _ _ _ s.fit c.make_path-outcome.auto.image; table_len = c.make_path-outcome.auto.table ∙ c.check_table.auto.table ∙ s.table_len }
+
+pub returns-in-Refused : goal.returns-in-Refused
+returns-in-Refused c =
+    let a = c.args in
+    fault_leaves a.g a.image.now c.check_table.result (records_of c.check_table.new.table) c.check_table.ensures _
+    (make_fault a.g a.path.now a.image.now) _ _ c.in-Refused.is
+
+pub returns-in-Done-outcome : goal.returns-in-Done-outcome
+returns-in-Done-outcome c =
+    let a = c.args in
+    let T = table_of a.g a.image.now c.check_table.result (records_of c.check_table.new.table) c.check_table.ensures
+    (λ i. (c.slice_known-1.given i).fits) _ c.in-Done.is in
+    record {
+      answers = answer_done a.g a.image.now _ a.path.now c.requires.fit T
+          (λ i. (c.shared_slice_known-1.given i).fits) _ c.unlimited.ensures _ _ c.make_path-outcome.ensures _ c.in-Done-outcome.is;
+      check = c.check_table-in-Done.result;
+      checked = c.check_table-in-Done.ensures;
+    }
+
+pub returns-in-Refused-outcome : goal.returns-in-Refused-outcome
+returns-in-Refused-outcome c =
+    let a = c.args in
+    let T = table_of a.g a.image.now c.check_table.result (records_of c.check_table.new.table) c.check_table.ensures
+    (λ i. (c.slice_known-1.given i).fits) _ c.in-Done.is in
+    record {
+      answers = answer_refused a.g a.image.now _ a.path.now c.requires.fit T
+          (λ i. (c.shared_slice_known-1.given i).fits) _ c.unlimited.ensures _ _ c.make_path-outcome.ensures _ _ c.in-Refused-outcome.is;
+      check = c.check_table-in-Done.result;
+      checked = c.check_table-in-Done.ensures;
+    }

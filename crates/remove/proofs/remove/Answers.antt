@@ -1,0 +1,43 @@
+-- Refusal 1 leaves image and table as they are. Else `remove_in` works on the first N records of the table, and what is behind them stays: that is `remove_call`.
+-- `Removes`, what the call promises of its image, holds of every answer of `remove_call`.
+use mathlib.Core.Path.{sym, ◌∙◌}
+use native.Mathlib.Omega.{arith}
+use lib.Seq.{length-take-le}
+use Rattle.geometry.specs.ShapeLaws.{sized_of, fit_of}
+use Rattle.rules.specs.CallLaws.{remove_invalid}
+use Rattle.rules.specs.declared.Edited.TheVariants as edited
+use Rattle.remove.proofs.Calling.{removed, remove_is}
+use Rattle.remove.proofs.remove.Goals as goal
+
+pub overflow_mul-end : goal.overflow_mul-end
+overflow_mul-end c =
+    let a = c.args in
+    omega (arith, (sized_of a.size a.pages _ _ _ (sym c.new.ensures ∙ c.in-Fits.is)).valid.few)
+
+pub slice_bounds-remove_in-end : goal.slice_bounds-remove_in-end
+slice_bounds-remove_in-end c =
+    let a = c.args in
+    (sized_of a.size a.pages _ _ _ (sym c.new.ensures ∙ c.in-Fits.is)).room
+
+pub slice_bounds-remove_in-end-in-Fits : goal.slice_bounds-remove_in-end-in-Fits
+slice_bounds-remove_in-end-in-Fits c =
+    let a = c.args in
+    sym (length-take-le _ _ (sized_of a.size a.pages _ _ _ (sym c.new.ensures ∙ c.in-Fits.is)).room)
+
+pub remove_in-requires : goal.remove_in-requires
+remove_in-requires c =
+    let a = c.args in
+    let e = sym c.new.ensures ∙ c.in-Fits.is in record { fit = fit_of a.size a.pages a.image.now a.table.now _ e; table_len = length-take-le _ a.table.now (sized_of a.size a.pages _ _ _ e).room }
+
+pub returns-in-Invalid : goal.returns-in-Invalid
+returns-in-Invalid c =
+    let a = c.args in
+    let e = sym (remove_invalid a.size a.pages a.image.now a.table.now (sym c.new.ensures ∙ c.in-Invalid.is) a.path.now) in record { table_after = e; stated = remove_is a.size a.pages a.image.now a.table.now a.path.now (λ i. (c.slice_known-1.given i).fits) (edited.Refused 1 0) a.image.now a.table.now e }
+
+pub returns-in-Fits : goal.returns-in-Fits
+returns-in-Fits c =
+    let a = c.args in
+    let f = sym c.new.ensures ∙ c.in-Fits.is in
+    let part = c.remove_in.new.table in
+    let l = c.remove_in.auto.table ∙ length-take-le _ a.table.now (sized_of a.size a.pages _ _ _ f).room in
+    let e = removed a.size a.pages a.image.now a.table.now a.path.now _ f part l (λ i. (c.slice_known-in-Fits-2-1.given i).fits) c.remove_in.result _ c.remove_in.ensures in record { table_after = e; stated = remove_is a.size a.pages a.image.now a.table.now a.path.now (λ i. (c.slice_known-1.given i).fits) c.remove_in.result _ _ e }
