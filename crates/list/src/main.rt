@@ -1,12 +1,11 @@
 // Prints what a dump on standard input holds: totals and entries, or the refusal.
 #![tactic(auto)]
 
-ghost use Rattle.std.specs.Prelude.{◌≤◌, length};
-ghost use Rattle.io.specs.Counts.{IsPrefixLen};
-ghost use Rattle.list.specs.Input.{PrintsText};
+ghost use Rattle.std.specs.Prelude.{◌≤◌, length, IfOk};
+ghost use Rattle.list.specs.Input.{IsPrefixLen, PrintsText};
 
 use dump::Printed;
-use libc::{STDIN_FILENO, STDOUT_FILENO};
+use std::io::{self, Read};
 
 // One byte more than the longest dump that is right: all longer dumps have the same text.
 const INPUT_BYTES: usize = 65537;
@@ -27,11 +26,26 @@ fn text_of(input: &[u8], n: usize, out: &mut [u8]) -> usize
     }
 }
 
+// Reads until the input is full or the reader ends; how many bytes it read, which stand at the front of the input.
+fn read_full<R: Read>(reader: &mut R, input: &mut [u8]) -> io::Result<usize>
+    ensures prefix_len { IfOk result (λ n. IsPrefixLen n input.new) }
+{
+    let mut at = 0;
+    while at < input.len() {
+        let got = reader.read(&mut input[at..])?;
+        if got == 0 {
+            break;
+        }
+        at += got;
+    }
+    Ok(at)
+}
+
 // Reads a dump and prints its text by one write.
-fn main() {
+fn main(rt: HostRuntime) -> io::Result<()> {
     let mut input = [0u8; INPUT_BYTES];
-    let n = io::read_full(STDIN_FILENO, &mut input);
+    let n = read_full(&mut rt.stdin(), &mut input)?;
     let mut out = [0u8; TEXT_BYTES];
     let length = text_of(&input, n, &mut out);
-    io::write_all(STDOUT_FILENO, &out[..length]);
+    Print::write_all(&rt, &out[..length])
 }
