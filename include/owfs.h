@@ -1,6 +1,6 @@
 /* The 1-Wire File Structure (Application Note 114) on a lent image of one memory button, and reports on count files.
  *
- * Link with libowfs.a (rt staticlib owfs). The archive holds x86-64 code; another processor needs a toolchain for it first.
+ * Link with libowfs.a (tools/build makes it). The archive holds x86-64 code; another processor needs a toolchain for it first.
  * A slice is a pointer and a length; with length 0 the pointer is not used. A slice that a call writes must not overlap another slice of that call.
  */
 #ifndef OWFS_H

@@ -22,7 +22,7 @@ fn main() {
     println!("cargo:rerun-if-changed={}", archive.display());
     if !archive.is_file() {
         eprintln!("{ARCHIVE} is not in {}", folder.display());
-        eprintln!("`rt staticlib owfs` in the repository's root makes target/staticlib/{ARCHIVE}");
+        eprintln!("`tools/build` in the repository's root makes target/staticlib/{ARCHIVE}");
         eprintln!("the variable {VARIABLE} can name another folder");
         exit(1);
     }

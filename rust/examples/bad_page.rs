@@ -1,6 +1,6 @@
 //! The office's question when a page of a button has gone bad: whose is it, and how many pages and data bytes of that file lie after it?
 //!
-//!     rt staticlib owfs
+//!     tools/build
 //!     cargo run --offline --manifest-path rust/Cargo.toml --example bad_page -- samples/bad-page-before.dump samples/bad-page.dump
 //!
 //! A dump with a bad page is refused with 2 at that page, and its owner table is all 0: it says nothing of any page. So the answer comes from the records

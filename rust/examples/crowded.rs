@@ -1,6 +1,6 @@
 //! A crowded button's dump gathered: a second dump with the same files, full packets, filled directory pages and consecutive chains.
 //!
-//!     rt staticlib owfs
+//!     tools/build
 //!     cargo run --offline --manifest-path rust/Cargo.toml --example crowded -- samples/crowded.dump gathered.dump
 //!
 //! The first argument is the dump, the second the name of the dump that is made; a file that is there already is not written over. What stands before the

@@ -1,6 +1,6 @@
 //! The office's quarterly report: the totals of all count files of several dumps.
 //!
-//!     rt staticlib owfs
+//!     tools/build
 //!     cargo run --offline --manifest-path rust/Cargo.toml --example quarter -- 900 50 7,8 samples/counts.dump samples/counts-cut.dump
 //!
 //! The arguments are the report's limit and margin, its weight if it has one, the extension numbers that are count files, with commas between them, then

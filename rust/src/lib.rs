@@ -6,7 +6,7 @@
 //! panics. The caller lends the memory that a call works on, an owner table too, which tells afterwards who has each page and where in its chain the
 //! page stands. A call needs less than 16 KiB of stack, whatever the image.
 //!
-//! The code of the calls, for x86-64, is in the archive `libowfs.a`, which `rt staticlib owfs` makes in `target/staticlib`. The variable
+//! The code of the calls, for x86-64, is in the archive `libowfs.a`, which `tools/build` makes in `target/staticlib`. The variable
 //! `OWFS_LIB_DIR` names another folder where it stands when the crate is built; if it is not absolute, it starts at the crate's.
 //!
 //! ```

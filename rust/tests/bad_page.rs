@@ -1,7 +1,7 @@
 //! The example `bad_page`, run as a program with the sample dumps and with arguments that are none. Its answers for all kinds of pages are compared with
 //! known ones in `tests/tests/bad_page.rs`.
 //!
-//! Programs: the library alone, by the example. The archive is made by `rt staticlib owfs`.
+//! Programs: the library alone, by the example. The archive is made by `tools/build`.
 
 use std::path::{Path, PathBuf};
 use std::process::Command;

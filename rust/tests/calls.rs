@@ -1,7 +1,7 @@
 //! The calls as a user of the crate makes them, with answers that are known.
 //!
 //! Programs: the library alone, by the functions of the crate. Its comparison with the second program is in `tests/`, which has that program.
-//! The archive is made by `rt staticlib owfs`.
+//! The archive is made by `tools/build`.
 
 use owfs::{
     careful_delete, careful_put, check, crc16, delete, directory_path, entries, gather, list,

@@ -1,6 +1,6 @@
 //! The example `quarter`, run as a program with the sample dumps and with arguments that are none. The totals are known by hand.
 //!
-//! Programs: the library alone, by the example. The archive is made by `rt staticlib owfs`.
+//! Programs: the library alone, by the example. The archive is made by `tools/build`.
 
 use std::path::{Path, PathBuf};
 use std::process::Command;

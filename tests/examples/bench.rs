@@ -2,7 +2,7 @@
 //!
 //!     CARGO_TARGET_DIR=target/cargo cargo run --release --offline --manifest-path tests/Cargo.toml --example bench
 //!
-//! The archive is made by `rt staticlib owfs`.
+//! The archive is made by `tools/build`.
 
 use std::fmt::Debug;
 use std::hint::black_box;

@@ -7,7 +7,7 @@
 //! dumps for the program `list`. Every answer and every lent byte is compared. If anything differs, the round's seed and the case are printed and the status is 1; a run
 //! with that seed starts with that round.
 //!
-//! The archive is made by `rt staticlib owfs`, the program `list` by `rt check`.
+//! `tools/build` makes the archive and the program `list`.
 
 use std::any::Any;
 use std::env;

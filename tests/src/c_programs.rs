@@ -1,4 +1,4 @@
-//! The C programs of `tests/c`: compiled with the library, run, and compared with what they must print. `rt staticlib owfs` makes the archive.
+//! The C programs of `tests/c`: compiled with the library, run, and compared with what they must print. `tools/build` makes the archive.
 
 use std::fs;
 use std::path::{Path, PathBuf};

@@ -1,4 +1,4 @@
-//! Dumps for the program `list`, and what it prints for them. `rt check` and `rt ci` make `target/bin/list`.
+//! Dumps for the program `list`, and what it prints for them. `tools/build` makes `target/bin/list`.
 
 use std::io::{ErrorKind, Write};
 use std::path::{Path, PathBuf};

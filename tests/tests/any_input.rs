@@ -1,7 +1,7 @@
 //! Any bytes and numbers: every call answers, a refusal changes nothing, and the calls agree with each other.
 //!
 //! Programs: the library and the second program. Each call is made by both; every answer and every lent byte is compared.
-//! The archive is made by `rt staticlib owfs`.
+//! The archive is made by `tools/build`.
 
 use common::trials::random_copy_bytes;
 use common::{agreed, answer, no_writes, Button, Seed};

@@ -1,7 +1,7 @@
 //! The examples that answer whose a bad page is and what lies after it, in C and in Rust: both print the same text, which is known by construction.
 //!
 //! Programs: the library, by `tests/c/bad_page.c`, compiled here with warnings as errors and run, and by `rust/examples/bad_page.rs`, whose function is
-//! called. Images come from plans and from the library's and the second program's puts. The archive is made by `rt staticlib owfs`.
+//! called. Images come from plans and from the library's and the second program's puts. The archive is made by `tools/build`.
 
 use std::fs;
 use std::path::{Path, PathBuf};

@@ -2,7 +2,7 @@
 //!
 //! Programs: the library, by the C program `tests/c/calls.c`, compiled here with warnings as errors, and the second program, whose answers and lent
 //! bytes the C program must print; `tests/c/firmware.c`, `tests/c/booms.c`, `tests/c/pulled.c` and `tests/c/crowded.c`, which call the library alone
-//! and print known texts. The archive is made by `rt staticlib owfs`.
+//! and print known texts. The archive is made by `tools/build`.
 
 use std::path::Path;
 use std::process::Command;

@@ -1,7 +1,7 @@
 //! Arguments, paths, places, room and output of the calls, on images made by hand.
 //!
 //! Programs: the library and the second program. Each call is made by both; every answer and every lent byte is compared.
-//! The archive is made by `rt staticlib owfs`.
+//! The archive is made by `tools/build`.
 
 use common::{
     agreed, all_free, answer, chain_of, no_writes, not_mended, records, Button, Record, FREE,

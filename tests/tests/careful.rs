@@ -3,7 +3,7 @@
 //!
 //! Programs: the library and the second program. Each careful call, check and mend is made by both; every answer and every lent byte is compared. The
 //! pages written and their order, the marks that a check finds and a mend clears, the entries and files then, and the image when nothing is left are
-//! known by construction besides. The archive is made by `rt staticlib owfs`.
+//! known by construction besides. The archive is made by `tools/build`.
 
 use common::generators::{files, roomy_plan};
 use common::plans::{directories, plan_with, Room};

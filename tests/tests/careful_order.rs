@@ -1,7 +1,7 @@
 //! The page writes of careful puts and deletes on images made by hand: which pages, in which order, how many, and what stands in them.
 //!
 //! Programs: the library and the second program. Each call is made by both; every answer and every lent byte is compared.
-//! The archive is made by `rt staticlib owfs`.
+//! The archive is made by `tools/build`.
 
 use common::stops::{pages_written, Edit};
 use common::{all_free, answer, chain_of, mended, no_writes, writes, Button, FREE};

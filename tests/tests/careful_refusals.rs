@@ -1,7 +1,7 @@
 //! Each refusal of careful put, careful delete and mend: number and page, every count 0, and what it leaves in the lent memory.
 //!
 //! Programs: the library and the second program. Each call is made by both; every answer and every lent byte is compared, path and file's bytes too.
-//! The archive is made by `rt staticlib owfs`.
+//! The archive is made by `tools/build`.
 
 use common::generators::{
     damaged_case, directories_of, fault_case, files, is_below_hidden, sound_case, Made,

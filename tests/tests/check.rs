@@ -1,7 +1,7 @@
 //! Checks of small images, sound and damaged, and of images of many pages: five numbers and every owner byte.
 //!
 //! Programs: the library and the second program. Each call is made by both; every answer and every lent byte is compared.
-//! The archive is made by `rt staticlib owfs`.
+//! The archive is made by `tools/build`.
 
 use common::generators::{flip, misfit, owner_bytes, small_button};
 use common::{both, Button, Seed};

@@ -1,7 +1,7 @@
 //! The check sum: known vectors, and the pages that document 001 prints.
 //!
 //! Programs: the library and the second program, each sum by both; and the sum worked here a whole byte at a time, from a table of 256.
-//! The archive is made by `rt staticlib owfs`.
+//! The archive is made by `tools/build`.
 
 use common::agreed::{check_bytes, crc16};
 use referee::rng::Rng;

@@ -3,7 +3,7 @@
 //!
 //! Programs: the library and the second program. The cases written by hand are put to each of them alone, in `library` and `second_program`, with the
 //! bytes and answers that documents 01 and 02 give; the others are put to both, and every answer and every lent byte is compared.
-//! The archive is made by `rt staticlib owfs`.
+//! The archive is made by `tools/build`.
 
 use common::directory_edits::{names, unused, Edit, Program, BEFORE, EXTRA, UNUSED};
 use common::generators::{

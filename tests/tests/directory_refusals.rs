@@ -3,7 +3,7 @@
 //!
 //! Programs: the library and the second program. The cases written by hand are put to each of them alone, in `library` and `second_program`, with the
 //! answers that documents 01 and 02 give; one case is put to both. Random images with these refusals are in `refusals.rs`.
-//! The archive is made by `rt staticlib owfs`.
+//! The archive is made by `tools/build`.
 
 use std::collections::BTreeSet;
 

@@ -2,7 +2,7 @@
 //! edits change.
 //!
 //! Programs: the library and the second program. Each call is made by both; every answer and every lent byte is compared.
-//! The archive is made by `rt staticlib owfs`.
+//! The archive is made by `tools/build`.
 
 use common::edit_runs::Run;
 use common::generators::stamped_plan;

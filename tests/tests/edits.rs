@@ -1,7 +1,7 @@
 //! Formats and deletes. Where an image is known by construction, so are the answer and the image afterwards.
 //!
 //! Programs: the library and the second program. Each call is made by both; every answer and every lent byte is compared.
-//! The archive is made by `rt staticlib owfs`.
+//! The archive is made by `tools/build`.
 
 use common::generators::{
     any_button, chain_features, counted_owner_bytes, damaged_case, deep_image, directories_of,

@@ -4,7 +4,7 @@
 //!
 //! Programs: the library and the second program. Each call is made by both; every answer and every lent byte is compared.
 //! What an image holds is read from its packets by `contents`, and told by list and read of both programs.
-//! The archive is made by `rt staticlib owfs`.
+//! The archive is made by `tools/build`.
 
 use common::contents::{contents, demand_built, demand_told, Contents};
 use common::edit_pairs::{pair_features, pair_plan, random_pair, FileEdit, Outcome, Pair, MET};

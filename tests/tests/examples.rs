@@ -1,7 +1,7 @@
 //! The examples of document 01 (case 9 as A3 has it), byte for byte, by their numbers there.
 //!
 //! Programs: the library and the second program. Each call is made by both; every answer and every lent byte is compared.
-//! The archive is made by `rt staticlib owfs`.
+//! The archive is made by `tools/build`.
 
 use common::agreed::check_bytes;
 use common::{all_free, answer, chain_of, Button, Record};

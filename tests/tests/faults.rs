@@ -1,7 +1,7 @@
 //! Each fault of an image and the order in which faults are met, on images made by hand. P is 32 and N is 16 unless said.
 //!
 //! Programs: the library and the second program. Each call is made by both; every answer and every lent byte is compared.
-//! The archive is made by `rt staticlib owfs`.
+//! The archive is made by `tools/build`.
 
 use common::{answer, Button};
 use referee::builder::pages::Pages;

@@ -2,7 +2,7 @@
 //! as few pages as there can be, and the refusals.
 //!
 //! Programs: the library and the second program. Each call is made by both; every answer and every lent byte is compared. What the copy must be is
-//! worked out on the source's plan, and again from what check, list and read tell of the copy. The archive is made by `rt staticlib owfs`.
+//! worked out on the source's plan, and again from what check, list and read tell of the copy. The archive is made by `tools/build`.
 
 use std::collections::BTreeMap;
 use std::fs;

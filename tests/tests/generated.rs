@@ -1,7 +1,7 @@
 //! Random images whose answers are known by construction, sound and with one fault, and random changes of them.
 //!
 //! Programs: the library and the second program. Each call is made by both; every answer and every lent byte is compared.
-//! The archive is made by `rt staticlib owfs`.
+//! The archive is made by `tools/build`.
 
 use common::generators::{deep_image, random_sizes};
 use common::{answer, records, Button, Seed, FREE};

@@ -1,7 +1,7 @@
 //! The largest images.
 //!
 //! Programs: the library and the second program. Each call is made by both; every answer and every lent byte is compared.
-//! The archive is made by `rt staticlib owfs`.
+//! The archive is made by `tools/build`.
 
 use common::generators::largest_image;
 use common::{answer, both, mended, no_writes, records, writes, Button, Seed};

@@ -1,7 +1,7 @@
 //! Checks, listings and reads. Where an image is known by construction, so is the answer.
 //!
 //! Programs: the library and the second program. Each call is made by both; every answer and every lent byte is compared.
-//! The archive is made by `rt staticlib owfs`.
+//! The archive is made by `tools/build`.
 
 use common::generators::{
     damaged_case, deep_image, fault_case, features, flip, largest_image, sound_case,

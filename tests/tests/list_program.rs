@@ -1,6 +1,6 @@
 //! Generated dumps, sound, with faults and malformed: each byte that the program `list` prints is the second program's.
 //!
-//! Programs: the program `list`, started for each dump, and the second program. `rt check` and `rt ci` make `list`.
+//! Programs: the program `list`, started for each dump, and the second program. `tools/build` makes `list`.
 
 use common::dumps::{compare, dump, faulty_dump, malformed_dump, sound_dump};
 use common::{Button, Seed, Tally};

@@ -1,6 +1,6 @@
 //! Texts of `list` that are known: those of document 01, of images made by hand and of generated ones.
 //!
-//! Programs: the program `list`, started for each dump, and the second program, which must make the same text. `rt check` and `rt ci` make `list`.
+//! Programs: the program `list`, started for each dump, and the second program, which must make the same text. `tools/build` makes `list`.
 //! The images are formatted and put to by the library and the second program alike.
 
 use common::dumps::{dump, text};

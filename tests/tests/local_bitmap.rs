@@ -1,7 +1,7 @@
 //! The largest local bitmap: 32 pages, one for each of its bits, the last for page 31. P is 32 unless said.
 //!
 //! Programs: the library and the second program. Each call is made by both; every answer and every lent byte is compared.
-//! The archive is made by `rt staticlib owfs`.
+//! The archive is made by `tools/build`.
 
 use common::{all_free, answer, chain_of, Button, Record, FREE};
 use referee::builder::pages::{path, Pages};

@@ -1,7 +1,7 @@
 //! Mend on images with every kind of damage to the bitmap, and on images with another fault.
 //!
 //! Programs: the library and the second program. Each call is made by both; every answer and every lent byte is compared. Answer and image of each
-//! mend are known by construction besides. The archive is made by `rt staticlib owfs`.
+//! mend are known by construction besides. The archive is made by `tools/build`.
 
 use common::generators::{
     fault_case, large_image, roomy_plan, stamped_plan, two_faults_case, worn_plan,

@@ -2,7 +2,7 @@
 //! careful edits that are stopped, and mends.
 //!
 //! Programs: the library and the second program. Each call is made by both; every answer and every lent byte is compared, and the tables are known.
-//! The archive is made by `rt staticlib owfs`.
+//! The archive is made by `tools/build`.
 
 use common::generators::{deep_image, large_image, largest_image, random_sizes, stamped_plan};
 use common::{

@@ -1,7 +1,7 @@
 //! Puts. Where an image is known by construction, so are the answer and the image afterwards.
 //!
 //! Programs: the library and the second program. Each call is made by both; every answer and every lent byte is compared.
-//! The archive is made by `rt staticlib owfs`.
+//! The archive is made by `tools/build`.
 
 use common::generators::{
     any_button, counted_owner_bytes, deep_image, faulty_case, files, flip, is_enough,

@@ -2,7 +2,7 @@
 //! edit being a put, a delete, or the making or removing of a directory, the number, and what is wrong.
 //!
 //! Programs: the library and the second program. Each call is made by both; every answer and every lent byte is compared.
-//! The archive is made by `rt staticlib owfs`.
+//! The archive is made by `tools/build`.
 
 use common::generators::{
     damaged_case, deep_image, directories_of, fault_case, files, hidden_plan, is_below_hidden,

@@ -1,7 +1,7 @@
 //! Reports with a weight (document 02, A12): version 1, version 2 with its knee K, and the files that are refused with 25.
 //!
 //! Programs: the library and the second program, with equal answers in every call. The answers of the first tests are known by hand; those of the last
-//! are the second program's. The archive is made by `rt staticlib owfs`.
+//! are the second program's. The archive is made by `tools/build`.
 
 use common::agreed::{report_add, report_start, report_start_weighted};
 use common::reports::{

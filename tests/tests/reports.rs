@@ -1,7 +1,7 @@
 //! Reports on count files (document 02, A11): totals, greatest doubled peak, near misses, and the files that are refused with 24.
 //!
 //! Programs: the library and the second program, with equal answers in every call. The answers of the first tests are known by hand; those of the last
-//! are the second program's. The archive is made by `rt staticlib owfs`.
+//! are the second program's. The archive is made by `tools/build`.
 
 use common::agreed::{report_add, report_start};
 use common::reports::{

@@ -19,7 +19,7 @@
 //!
 //! Programs: the library and the second program. Each call is made by both; every answer and every lent byte is compared.
 //! The images that the search builds are checked, listed and read by both too. That every pair of sets is tried is a test of the search alone.
-//! The archive is made by `rt staticlib owfs`.
+//! The archive is made by `tools/build`.
 
 use std::collections::{BTreeMap, BTreeSet};
 

@@ -2,7 +2,7 @@
 //! after each call.
 //!
 //! Programs: the library and the second program. Each call is made by both; every answer and every lent byte is compared.
-//! The archive is made by `rt staticlib owfs`.
+//! The archive is made by `tools/build`.
 
 use std::collections::{BTreeMap, BTreeSet};
 

@@ -2,7 +2,7 @@
 //!
 //! Programs: the second program in one test, the program `list` in another; both the second program and the library make the samples of a stopped put
 //! of a bad page and of a new directory, judge those of owner stamps and of a hidden directory, and total the count files of those with counts.
-//! `rt check` and `rt ci` make `list`, `rt staticlib owfs` the archive.
+//! `tools/build` makes `list` and the archive.
 
 use std::fs;
 use std::path::{Path, PathBuf};

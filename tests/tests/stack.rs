@@ -3,7 +3,7 @@
 //!
 //! Programs: the library, by the C program `tests/c/calls.c`, which makes each call on a small stack above memory that may not be touched, and the second
 //! program, whose answers and lent bytes the C program must print. Small images and faults of every kind are in `c_calls.rs`, on the same stack.
-//! The archive is made by `rt staticlib owfs`.
+//! The archive is made by `tools/build`.
 
 use std::path::{Path, PathBuf};
 use std::sync::OnceLock;

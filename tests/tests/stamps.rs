@@ -2,7 +2,7 @@
 //! careful delete with every stopping point, and mend.
 //!
 //! Programs: the library and the second program. Each call is made by both; every answer and every lent byte is compared. Of generated images the
-//! answers and the image afterwards are known by construction besides. The archive is made by `rt staticlib owfs`.
+//! answers and the image afterwards are known by construction besides. The archive is made by `tools/build`.
 
 use common::generators::{
     files, stamp_count, stamp_features, stamped_plan, with_stamps_made_plain, STAMPS, STAMP_COUNTS,

@@ -1,7 +1,7 @@
 //! The Rust crate over the library: results, entries, paths, and every byte of the lent memory.
 //!
 //! Programs: the library, by the functions of the crate `owfs`, and the second program, whose answers and bytes these must give. The entries in walk
-//! order and the paths are compared with the plan of an image and with the rule for paths instead. The archive is made by `rt staticlib owfs`.
+//! order and the paths are compared with the plan of an image and with the rule for paths instead. The archive is made by `tools/build`.
 
 use common::generators::{
     any_case, counted_owner_bytes, deep_image, faulty_case, files, labelled_out_bytes,
