@@ -5,7 +5,6 @@ use Prim.Native.Nat.{ℕ, ◌≤◌}
 use native.Mathlib.Omega.{arith}
 use lib.ListN.{length, take, drop, length-append}
 use lib.Seq.{length-take-le}
-use Rattle.io.specs.Counts.{IsPrefixLen}
 use Rattle.rules.specs.Result.{Res, ok}
 use Rattle.rules.specs.ResultLaws.{clash, ok_inj}
 use Rattle.rules.specs.ListText.{list_text, text_call}
@@ -13,7 +12,7 @@ use Rattle.dump.specs.declared.Printed.{Printed}
 use Rattle.dump.specs.declared.Printed.TheVariants as printed
 use Rattle.dump.specs.PrintResult.{print_result}
 use Rattle.dump.specs.TextFits.{text_front, room_enough}
-use Rattle.list.specs.Input.{IsRead, PrintsText}
+use Rattle.list.specs.Input.{IsPrefixLen, IsRead, PrintsText}
 
 module _ (front out after : List ℕ) (r : Printed) (h : 102600 ≤ length out) (e : (print_result r, after) ≡ text_call front out) where
   whole : ◌≡◌ {A = Res ℕ × List ℕ} (print_result r, after) (ok (length (list_text front)), list_text front ++ drop (length (list_text front)) out)
