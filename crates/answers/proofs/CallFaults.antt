@@ -7,10 +7,10 @@ use native.Mathlib.Omega.{arith}
 use Rattle.geometry.specs.declared.Geometry.{Geometry}
 use Rattle.geometry.specs.Geometry.{Fit}
 use Rattle.rules.specs.Result.{Res, ok, err}
-use Rattle.rules.specs.ResultLaws.{clash, err_same}
-use Rattle.rules.specs.RefusalLaws.{Refuses, refuses_within, refuses_ok, format_faults}
-use Rattle.rules.specs.CallLaws.{put_faults, delete_faults, make_faults, remove_faults}
-use Rattle.rules.specs.CarefulLaws.{careful_put_faults, careful_delete_faults, mend_faults}
+use Rattle.rules.proofs.ResultLaws.{clash, err_same}
+use Rattle.rules.proofs.RefusalLaws.{Refuses, refuses_within, refuses_ok, format_faults}
+use Rattle.rules.proofs.CallLaws.{put_faults, delete_faults, make_faults, remove_faults}
+use Rattle.rules.proofs.CarefulLaws.{careful_put_faults, careful_delete_faults, mend_faults}
 use Rattle.rules.specs.Calls.{Effect, plainly}
 use Rattle.rules.specs.Format.{format}
 use Rattle.rules.specs.Put.{put}

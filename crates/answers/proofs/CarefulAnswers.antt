@@ -14,8 +14,8 @@ use Rattle.rules.specs.PageSets.{bit}
 use Rattle.rules.specs.Calls.{Effect}
 use Rattle.rules.specs.Careful.{careful_put, careful_delete, mend, careful_put_call, careful_delete_call, mend_call, count_of, cleared_of}
 use Rattle.rules.specs.CarefulPromises.{Carefully, CarefullyPuts, CarefullyDeletes, Mends}
-use Rattle.rules.specs.CarefulLaws.{careful_put_most, careful_delete_most, mend_most}
-use Rattle.careful_theorems.specs.CarefulCalls.{careful_put_stated, careful_delete_stated, mend_stated}
+use Rattle.rules.proofs.CarefulLaws.{careful_put_most, careful_delete_most, mend_most}
+use Rattle.careful_theorems.proofs.CarefulCalls.{careful_put_stated, careful_delete_stated, mend_stated}
 use Rattle.answers.specs.declared.OwfsWrites.{OwfsWrites}
 use Rattle.answers.specs.declared.OwfsMended.{OwfsMended}
 use Rattle.answers.specs.ExportedAnswers.{writes_for, mended_for, count_told, careful_put_answer, careful_delete_answer, mend_answer}

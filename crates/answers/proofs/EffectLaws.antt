@@ -14,12 +14,12 @@ use Rattle.geometry.specs.Geometry.{geometry_of, Fit}
 use Rattle.geometry.specs.ShapeLaws.{sized_of, fit_of}
 use Rattle.rules.specs.declared.WriteCount.{WriteCount}
 use Rattle.rules.specs.Result.{Res, ok, err}
-use Rattle.rules.specs.ResultLaws.{clash}
+use Rattle.rules.proofs.ResultLaws.{clash}
 use Rattle.rules.specs.Chain.{views_of}
 use Rattle.rules.specs.PageSets.{bit}
 use Rattle.rules.specs.Check.{check}
 use Rattle.rules.specs.Calls.{in_geometry, Effect, effect, effective}
-use Rattle.rules.specs.RefusalLaws.{Refuses}
+use Rattle.rules.proofs.RefusalLaws.{Refuses}
 use Rattle.rules.specs.CarefulPromises.{IsDone}
 use Rattle.answers.specs.Small.{Small}
 use Rattle.answers.proofs.CallFaults.{CallFaults}

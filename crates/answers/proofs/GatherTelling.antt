@@ -16,14 +16,14 @@ use Rattle.geometry.specs.ChooseLaws.{choose_true, choose_false}
 use Rattle.geometry.specs.Number.{Bytes}
 use Rattle.geometry.specs.ShapeLaws.{fit_of}
 use Rattle.rules.specs.Result.{Res, ok, err}
-use Rattle.rules.specs.ResultLaws.{clash}
+use Rattle.rules.proofs.ResultLaws.{clash}
 use Rattle.rules.specs.Chain.{views_of}
 use Rattle.rules.specs.Calls.{shape, in_geometry}
-use Rattle.rules.specs.RefusalLaws.{Refuses, refuses_then, refuses_ok, refuses_within, refuses_with}
-use Rattle.rules.specs.FuelLaws.{check_faults}
+use Rattle.rules.proofs.RefusalLaws.{Refuses, refuses_then, refuses_ok, refuses_within, refuses_with}
+use Rattle.rules.proofs.FuelLaws.{check_faults}
 use Rattle.gathering.specs.Gather.{gather, gathered, gather_call}
 use Rattle.gathering.specs.GatherPromises.{Gathers}
-use Rattle.gathering.specs.GatherDone.{gather_stated}
+use Rattle.gathering.proofs.GatherDone.{gather_stated}
 use Rattle.answers.specs.declared.OwfsAnswer.{OwfsAnswer}
 use Rattle.answers.specs.ExportedAnswers.{answer_for, gather_answer}
 use Rattle.answers.specs.Small.{Small, DoneSmall}

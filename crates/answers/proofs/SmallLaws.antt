@@ -14,21 +14,21 @@ use Rattle.packet.specs.Packet.{View, view_of}
 use Rattle.rules.specs.declared.Totals.{Totals}
 use Rattle.rules.specs.declared.Line.{Line}
 use Rattle.rules.specs.Result.{Res, ok, err, and_then}
-use Rattle.rules.specs.ResultLaws.{clash, ok_inj, on_then, on_refuse}
-use Rattle.rules.specs.PageSetLaws.{within_length}
+use Rattle.rules.proofs.ResultLaws.{clash, ok_inj, on_then, on_refuse}
+use Rattle.rules.proofs.PageSetLaws.{within_length}
 use Rattle.rules.specs.Chain.{Views, views_of, Link, link, first, content, linked}
 use Rattle.rules.specs.WellFormed.{HasPackets, Under}
 use Rattle.rules.specs.Tree.{Items, end, page, file, dir, start_of, Image, used}
 use Rattle.rules.specs.Check.{check}
-use Rattle.rules.specs.Soundness.{check_sound}
+use Rattle.rules.proofs.Soundness.{check_sound}
 use Rattle.rules.specs.Owners.{totals}
 use Rattle.rules.specs.Listing.{lines_of, line_at}
 use Rattle.rules.specs.Paths.{path_of, file_key, Found, nothing, a_file, a_directory, find, root_place}
-use Rattle.rules.specs.TargetLaws.{reached}
+use Rattle.rules.proofs.TargetLaws.{reached}
 use Rattle.rules.specs.Calls.{bytes_of, file_at, read_bytes, length_of, asked, in_geometry, Effect, plainly, effective, check_call, list_call, read_call, format_call, put_call, delete_call}
-use Rattle.rules.specs.RefusalLaws.{Refuses}
-use Rattle.rules.specs.FuelLaws.{check_faults}
-use Rattle.rules.specs.CallLaws.{asked_fits, asked_invalid, read_faults}
+use Rattle.rules.proofs.RefusalLaws.{Refuses}
+use Rattle.rules.proofs.FuelLaws.{check_faults}
+use Rattle.rules.proofs.CallLaws.{asked_fits, asked_invalid, read_faults}
 use Rattle.rules.specs.Format.{format}
 use Rattle.rules.specs.Put.{put}
 use Rattle.rules.specs.Delete.{delete}

@@ -14,10 +14,10 @@ use Rattle.geometry.specs.ShapeLaws.{fit_of}
 use Rattle.rules.specs.declared.Totals.{Totals}
 use Rattle.rules.specs.declared.Line.{Line}
 use Rattle.rules.specs.Result.{Res, ok, err, and_then, IsOk}
-use Rattle.rules.specs.ResultLaws.{clash, on_refused}
+use Rattle.rules.proofs.ResultLaws.{clash, on_refused}
 use Rattle.rules.specs.Chain.{views_of}
-use Rattle.rules.specs.RefusalLaws.{Refuses, refuses_ok, refuses_within, line_faults}
-use Rattle.rules.specs.FuelLaws.{check_faults}
+use Rattle.rules.proofs.RefusalLaws.{Refuses, refuses_ok, refuses_within, line_faults}
+use Rattle.rules.proofs.FuelLaws.{check_faults}
 use Rattle.rules.specs.Tree.{Image}
 use Rattle.rules.specs.Check.{check}
 use Rattle.rules.specs.Owners.{totals}
@@ -27,13 +27,13 @@ use Rattle.rules.specs.Put.{put}
 use Rattle.rules.specs.Delete.{delete}
 use Rattle.rules.specs.Directories.{make_directory, make_call, remove_directory, remove_call}
 use Rattle.rules.specs.Calls.{read_bytes, length_of, filled, in_geometry, asked, Effect, plainly, effective, check_call, list_call, read_call, format_call, put_call, delete_call}
-use Rattle.rules.specs.CallLaws.{asked_fits, asked_invalid, read_faults}
+use Rattle.rules.proofs.CallLaws.{asked_fits, asked_invalid, read_faults}
 use Rattle.rules.specs.Paths.{path_of, directory_path_of}
 use Rattle.rules.specs.Candidate.{NotReadOnly, Absent, PutFile, EmptyDirectory}
 use Rattle.rules.specs.Promises.{Accepts, TellsTree, Formats, Deletes, Removes, Puts, Makes}
 use Rattle.reading_theorems.specs.CheckCall.{asked_tells, tells_said}
-use Rattle.editing_theorems.specs.Demand3.{demand_said}
-use Rattle.editing_theorems.specs.Promised.{format_stated, delete_stated, removal_stated, put_stated, make_stated, leaves_said}
+use Rattle.editing_theorems.proofs.Demand3Calls.{demand_said}
+use Rattle.editing_theorems.proofs.Promised.{format_stated, delete_stated, removal_stated, put_stated, make_stated, leaves_said}
 use Rattle.answers.proofs.CallFaults.{some_pages, CallFaults, format_told, delete_told, make_told, remove_told, put_told}
 use Rattle.answers.proofs.EffectLaws.{effective_number}
 use Rattle.answers.specs.declared.OwfsTotals.{OwfsTotals}

@@ -9,11 +9,11 @@ use native.Mathlib.Decide.{dec_lt}
 use lib.ListN.{length, get_or}
 use borrow.Author.Tests.{eq-eqb, ne_eqb}
 use Rattle.rules.specs.Result.{ok, err, refuse_unless}
-use Rattle.rules.specs.ResultLaws.{refuse_true, refuse_false}
+use Rattle.rules.proofs.ResultLaws.{refuse_true, refuse_false}
 use Rattle.rules.specs.PageSets.{bit, mem}
-use Rattle.rules.specs.PageSetLaws.{hits, same, other}
+use Rattle.rules.proofs.PageSetLaws.{hits, same, other}
 use Rattle.rules.specs.Bitmap.{bit_at, lowest_difference}
-use Rattle.rules.specs.BitmapLaws.{lowest, agree_difference, bit_of}
+use Rattle.rules.proofs.BitmapLaws.{lowest, agree_difference, bit_of}
 use Rattle.owners.specs.Owned.{Represents, page_bit}
 use Rattle.owners.specs.BitLaws.{marks_none, bit_is as marked}
 use Rattle.rules.specs.Check.{judge_bits}

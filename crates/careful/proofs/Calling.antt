@@ -14,7 +14,7 @@ use Rattle.packet.specs.Budgets.{with_limit}
 use Rattle.rules.specs.declared.WriteCount.{WriteCount}
 use Rattle.rules.specs.declared.Halted.{Halted}
 use Rattle.rules.specs.Result.{Res, ok, err, and_then}
-use Rattle.rules.specs.ResultLaws.{then_ok, then_err, then_assoc, then_cong}
+use Rattle.rules.proofs.ResultLaws.{then_ok, then_err, then_assoc, then_cong}
 use Rattle.rules.specs.PageSets.{free_pages}
 use Rattle.rules.specs.Chain.{views_of}
 use Rattle.rules.specs.Tree.{used}
@@ -23,7 +23,7 @@ use Rattle.rules.specs.Put.{put_target, put_edit}
 use Rattle.rules.specs.Answers.{count_result}
 use Rattle.rules.specs.Careful.{halted_at, careful_writes, careful_put, careful_put_call, count_of}
 use Rattle.rules.specs.CarefulPromises.{IsDone, CarefullyPuts}
-use Rattle.careful_theorems.specs.CarefulCalls.{careful_put_stated}
+use Rattle.careful_theorems.proofs.CarefulCalls.{careful_put_stated}
 use Rattle.edit.specs.declared.Outcome.{Outcome}
 use Rattle.volume.specs.Edits.{effect_of, TableOf, EffectLeaves}
 use Rattle.volume.proofs.EditLaws.{effective_leaves}

@@ -15,7 +15,7 @@ use Rattle.packet.specs.Budgets.{with_limit}
 use Rattle.rules.specs.declared.WriteCount.{WriteCount}
 use Rattle.rules.specs.declared.Halted.{Halted}
 use Rattle.rules.specs.Result.{Res, ok, err, and_then}
-use Rattle.rules.specs.ResultLaws.{then_ok, then_err, then_assoc, then_cong}
+use Rattle.rules.proofs.ResultLaws.{then_ok, then_err, then_assoc, then_cong}
 use Rattle.rules.specs.PageSets.{count}
 use Rattle.rules.specs.Chain.{views_of}
 use Rattle.rules.specs.Tree.{Image, used}
@@ -27,8 +27,8 @@ use Rattle.rules.specs.Answers.{count_result}
 use Rattle.rules.specs.Careful.{halted_at, careful_writes, careful_delete, careful_delete_call, count_of}
 use Rattle.rules.specs.CarefulPromises.{IsDone, CarefullyDeletes}
 use Rattle.editing_theorems.specs.DeleteLaws.{stands_in, delete_shows, a_delete_lem}
-use Rattle.careful_theorems.specs.MarkedPages.{marks_stand}
-use Rattle.careful_theorems.specs.CarefulCalls.{careful_delete_stated}
+use Rattle.careful_theorems.proofs.MarkedPages.{marks_stand}
+use Rattle.careful_theorems.proofs.CarefulCalls.{careful_delete_stated}
 use Rattle.edit.specs.declared.Outcome.{Outcome}
 use Rattle.delete.specs.Deletes.{delete_writes, PathDeleted}
 use Rattle.volume.specs.Edits.{effect_of, TableOf, EffectLeaves}

@@ -10,11 +10,11 @@ use Rattle.packet.specs.declared.Budget.{Budget}
 use Rattle.packet.specs.Budgets.{Progress, with_limit, write_all}
 use Rattle.rules.specs.declared.WriteCount.{WriteCount}
 use Rattle.rules.specs.Result.{Res, ok, err, and_then}
-use Rattle.rules.specs.ResultLaws.{then_ok, then_err}
+use Rattle.rules.proofs.ResultLaws.{then_ok, then_err}
 use Rattle.rules.specs.Answers.{count_result}
 use Rattle.rules.specs.Calls.{Effect}
 use Rattle.rules.specs.Careful.{halted_at}
-use Rattle.careful_theorems.specs.HaltLaws.{limited_to, all_spent, halt_tells}
+use Rattle.careful_theorems.proofs.HaltLaws.{limited_to, all_spent, halt_tells}
 use Rattle.edit.specs.declared.Outcome.{Outcome}
 use Rattle.edit.specs.declared.Outcome.TheVariants as outcome
 use Rattle.edit.specs.Plans.{Outcomes}

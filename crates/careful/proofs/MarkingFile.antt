@@ -12,13 +12,13 @@ use Rattle.packet.specs.declared.Budget.{Budget}
 use Rattle.packet.specs.Budgets.{Progress, Open, Stopped, write_all}
 use Rattle.packet.specs.BudgetLaws.{all_joined, stopped_all}
 use Rattle.rules.specs.Result.{Res}
-use Rattle.rules.specs.ResultLaws.{then_ok, then_err}
+use Rattle.rules.proofs.ResultLaws.{then_ok, then_err}
 use Rattle.rules.specs.PageSets.{count, free_pages}
-use Rattle.rules.specs.PageSetLaws.{count_append, range_le}
+use Rattle.rules.proofs.PageSetLaws.{count_append, range_le}
 use Rattle.rules.specs.Chain.{one_view, views_of, Link, pages, linked, pages_for}
 use Rattle.rules.specs.Tree.{Items, own_pages, all_pages, map_pages, Image, used}
 use Rattle.rules.specs.Bitmap.{bitmap_of}
-use Rattle.rules.specs.BitmapLaws.{pages_remap}
+use Rattle.rules.proofs.BitmapLaws.{pages_remap}
 use Rattle.rules.specs.WellFormed.{HasPackets}
 use Rattle.rules.specs.Paths.{file_key, Found, nothing, a_file, a_directory, find, change_at}
 use Rattle.rules.specs.Writes.{map_writes}
@@ -34,9 +34,9 @@ use Rattle.editing_theorems.specs.EditedImage as es
 use Rattle.editing_theorems.specs.EditedImage.{used_edited, here_stands, place_shaped}
 use Rattle.editing_theorems.specs.PutLaws as laws
 use Rattle.editing_theorems.specs.PutLaws.{Asked}
-use Rattle.careful_theorems.specs.Stops.{CarefulEdit, A, image_a, marks_fit, s_a, directory_a, edit_a, four_parts}
-use Rattle.careful_theorems.specs.MarkedPages.{marks_new}
-use Rattle.careful_theorems.specs.CarefulPuts as careful
+use Rattle.careful_theorems.proofs.Stops.{CarefulEdit, A, image_a, marks_fit, s_a, directory_a, edit_a, four_parts}
+use Rattle.careful_theorems.proofs.MarkedPages.{marks_new}
+use Rattle.careful_theorems.proofs.CarefulPuts as careful
 use Rattle.chain.specs.KnownChain.{ChainAt}
 use Rattle.marks.specs.MapPages.{HasRoot, WritesMap}
 use Rattle.marks.specs.RootLaws.{root_held}

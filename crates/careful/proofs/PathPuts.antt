@@ -8,14 +8,14 @@ use Rattle.geometry.specs.Geometry.{Fit}
 use Rattle.packet.specs.Packet.{Write}
 use Rattle.packet.specs.declared.Budget.{Budget}
 use Rattle.rules.specs.Result.{Res, ok, err, and_then}
-use Rattle.rules.specs.ResultLaws.{ok_inj, then_ok, then_err}
+use Rattle.rules.proofs.ResultLaws.{ok_inj, then_ok, then_err}
 use Rattle.rules.specs.Chain.{views_of}
 use Rattle.rules.specs.Tree.{Image}
 use Rattle.rules.specs.Check.{check}
 use Rattle.rules.specs.Paths.{Target, a_file}
 use Rattle.rules.specs.Put.{put_target}
 use Rattle.rules.specs.Owners.{OwnerRecord}
-use Rattle.careful_theorems.specs.CarefulPuts as careful
+use Rattle.careful_theorems.proofs.CarefulPuts as careful
 use Rattle.edit.specs.declared.NewFile.{NewFile}
 use Rattle.edit.specs.declared.Outcome.{Outcome}
 use Rattle.edit.specs.declared.Outcome.TheVariants as outcome

@@ -1,3 +1,2 @@
 // The careful edits and the mend: the theorems are in specs/.
 #![tactic(auto)]
-

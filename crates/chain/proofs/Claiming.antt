@@ -17,11 +17,11 @@ use Rattle.geometry.specs.PageLaws.{page_length}
 use Rattle.packet.specs.Packet.{View, view_of}
 use Rattle.packet.specs.Reading.{right_packet}
 use Rattle.rules.specs.Result.{Res, ok, err, and_then, refuse_unless}
-use Rattle.rules.specs.ResultLaws.{ok_inj, then_ok, then_err, refuse_true, refuse_false, on_then, on_refuse}
+use Rattle.rules.proofs.ResultLaws.{ok_inj, then_ok, then_err, refuse_true, refuse_false, on_then, on_refuse}
 use Rattle.rules.specs.PageSets.{count, mem}
-use Rattle.rules.specs.PageSetLaws.{within_length, free_true, mem_true}
+use Rattle.rules.proofs.PageSetLaws.{within_length, free_true, mem_true}
 use Rattle.rules.specs.Chain.{Link, link, pages, content, Body, Test, walk}
-use Rattle.rules.specs.ChainLaws.{packet_inv}
+use Rattle.rules.proofs.ChainLaws.{packet_inv}
 use Rattle.rules.specs.Owners.{OwnerRecord, held}
 use Rattle.owners.specs.Owned.{owner_at, Represents}
 use Rattle.owners.specs.OwnerLaws.{nonzero_pos, owner_inside, represents_within, represents_set, represents_length, free_represents, taken, in_use, in_use_room}

@@ -18,9 +18,9 @@ use Rattle.packet.specs.Judged.{frame_of, judged}
 use Rattle.packet.specs.Packet.{Packet, bad, good, View, packet_of, view_of}
 use Rattle.packet.specs.Reading.{Right, right_packet, frame_right}
 use Rattle.rules.specs.Result.{ok, err, and_then, refuse_unless}
-use Rattle.rules.specs.ResultLaws.{then_ok, then_err, refuse_true, refuse_false}
+use Rattle.rules.proofs.ResultLaws.{then_ok, then_err, refuse_true, refuse_false}
 use Rattle.rules.specs.Chain.{packet_at, Test}
-use Rattle.rules.specs.ChainLaws.{packet_good}
+use Rattle.rules.proofs.ChainLaws.{packet_good}
 use Rattle.directory.specs.Faults.{fault_at}
 use Rattle.chain.specs.declared.Cursor.{Cursor}
 use Rattle.chain.specs.declared.Step.TheVariants as step

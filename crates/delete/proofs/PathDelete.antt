@@ -11,7 +11,7 @@ use Rattle.rules.specs.Chain.{Views, views_of, Link}
 use Rattle.rules.specs.Tree.{Label, Image}
 use Rattle.rules.specs.Check.{check}
 use Rattle.rules.specs.Paths.{path_of, file_key, nothing, a_file, find}
-use Rattle.rules.specs.TargetLaws.{reached, delete_target_none, delete_target_absent, delete_target_hidden, delete_target_is, delete_target_kept}
+use Rattle.rules.proofs.TargetLaws.{reached, delete_target_none, delete_target_absent, delete_target_hidden, delete_target_is, delete_target_kept}
 use Rattle.rules.specs.Put.{writable}
 use Rattle.rules.specs.Delete.{present, delete_target}
 use Rattle.entries.specs.declared.Slot.{Slot}

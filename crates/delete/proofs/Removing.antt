@@ -8,7 +8,7 @@ use Rattle.packet.specs.declared.Budget.{Budget}
 use Rattle.packet.specs.Budgets.{Progress, write_all, unlimited}
 use Rattle.rules.specs.declared.Entry.{Entry}
 use Rattle.rules.specs.Result.{Res, ok, err, and_then}
-use Rattle.rules.specs.ResultLaws.{ok_inj, then_ok, then_err, then_assoc, then_cong}
+use Rattle.rules.proofs.ResultLaws.{ok_inj, then_ok, then_err, then_assoc, then_cong}
 use Rattle.rules.specs.Chain.{views_of}
 use Rattle.rules.specs.Tree.{Items, Image}
 use Rattle.rules.specs.Check.{check}

@@ -13,7 +13,7 @@ use Rattle.geometry.specs.Geometry.{Valid, geometry_of}
 use Rattle.rules.specs.declared.Totals.{Totals}
 use Rattle.rules.specs.declared.Line.{Line}
 use Rattle.rules.specs.Result.{Res, ok, err, and_then, refuse_unless}
-use Rattle.rules.specs.ResultLaws.{then_ok, then_err}
+use Rattle.rules.proofs.ResultLaws.{then_ok, then_err}
 use Rattle.rules.specs.Chain.{views_of}
 use Rattle.rules.specs.Tree.{Image}
 use Rattle.rules.specs.Check.{check}

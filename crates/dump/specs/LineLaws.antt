@@ -4,12 +4,12 @@ use Rattle.std.proofs.Common.{ap, sym, ◌∙◌, append_assoc, append-nil, arit
 use Rattle.geometry.specs.declared.Geometry.{Geometry}
 use Rattle.rules.specs.declared.Line.{Line}
 use Rattle.rules.specs.Result.{Res, ok, err}
-use Rattle.rules.specs.ResultLaws.{clash, ok_inj}
-use Rattle.rules.specs.PageSetLaws.{within_length}
+use Rattle.rules.proofs.ResultLaws.{clash, ok_inj}
+use Rattle.rules.proofs.PageSetLaws.{within_length}
 use Rattle.rules.specs.Chain.{views_of}
 use Rattle.rules.specs.Tree.{Items, end, page, file, dir, Image, used}
 use Rattle.rules.specs.Check.{check}
-use Rattle.rules.specs.Soundness.{check_sound}
+use Rattle.rules.proofs.Soundness.{check_sound}
 use Rattle.rules.specs.Owners.{file_count, directory_count}
 use Rattle.rules.specs.Listing.{lines_of, line_at}
 use Rattle.rules.specs.ListText.{line_text, lines_text}

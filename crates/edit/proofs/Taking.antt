@@ -5,7 +5,7 @@ use Prim.Native.Nat.{ℕ, ◌+◌, ◌≤◌, ◌<◌}
 use native.Mathlib.Omega.{arith}
 use lib.ListN.{length, take, drop}
 use Rattle.rules.specs.PageSets.{count, free_pages}
-use Rattle.rules.specs.PageSetLaws.{hit_same}
+use Rattle.rules.proofs.PageSetLaws.{hit_same}
 use Rattle.rules.specs.Owners.{OwnerRecord}
 use Rattle.owners.specs.Owned.{Represents}
 use Rattle.owners.specs.OwnerLaws.{taken, represents_taken}

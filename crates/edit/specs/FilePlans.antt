@@ -11,11 +11,11 @@ use Rattle.packet.specs.declared.Budget.{Budget}
 use Rattle.packet.specs.Budgets.{Progress, Open, write_all}
 use Rattle.rules.specs.declared.Entry.{Entry}
 use Rattle.rules.specs.Result.{Res, ok, err, and_after, refuse_unless}
-use Rattle.rules.specs.ResultLaws.{then_ok, then_err, refuse_true, refuse_false}
+use Rattle.rules.proofs.ResultLaws.{then_ok, then_err, refuse_true, refuse_false}
 use Rattle.rules.specs.PageSets.{count, range, free_pages}
-use Rattle.rules.specs.PageSetLaws.{hit_same, count_append, count_split, range_le}
+use Rattle.rules.proofs.PageSetLaws.{hit_same, count_append, count_split, range_le}
 use Rattle.rules.specs.Chain.{Link, pages, first, chain_of, pages_for}
-use Rattle.rules.specs.ChainLaws.{pages_chain_of}
+use Rattle.rules.proofs.ChainLaws.{pages_chain_of}
 use Rattle.rules.specs.Paths.{Path, file_key, Found, nothing, find}
 use Rattle.rules.specs.Tree.{Label, Items, end, page, file, dir, Token, new_page, entry, entry_tokens, stamp_tokens, tokens, file_entry, directory_entry, own_pages, all_pages, keys, map_pages, Image}
 use Rattle.rules.specs.Bitmap.{bitmap_of}
@@ -26,8 +26,8 @@ use Rattle.owners.specs.Owned.{Represents, Marks}
 use Rattle.owners.specs.Free.{free_from}
 use Rattle.owners.specs.BitLaws.{marks_below}
 use Rattle.editing_theorems.specs.Capacity.{capacity_least}
-use Rattle.rules.specs.EditLaws.{find_none, new_entry}
-use Rattle.rules.specs.Soundness.{token_pages, own_tokens}
+use Rattle.rules.proofs.EditLaws.{find_none, new_entry}
+use Rattle.rules.proofs.Soundness.{token_pages, own_tokens}
 use Rattle.rules.specs.Owners.{OwnerRecord}
 use Rattle.editing_theorems.specs.PutDirectory.{extra_one, extra_old}
 use Rattle.editing_theorems.specs.PutLaws as laws

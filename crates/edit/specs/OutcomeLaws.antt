@@ -7,7 +7,7 @@ use Rattle.packet.specs.declared.Budget.{Budget}
 use Rattle.packet.specs.Budgets.{Progress, unlimited}
 use Rattle.packet.specs.BudgetLaws.{all_free_lem}
 use Rattle.rules.specs.Result.{Res, ok, err, and_then}
-use Rattle.rules.specs.ResultLaws.{then_ok, then_err}
+use Rattle.rules.proofs.ResultLaws.{then_ok, then_err}
 use Rattle.edit.specs.declared.Outcome.TheVariants as outcome
 use Rattle.edit.specs.Plans.{Outcomes}
 

@@ -11,7 +11,7 @@ use Rattle.packet.specs.Packet.{view_of, Write, after_writes}
 use Rattle.packet.specs.declared.Budget.{Budget}
 use Rattle.packet.specs.Budgets.{Progress, Open, Stopped, write_all}
 use Rattle.packet.specs.BudgetLaws.{all_joined, stopped_all}
-use Rattle.rules.specs.PageSetLaws.{range_le}
+use Rattle.rules.proofs.PageSetLaws.{range_le}
 use Rattle.rules.specs.Chain.{linked}
 use Rattle.rules.specs.Tree.{Items, Map, in_root, in_file}
 use Rattle.rules.specs.Bitmap.{bitmap_of, remap}

@@ -13,7 +13,7 @@ use Rattle.geometry.specs.PageLaws.{page_length}
 use Rattle.packet.specs.Packet.{good, packet_of, view_of, View, Write, write, written, write_page, after_writes}
 use Rattle.packet.specs.RoundTrip.{packet_written, rest_stays}
 use Rattle.rules.specs.PageSets.{count, Once}
-use Rattle.rules.specs.PageSetLaws.{hit_same, same, other, hits}
+use Rattle.rules.proofs.PageSetLaws.{hit_same, same, other, hits}
 use Rattle.rules.specs.WellFormed.{HasPackets}
 use Rattle.rules.specs.Demand2.{reach}
 use Rattle.editing_theorems.specs.PageWrites.{page_bytes_lem, same_page, length_with, page_with_lem, page_other, bytes_with, length_written, bytes_written, same_written}
@@ -175,7 +175,7 @@ module _ (g : Geometry) where
         (page_of g x (after_writes g ws (write_page g (write p b n) image))) (page_of g x (write_page g (write p b n) image)) (page_of g x image)
         (rest_of_page ws f.1 (write_page g (write p b n) image) (write_fit g p b n f.0 image fit) x)
         (subst (λ (y : ℕ). drop (length b + g.width + 3) (page_of g y (write_page g (write p b n) image)) ≡ drop (length b + g.width + 3) (page_of g y image)) (sym e)
-          (after_packet g p b n f.0 image fit)))
+        (after_packet g p b n f.0 image fit)))
     | other e i ↦ simp (ne_eqb x p e, choose_false)
         (rest_of_page ws f.1 (write_page g (write p b n) image) (write_fit g p b n f.0 image fit) x ∙ ap (drop (reach g x ws)) (page_elsewhere g p b n f.0 image fit x e))
   ]

@@ -6,7 +6,7 @@ use Rattle.geometry.specs.Geometry.{Valid, data_capacity, entry_size, control_si
 use Rattle.rules.specs.declared.Entry.{Entry}
 use Rattle.rules.specs.Names.{entry_bytes}
 use Rattle.rules.specs.Tree.{Label, width, Items, end, page, file, dir, file_entry, directory_entry, Token, entry, stamp_tokens, tokens, token_bytes}
-use Rattle.rules.specs.EditLaws.{width_is}
+use Rattle.rules.proofs.EditLaws.{width_is}
 use Rattle.reading_theorems.specs.EntryLaws.{entry_size_lem, length_entry}
 use Rattle.reading_theorems.specs.TokenLaws.{length_stamps}
 use Rattle.reading_theorems.specs.ControlLaws.{control_size_lem}

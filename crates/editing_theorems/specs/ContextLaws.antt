@@ -4,7 +4,7 @@ use Rattle.std.proofs.Common.{ap, sym, subst, arith}
 use Rattle.geometry.specs.declared.Geometry.{Geometry}
 use Rattle.packet.specs.Packet.{View, Write}
 use Rattle.rules.specs.PageSets.{count, Once}
-use Rattle.rules.specs.PageSetLaws.{count_append}
+use Rattle.rules.proofs.PageSetLaws.{count_append}
 use Rattle.rules.specs.Chain.{Views, one_view, pages, linked}
 use Rattle.rules.specs.Tree.{key_of, Items, start_of, file_entry, directory_entry, Token, new_page, entry, tokens, stamp_tokens, token_links, directory_links, own_pages, all_pages, keys, Map}
 use Rattle.rules.specs.Control.{Parent, sub_control}

@@ -3,9 +3,9 @@ use Rattle.std.specs.Prelude.{◌≡◌, refl, List, [], ◌∷◌, ◌++◌, �
 use Rattle.std.proofs.Common.{ap, ap₂, sym, ◌∙◌, subst, arith, eqb-true}
 use Rattle.geometry.specs.ChooseLaws.{choose_true, choose_false, on_choose}
 use Rattle.rules.specs.Result.{ok}
-use Rattle.rules.specs.ResultLaws.{ok_inj, clash}
+use Rattle.rules.proofs.ResultLaws.{ok_inj, clash}
 use Rattle.rules.specs.PageSets.{count}
-use Rattle.rules.specs.PageSetLaws.{count_append}
+use Rattle.rules.proofs.PageSetLaws.{count_append}
 use Rattle.rules.specs.Chain.{Link, pages}
 use Rattle.rules.specs.Tree.{Label, key_of, Items, end, page, file, dir, start_of, own_pages, inner_pages, all_pages, map_pages, Image, used}
 use Rattle.rules.specs.Control.{Parent}

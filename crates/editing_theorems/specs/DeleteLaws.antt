@@ -8,22 +8,22 @@ use Rattle.geometry.specs.ChooseLaws.{choose_true, choose_false}
 use Rattle.geometry.specs.Geometry.{Fit, first_entries, later_entries}
 use Rattle.geometry.specs.Number.{Bytes}
 use Rattle.rules.specs.Result.{Res, ok}
-use Rattle.rules.specs.ResultLaws.{ok_inj, clash, refuse_inv, on_then}
+use Rattle.rules.proofs.ResultLaws.{ok_inj, clash, refuse_inv, on_then}
 use Rattle.rules.specs.PageSets.{count}
-use Rattle.rules.specs.PageSetLaws.{same, other, hits, count_append}
+use Rattle.rules.proofs.PageSetLaws.{same, other, hits, count_append}
 use Rattle.rules.specs.Chain.{Views, one_view, views_of}
 use Rattle.rules.specs.Tree.{key_of, Items, end, page, file, dir, start_of, inner_pages, all_pages, keys, map_pages, Image, used}
 use Rattle.rules.specs.Control.{Parent}
 use Rattle.rules.specs.Bitmap.{bitmap_of}
 use Rattle.rules.specs.Check.{check}
 use Rattle.rules.specs.WellFormed.{HasBelow, IsDirectory, Entries, WellFormed}
-use Rattle.rules.specs.TargetLaws.{Reached, reached, delete_met, removal_met}
+use Rattle.rules.proofs.TargetLaws.{Reached, reached, delete_met, removal_met}
 use Rattle.rules.specs.Paths.{Path, path_of, directory_path_of, file_key, Found, nothing, a_file, a_directory, find, Place, Target, root_place, directory_at, change_at}
 use Rattle.rules.specs.Writes.{edited, edit_writes}
 use Rattle.rules.specs.Put.{plain_edit}
 use Rattle.rules.specs.Delete.{remove, present, delete_target, remove_edit, delete_edit, remove_at}
 use Rattle.rules.specs.Directories.{present_directory, without_entries, removal_target}
-use Rattle.rules.specs.EditLaws.{all_found, remove_own, remove_inner, remove_fewer, find_removed, find_beside_removed}
+use Rattle.rules.proofs.EditLaws.{all_found, remove_own, remove_inner, remove_fewer, find_removed, find_beside_removed}
 use Rattle.rules.specs.Candidate.{look_up, at_path, chain_pages, EmptyDirectory, directory_keys}
 use Rattle.rules.specs.Demand2.{shown, EditDone, PathIn, IsFile, DeleteShows, Deleted}
 use Rattle.reading_theorems.specs.Directory.{all_split}

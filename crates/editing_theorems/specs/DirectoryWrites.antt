@@ -11,12 +11,12 @@ use Rattle.geometry.specs.NumberLaws.{bytes_append, number_bytes_lem}
 use Rattle.packet.specs.Packet.{good, View, Write, write, same_list}
 use Rattle.rules.specs.declared.Entry.{Entry}
 use Rattle.rules.specs.PageSets.{count, Once, Within}
-use Rattle.rules.specs.PageSetLaws.{hit_same, same, other, hits, range_of}
+use Rattle.rules.proofs.PageSetLaws.{hit_same, same, other, hits, range_of}
 use Rattle.rules.specs.Chain.{first, linked}
 use Rattle.rules.specs.Names.{entry_bytes}
 use Rattle.rules.specs.Tree.{Label, Items, end, page, file, dir, file_entry, directory_entry, Token, entry, stamp_tokens, tokens, token_bytes, token_links, directory_links, own_pages}
 use Rattle.rules.specs.WellFormed.{HasPackets, Stamps, Named, Entries}
-use Rattle.rules.specs.StampLaws.{group_links}
+use Rattle.rules.proofs.StampLaws.{group_links}
 use Rattle.rules.specs.Writes.{same_write, changes, backwards}
 use Rattle.geometry.specs.BoolLaws.{both}
 use Rattle.reading_theorems.specs.PacketLaws.{ByteView, packets_left, packets_right}

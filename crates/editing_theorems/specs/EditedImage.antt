@@ -8,12 +8,12 @@ use Rattle.geometry.specs.Geometry.{Fit, Valid, first_entries, later_entries}
 use Rattle.geometry.specs.Number.{Bytes}
 use Rattle.packet.specs.Packet.{View, view_of, Write, after_writes}
 use Rattle.rules.specs.PageSets.{count, range, Within}
-use Rattle.rules.specs.PageSetLaws.{count_append, range_le}
+use Rattle.rules.proofs.PageSetLaws.{count_append, range_le}
 use Rattle.rules.specs.Chain.{one_view, views_of, Link, pages, linked}
 use Rattle.rules.specs.Tree.{Items, start_of, directory_links, own_pages, inner_pages, all_pages, map_pages, Image, used}
 use Rattle.rules.specs.Control.{Parent, the_root}
 use Rattle.rules.specs.Bitmap.{map_size, bitmap_from, bitmap_of, remap}
-use Rattle.rules.specs.BitmapLaws.{length_bitmap, bytes_bitmap, pages_remap}
+use Rattle.rules.proofs.BitmapLaws.{length_bitmap, bytes_bitmap, pages_remap}
 use Rattle.rules.specs.WellFormed.{HasPackets, HasBelow, HasParts, map_packets, WellFormedWith, WellFormed}
 use Rattle.rules.specs.Paths.{at_root, Place, root_place, change_at}
 use Rattle.rules.specs.Writes.{changes, backwards, control_of, map_writes, Edit, edited, edit_writes}

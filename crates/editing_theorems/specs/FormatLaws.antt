@@ -12,15 +12,15 @@ use Rattle.geometry.specs.Number.{Bytes}
 use Rattle.geometry.specs.NumberLaws.{bytes_append}
 use Rattle.packet.specs.Packet.{view_of, Write, write, after_writes}
 use Rattle.rules.specs.Result.{ok, err, and_after, refuse_unless}
-use Rattle.rules.specs.ResultLaws.{ok_inj, clash, on_refuse, then_ok, then_err, refuse_true, refuse_false}
+use Rattle.rules.proofs.ResultLaws.{ok_inj, clash, on_refuse, then_ok, then_err, refuse_true, refuse_false}
 use Rattle.rules.specs.PageSets.{count, Once, Within}
-use Rattle.rules.specs.PageSetLaws.{range_le}
+use Rattle.rules.proofs.PageSetLaws.{range_le}
 use Rattle.rules.specs.Chain.{Link, pages, content, linked, chain_of, pages_for}
-use Rattle.rules.specs.ChainLaws.{pages_chain_of, content_chain_of, pages_enough, pages_least}
+use Rattle.rules.proofs.ChainLaws.{pages_chain_of, content_chain_of, pages_enough, pages_least}
 use Rattle.rules.specs.Tree.{end, page, Map, in_root, in_file, Image, used}
 use Rattle.rules.specs.Control.{root_control, most_local, local_allowed}
 use Rattle.rules.specs.Bitmap.{bitmap_from, bitmap_of, map_size, refill}
-use Rattle.rules.specs.BitmapLaws.{length_bitmap, bytes_bitmap, refill_same}
+use Rattle.rules.proofs.BitmapLaws.{length_bitmap, bytes_bitmap, refill_same}
 use Rattle.rules.specs.WellFormed.{HasPackets, WellFormed}
 use Rattle.rules.specs.Paths.{nothing}
 use Rattle.rules.specs.Candidate.{at_path}

@@ -4,7 +4,7 @@ use Rattle.std.proofs.Common.{ap, subst, arith, length-drop, drop-drop, leb-true
 use Rattle.geometry.specs.Number.{number, Bytes}
 use Rattle.geometry.specs.NumberLaws.{bytes_drop}
 use Rattle.rules.specs.Result.{ok}
-use Rattle.rules.specs.ResultLaws.{ok_inj, on_refuse}
+use Rattle.rules.proofs.ResultLaws.{ok_inj, on_refuse}
 use Rattle.rules.specs.Names.{valid_name}
 use Rattle.rules.specs.Paths.{Path, names_in, valid_names, path_of, directory_path_of}
 use Rattle.geometry.specs.BoolLaws.{both}

@@ -6,7 +6,7 @@ use Rattle.geometry.specs.Geometry.{entry_size}
 use Rattle.rules.specs.PageSets.{count}
 use Rattle.rules.specs.Tree.{Label, width, Items, file_entry, directory_entry, keys, Map, in_root, in_file, map_pages}
 use Rattle.rules.specs.Paths.{Found, nothing, a_file, a_directory, find}
-use Rattle.rules.specs.EditLaws.{width_is, find_none, none_found}
+use Rattle.rules.proofs.EditLaws.{width_is, find_none, none_found}
 use Rattle.rules.specs.Candidate.{look_up, chain_pages, found_entry, Exists, SameMap}
 use Rattle.reading_theorems.specs.EntryLaws.{entry_size_lem}
 use Rattle.editing_theorems.specs.Capacity.{length_slots}

@@ -4,13 +4,13 @@ use Rattle.std.proofs.Common.{ap, ◌∙◌, mul-le-mul_left, arith, eq-eqb, ne_
 use Rattle.std.proofs.Math.Decide.{dec_lt}
 use Rattle.geometry.specs.ChooseLaws.{choose_true, choose_false}
 use Rattle.rules.specs.PageSets.{bit, count, Once}
-use Rattle.rules.specs.PageSetLaws.{hit_same, same, other, hits}
+use Rattle.rules.proofs.PageSetLaws.{hit_same, same, other, hits}
 use Rattle.rules.specs.Tree.{key_of, width, Items, end, page, file, dir, own_pages, keys}
 use Rattle.rules.specs.WellFormed.{IsDirectory}
 use Rattle.rules.specs.Paths.{Found, nothing, a_file, a_directory, find}
 use Rattle.rules.specs.Put.{is_full}
 use Rattle.rules.specs.Delete.{remove}
-use Rattle.rules.specs.EditLaws.{width_some, none_found, find_beside_removed}
+use Rattle.rules.proofs.EditLaws.{width_some, none_found, find_beside_removed}
 use Rattle.editing_theorems.specs.Capacity.{slots_here, PagesHold}
 
 -- the slots that a directory's entries take

@@ -5,12 +5,12 @@ use Rattle.geometry.specs.declared.Geometry.{Geometry}
 use Rattle.geometry.specs.Geometry.{Fit}
 use Rattle.packet.specs.Packet.{View, Write, write}
 use Rattle.rules.specs.PageSets.{count, Once, Within}
-use Rattle.rules.specs.PageSetLaws.{hit_same, count_append}
+use Rattle.rules.proofs.PageSetLaws.{hit_same, count_append}
 use Rattle.rules.specs.Chain.{one_view, views_of, Link, link, pages, linked}
 use Rattle.rules.specs.Tree.{Items, end, page, file, dir, start_of, directory_links, own_pages, inner_pages, keys, Map, in_root, in_file, map_pages, Image, used}
 use Rattle.rules.specs.Control.{sub_control, Parent}
 use Rattle.rules.specs.Bitmap.{map_size, bitmap_of}
-use Rattle.rules.specs.BitmapLaws.{length_bitmap, bytes_bitmap}
+use Rattle.rules.proofs.BitmapLaws.{length_bitmap, bytes_bitmap}
 use Rattle.rules.specs.WellFormed.{HasPackets, HasBelow, HasParts, map_packets, IsDirectory, Entries, MapHolds, WellFormed}
 use Rattle.reading_theorems.specs.Directory.{own_links}
 use Rattle.editing_theorems.specs.AfterWrites.{write_pages, WritesFit}

@@ -6,7 +6,7 @@ use Rattle.geometry.specs.ChooseLaws.{choose_true, choose_false}
 use Rattle.geometry.specs.Geometry.{Valid, first_entries, later_entries}
 use Rattle.packet.specs.Packet.{good, View}
 use Rattle.rules.specs.PageSets.{hit, count, Once}
-use Rattle.rules.specs.PageSetLaws.{same, other, hits, count_append}
+use Rattle.rules.proofs.PageSetLaws.{same, other, hits, count_append}
 use Rattle.rules.specs.Chain.{one_view, Link, link, pages, linked}
 use Rattle.rules.specs.Names.{file_number, directory_number}
 use Rattle.rules.specs.Tree.{Label, key_of, width, Items, end, page, file, dir, start_of, directory_links, own_pages, inner_pages, keys}
@@ -14,7 +14,7 @@ use Rattle.rules.specs.Control.{Parent, sub_control}
 use Rattle.rules.specs.WellFormed.{HasPackets, HasBelow, IsDirectory, Named, Entries}
 use Rattle.rules.specs.Paths.{Found, a_file, a_directory, find}
 use Rattle.rules.specs.Put.{insert, replace}
-use Rattle.rules.specs.EditLaws.{IsEntry, directory_entry_lem, insert_keys, insert_inner, insert_own, replace_keys, replace_own, replace_inner}
+use Rattle.rules.proofs.EditLaws.{IsEntry, directory_entry_lem, insert_keys, insert_inner, insert_own, replace_keys, replace_own, replace_inner}
 use Rattle.editing_theorems.specs.Capacity.{slots_here, PagesHold, first_some, later_some}
 use Rattle.editing_theorems.specs.HeldPackets.{pages_linked, count_directory, packets_same, below_same}
 use Rattle.editing_theorems.specs.EditedImage.{DirectoryEdit}

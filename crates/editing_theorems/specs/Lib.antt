@@ -19,14 +19,9 @@ pub mod InsertLaws
 pub mod DeleteLaws
 pub mod PutDirectory
 pub mod PutLaws
-pub mod PutDone
-pub mod PutCalls
 pub mod FullPages
 pub mod PathContents
 pub mod FoundLaws
 pub mod LowerBound
 pub mod PutCandidate
-pub mod CallEdits
-pub mod Demand3
-pub mod Promised
 pub mod ReadLaws

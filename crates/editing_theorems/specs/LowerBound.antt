@@ -7,17 +7,17 @@ use native.Mathlib.Omega.{arith}
 use Rattle.geometry.specs.declared.Geometry.{Geometry}
 use Rattle.geometry.specs.Geometry.{Fit, Valid, data_capacity, first_entries, later_entries}
 use Rattle.packet.specs.Packet.{View, view_of}
-use Rattle.rules.specs.ResultLaws.{ok_inj}
+use Rattle.rules.proofs.ResultLaws.{ok_inj}
 use Rattle.rules.specs.PageSets.{bit, count}
-use Rattle.rules.specs.PageSetLaws.{count_append, pigeon, range_le, within_length}
+use Rattle.rules.proofs.PageSetLaws.{count_append, pigeon, range_le, within_length}
 use Rattle.rules.specs.Chain.{one_view, views_of, pages_for}
-use Rattle.rules.specs.ChainLaws.{length_pages, pages_least}
+use Rattle.rules.proofs.ChainLaws.{length_pages, pages_least}
 use Rattle.rules.specs.Tree.{Label, key_of, Items, own_pages, inner_pages, all_pages, keys, map_pages, Image, used}
 use Rattle.rules.specs.WellFormed.{WellFormed}
 use Rattle.rules.specs.Paths.{Found, nothing, a_file, a_directory, find, Place, root_place}
 use Rattle.rules.specs.Put.{is_full, extra_pages}
 use Rattle.rules.specs.Delete.{remove}
-use Rattle.rules.specs.EditLaws.{all_found, remove_inner}
+use Rattle.rules.proofs.EditLaws.{all_found, remove_inner}
 use Rattle.rules.specs.Candidate.{look_up, root_label, at_path, chain_pages, found_entry, Exists, directory_keys, PutFile, EmptyDirectory, Candidate}
 use Rattle.reading_theorems.specs.PacketLaws.{ByteView, byte_view}
 use Rattle.reading_theorems.specs.Directory.{all_split}

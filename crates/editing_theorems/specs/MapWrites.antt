@@ -8,12 +8,12 @@ use Rattle.geometry.specs.Number.{number_bytes, Bytes}
 use Rattle.geometry.specs.NumberLaws.{bytes_append, bytes_take, bytes_drop, length_number, number_bytes_lem}
 use Rattle.packet.specs.Packet.{View}
 use Rattle.rules.specs.PageSets.{count, range, Within}
-use Rattle.rules.specs.PageSetLaws.{hit_same, range_le, range_of}
+use Rattle.rules.proofs.PageSetLaws.{hit_same, range_le, range_of}
 use Rattle.rules.specs.Chain.{Views, one_view, Link, link, pages, first, content, linked}
 use Rattle.rules.specs.Tree.{Items, end, page, file, dir, tokens, token_bytes, token_links, directory_links, own_pages, inner_pages, all_pages, Map, in_root, in_file, map_pages}
 use Rattle.rules.specs.Control.{marker, place_bytes, root_control, sub_control, Parent, the_root}
 use Rattle.rules.specs.Bitmap.{map_size, refill, remap}
-use Rattle.rules.specs.BitmapLaws.{pages_refill, first_refill, length_refill, content_refill, refill_same}
+use Rattle.rules.proofs.BitmapLaws.{pages_refill, first_refill, length_refill, content_refill, refill_same}
 use Rattle.rules.specs.WellFormed.{HasPackets, HasBelow, HasParts, IsDirectory, MapHolds}
 use Rattle.rules.specs.Paths.{Site, at_root, below}
 use Rattle.rules.specs.Writes.{control_of, map_writes}

@@ -7,7 +7,7 @@ use Rattle.geometry.specs.Geometry.{Valid, data_capacity}
 use Rattle.geometry.specs.Number.{Bytes}
 use Rattle.geometry.specs.NumberLaws.{bytes_take, bytes_drop}
 use Rattle.rules.specs.PageSets.{count, range, Within}
-use Rattle.rules.specs.PageSetLaws.{hit_same, range_above, range_below, range_of}
+use Rattle.rules.proofs.PageSetLaws.{hit_same, range_above, range_below, range_of}
 use Rattle.rules.specs.Chain.{first, linked, chain_of}
 use Rattle.rules.specs.Format.{upward}
 use Rattle.reading_theorems.specs.DirectoryComplete.{pages_fit}

@@ -6,7 +6,7 @@ use Rattle.geometry.specs.declared.Geometry.{Geometry}
 use Rattle.geometry.specs.Choose.{choose}
 use Rattle.geometry.specs.ChooseLaws.{choose_true, choose_false}
 use Rattle.rules.specs.PageSets.{count, Once}
-use Rattle.rules.specs.PageSetLaws.{hit_same, same, other, hits}
+use Rattle.rules.proofs.PageSetLaws.{hit_same, same, other, hits}
 use Rattle.rules.specs.Tree.{Label, key_of, Items, start_of, entry, stamp_tokens, token_bytes, own_pages, keys, Image}
 use Rattle.rules.specs.Paths.{Found, a_file, a_directory, find}
 use Rattle.rules.specs.Candidate.{look_up, root_label, at_path, found_entry}

@@ -5,7 +5,7 @@ use Rattle.geometry.specs.declared.Geometry.{Geometry}
 use Rattle.geometry.specs.ChooseLaws.{choose_true, choose_false}
 use Rattle.geometry.specs.Geometry.{data_capacity, control_size, first_entries, later_entries, Valid}
 use Rattle.packet.specs.Packet.{View}
-use Rattle.rules.specs.PageSetLaws.{same, other, hits}
+use Rattle.rules.proofs.PageSetLaws.{same, other, hits}
 use Rattle.rules.specs.Chain.{Views, views_of, Link, link, first, content, linked}
 use Rattle.rules.specs.Tree.{key_of, Items, end, page, file, dir, start_of, directory_links, Image, used}
 use Rattle.rules.specs.Control.{Parent, the_root, root_control, sub_control}

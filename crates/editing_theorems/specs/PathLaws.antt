@@ -3,13 +3,13 @@ use Rattle.std.specs.Prelude.{◌≡◌, refl, true, List, [], ◌∷◌, ◌++�
 use Rattle.std.proofs.Common.{ap, ap₂, sym, ◌∙◌, inl, inr, eq-zero-or-pos, arith, eqb-true, eq-eqb, ne_eqb}
 use Rattle.geometry.specs.ChooseLaws.{choose_true, choose_false, on_choose}
 use Rattle.rules.specs.PageSets.{count, Once}
-use Rattle.rules.specs.PageSetLaws.{hit_same, same, other, hits, count_append}
+use Rattle.rules.proofs.PageSetLaws.{hit_same, same, other, hits, count_append}
 use Rattle.rules.specs.Chain.{Link, pages}
 use Rattle.rules.specs.Names.{directory_number}
 use Rattle.rules.specs.Tree.{Label, key_of, Items, end, page, file, dir, inner_pages, all_pages, keys}
 use Rattle.rules.specs.WellFormed.{Entries}
 use Rattle.rules.specs.Paths.{Found, nothing, a_file, a_directory, find}
-use Rattle.rules.specs.EditLaws.{find_none, all_found, remove_inner}
+use Rattle.rules.proofs.EditLaws.{find_none, all_found, remove_inner}
 use Rattle.rules.specs.Candidate.{look_up, chain_pages}
 use Rattle.reading_theorems.specs.Directory.{all_split}
 use Rattle.editing_theorems.specs.Contexts.{file_no_directory, nothing_no_directory}

@@ -8,7 +8,7 @@ use Rattle.rules.specs.Chain.{Link, content}
 use Rattle.rules.specs.Paths.{Path, Found, Place}
 use Rattle.rules.specs.Tree.{Label, Map, in_root, in_file, Image}
 use Rattle.rules.specs.Bitmap.{remap}
-use Rattle.rules.specs.BitmapLaws.{pages_refill}
+use Rattle.rules.proofs.BitmapLaws.{pages_refill}
 use Rattle.rules.specs.Writes.{Edit, edited}
 use Rattle.rules.specs.Candidate.{at_path, Exists, stamps_of, reads, SameMap, target_path, file_path, Candidate}
 use Rattle.rules.specs.Demand2.{Shown, PutDone}

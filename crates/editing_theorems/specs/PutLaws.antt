@@ -9,9 +9,9 @@ use Rattle.geometry.specs.Geometry.{Valid, data_capacity}
 use Rattle.geometry.specs.Number.{Bytes}
 use Rattle.rules.specs.Result.{ok, and_after, refuse_unless}
 use Rattle.rules.specs.PageSets.{count, range, Within, free_pages}
-use Rattle.rules.specs.PageSetLaws.{count_append, count_split, pigeon, free_law, length_range}
+use Rattle.rules.proofs.PageSetLaws.{count_append, count_split, pigeon, free_law, length_range}
 use Rattle.rules.specs.Chain.{Link, link, first, pages, content, linked, chain_of, pages_for}
-use Rattle.rules.specs.ChainLaws.{pages_least, length_pages, pages_chain_of, length_chain_of, content_chain_of, pages_enough}
+use Rattle.rules.proofs.ChainLaws.{pages_least, length_pages, pages_chain_of, length_chain_of, content_chain_of, pages_enough}
 use Rattle.rules.specs.Names.{valid_name}
 use Rattle.rules.specs.Tree.{Label, Items, own_pages, inner_pages, all_pages, map_pages, Image, used}
 use Rattle.rules.specs.Control.{Parent}
@@ -20,7 +20,7 @@ use Rattle.rules.specs.WellFormed.{Named, WellFormed}
 use Rattle.rules.specs.Paths.{Path, file_key, file_label, Found, find, Place, root_place, directory_at, change_at}
 use Rattle.rules.specs.Writes.{Edit, edited, edit_writes}
 use Rattle.rules.specs.Put.{replace, kept_pages, put_edit, plain_edit, extra_pages, items_after}
-use Rattle.rules.specs.EditLaws.{all_found, replace_own}
+use Rattle.rules.proofs.EditLaws.{all_found, replace_own}
 use Rattle.rules.specs.Candidate.{chain_pages}
 use Rattle.rules.specs.Demand2.{EditDone}
 use Rattle.reading_theorems.specs.Directory.{all_split}

@@ -5,9 +5,9 @@ use Rattle.std.proofs.Common.{◌∙◌}
 use mathlib.Core.List.{List, [], ◌∷◌, ◌++◌}
 use Rattle.geometry.specs.declared.Geometry.{Geometry}
 use Rattle.rules.specs.Result.{Res, ok, err, and_then}
-use Rattle.rules.specs.ResultLaws.{then_ok, then_err, then_cong}
+use Rattle.rules.proofs.ResultLaws.{then_ok, then_err, then_cong}
 use Rattle.rules.specs.Tree.{Label, Items, Image}
-use Rattle.rules.specs.TargetLaws.{target_then}
+use Rattle.rules.proofs.TargetLaws.{target_then}
 use Rattle.rules.specs.Paths.{Path, path_of, directory_key, file_key, Found, nothing, a_file, a_directory, find, Place, root_place, step_down, directory_at}
 use Rattle.rules.specs.Candidate.{look_up, root_label, at_path, directory_keys, target_path, file_path}
 use Rattle.rules.specs.Calls.{bytes_of, file_at}

@@ -1,3 +1,2 @@
 // What the edits do to an image, and demand 3: the theorems are in specs/.
 #![tactic(auto)]
-

@@ -8,7 +8,7 @@ use Rattle.geometry.specs.declared.Geometry.{Geometry}
 use Rattle.geometry.specs.Geometry.{Fit}
 use Rattle.packet.specs.Packet.{Packet, bad, good, View, view_of}
 use Rattle.rules.specs.Chain.{Link, link, first}
-use Rattle.rules.specs.ChainLaws.{first_nonzero}
+use Rattle.rules.proofs.ChainLaws.{first_nonzero}
 use Rattle.chain.specs.declared.Cursor.{Cursor}
 use Rattle.chain.specs.Claims.{IsGood}
 use Rattle.chain.proofs.Following.{Following, small_view, page_known}

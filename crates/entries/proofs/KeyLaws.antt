@@ -15,7 +15,7 @@ use Rattle.geometry.specs.Geometry.{entry_size, Valid}
 use Rattle.geometry.specs.ListLaws.{drop_of_take}
 use Rattle.geometry.specs.Number.{number}
 use Rattle.rules.specs.PageSets.{hit, count, mem}
-use Rattle.rules.specs.PageSetLaws.{hits, same, other, hit_same, count_append, mem_true}
+use Rattle.rules.proofs.PageSetLaws.{hits, same, other, hit_same, count_append, mem_true}
 use Rattle.rules.specs.declared.Entry.{Entry}
 use Rattle.rules.specs.Names.{key, extended}
 use Rattle.entries.specs.EntrySlots.{PlainKey, entry_key, keys_from}

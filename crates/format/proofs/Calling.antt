@@ -13,7 +13,7 @@ use Rattle.rules.specs.Result.{Res, ok}
 use Rattle.rules.specs.Format.{format}
 use Rattle.rules.specs.Calls.{format_call}
 use Rattle.rules.specs.Promises.{Formats}
-use Rattle.editing_theorems.specs.Promised.{format_stated}
+use Rattle.editing_theorems.proofs.Promised.{format_stated}
 use Rattle.rules.specs.declared.Edited.{Edited}
 use Rattle.rules.specs.Answers.{edit_result}
 use Rattle.volume.specs.Edits.{EditLeaves}

@@ -10,15 +10,15 @@ use Rattle.geometry.specs.Geometry.{data_capacity, bitmap_size, Valid, Fit}
 use Rattle.geometry.specs.Number.{Bytes}
 use Rattle.packet.specs.Packet.{Write, write, write_page, after_writes}
 use Rattle.rules.specs.Result.{Res, ok, err}
-use Rattle.rules.specs.ResultLaws.{then_ok, then_err, refuse_true, refuse_false}
+use Rattle.rules.proofs.ResultLaws.{then_ok, then_err, refuse_true, refuse_false}
 use Rattle.rules.specs.PageSets.{hit}
-use Rattle.rules.specs.PageSetLaws.{range_le}
+use Rattle.rules.proofs.PageSetLaws.{range_le}
 use Rattle.rules.specs.Chain.{Link, linked, chain_of, pages_for}
-use Rattle.rules.specs.ChainLaws.{length_chain_of}
+use Rattle.rules.proofs.ChainLaws.{length_chain_of}
 use Rattle.rules.specs.Tree.{in_root, in_file}
 use Rattle.rules.specs.Control.{root_control, place_bytes, most_local, local_allowed}
 use Rattle.rules.specs.Bitmap.{bitmap_from, refill}
-use Rattle.rules.specs.BitmapLaws.{length_bitmap, bytes_bitmap, refill_same}
+use Rattle.rules.proofs.BitmapLaws.{length_bitmap, bytes_bitmap, refill_same}
 use Rattle.owners.specs.Owned.{Marks}
 use Rattle.rules.specs.Format.{upward, empty_image, format_writes, format}
 use Rattle.rules.specs.Owners.{OwnerRecord}

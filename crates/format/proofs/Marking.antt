@@ -6,7 +6,7 @@ use native.Mathlib.Omega.{arith}
 use native.Mathlib.Decide.{dec_lt}
 use lib.ListN.{replicate}
 use Rattle.rules.specs.PageSets.{count, range}
-use Rattle.rules.specs.PageSetLaws.{range_below, range_above}
+use Rattle.rules.proofs.PageSetLaws.{range_below, range_above}
 use Rattle.rules.specs.Format.{upward}
 use Rattle.rules.specs.Owners.{OwnerRecord, free}
 use Rattle.owners.specs.Owned.{owner_at, nonzero, Marks}

@@ -16,7 +16,7 @@ use Rattle.rules.specs.declared.Totals.{Totals}
 use Rattle.rules.specs.declared.Edited.{Edited}
 use Rattle.rules.specs.declared.Edited.TheVariants as edited
 use Rattle.rules.specs.Result.{Res, ok, err, and_then}
-use Rattle.rules.specs.ResultLaws.{then_ok, then_err}
+use Rattle.rules.proofs.ResultLaws.{then_ok, then_err}
 use Rattle.rules.specs.Chain.{views_of}
 use Rattle.rules.specs.Tree.{Image}
 use Rattle.rules.specs.Check.{check}
@@ -31,7 +31,7 @@ use Rattle.volume.proofs.EditLaws.{table_told}
 use Rattle.listing.specs.KnownTree.{HasImage}
 use Rattle.gathering.specs.Gather.{bare_of, gathered_bytes, gather, gathered, gather_call}
 use Rattle.gathering.specs.GatherPromises.{Gathers}
-use Rattle.gathering.specs.GatherDone.{gather_stated}
+use Rattle.gathering.proofs.GatherDone.{gather_stated}
 use Rattle.gather.specs.Copies.{CopiesAll, told_of, GatherLeaves}
 
 module _ (g : Geometry) (image second : List ℕ) (r : Checked) (u : List OwnerRecord) (K : TableChecked g (views_of g image) r u) where

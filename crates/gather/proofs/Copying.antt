@@ -12,7 +12,7 @@ use Rattle.geometry.specs.NumberLaws.{length_number}
 use Rattle.packet.specs.Packet.{view_of, after_writes}
 use Rattle.rules.specs.Result.{ok}
 use Rattle.rules.specs.Chain.{views_of, Link, linked, chain_of, pages_for}
-use Rattle.rules.specs.ChainLaws.{length_chain_of}
+use Rattle.rules.proofs.ChainLaws.{length_chain_of}
 use Rattle.rules.specs.Tree.{is_local, Image, used}
 use Rattle.rules.specs.Control.{the_root, root_control, place_bytes}
 use Rattle.rules.specs.Bitmap.{bitmap_from}
@@ -33,10 +33,10 @@ use Rattle.listing.specs.KnownTree.{HasImage}
 use Rattle.listing.proofs.Accepting.{accepted_stands}
 use Rattle.layout.specs.Layout.{KnownEntries, CountsFurther, KnownDirectory, LaysDirectory}
 use Rattle.gathering.specs.Gather.{Bare, BareImage, bare, bare_of, map_needs, gathered_size, gathered_image, gathered_bytes}
-use Rattle.gathering.specs.GatherPages.{count_gathered}
-use Rattle.gathering.specs.GatherLaid.{Layable, layable, bitmap_same}
-use Rattle.gathering.specs.GatherOrder.{pass_writes}
-use Rattle.gathering.specs.GatherPass.{gathered_then_map}
+use Rattle.gathering.proofs.GatherPages.{count_gathered}
+use Rattle.gathering.proofs.GatherLaid.{Layable, layable, bitmap_same}
+use Rattle.gathering.proofs.GatherOrder.{pass_writes}
+use Rattle.gathering.proofs.GatherPass.{gathered_then_map}
 use Rattle.gather.specs.Copies.{HasRoom, root_writes, LaysRoot, HasKind, CopiesAll}
 
 -- ---- the bits of the pages up to the last: a table without owners, and a bound

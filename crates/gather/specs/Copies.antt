@@ -16,7 +16,7 @@ use Rattle.volume.specs.Scans.{TableChecked}
 use Rattle.volume.specs.Edits.{leaves}
 use Rattle.format.specs.Formats.{control_field}
 use Rattle.gathering.specs.Gather.{Bare, bare, bare_of, further, below_size, gathered_bytes, gather}
-use Rattle.gathering.specs.GatherOrder.{pass_writes}
+use Rattle.gathering.proofs.GatherOrder.{pass_writes}
 
 -- the image is accepted, and from a page on there is room for the root's further pages and all below it
 pub record HasRoom (g : Geometry) (image : List ℕ) (from : ℕ) : Type 0 where

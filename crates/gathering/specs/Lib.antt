@@ -1,10 +1,2 @@
 pub mod Gather
 pub mod GatherPromises
-pub mod GatherPages
-pub mod GatherLeast
-pub mod GatherLaid
-pub mod GatherShape
-pub mod GatherDone
-pub mod WriteOrder
-pub mod GatherOrder
-pub mod GatherPass

@@ -20,7 +20,7 @@ use Rattle.entries.specs.EntrySlots.{advanced}
 use Rattle.entries.specs.TokensAt.{TokensAt, InDirectory, Begins, IsEntry, IsItemAt, NextEntry, NoEntry}
 use Rattle.entries.proofs.ItemLaws.{extended_answer}
 use Rattle.gathering.specs.Gather.{Bare, bare, further}
-use Rattle.gathering.specs.GatherLaid.{BareEntries}
+use Rattle.gathering.proofs.GatherLaid.{BareEntries}
 use Rattle.listing.specs.KnownTree.{DirectoryAt}
 use Rattle.layout.specs.declared.Room.{Room}
 use Rattle.layout.specs.Layout.{TakesSlots}

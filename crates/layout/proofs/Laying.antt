@@ -26,8 +26,8 @@ use Rattle.entries.specs.EntrySlots.{Fits, advanced}
 use Rattle.entries.specs.TokensAt.{TokensAt, InDirectory, Begins, IsEntry, IsItemAt, NextEntry, NoEntry}
 use Rattle.entries.proofs.ItemLaws.{extended_answer}
 use Rattle.gathering.specs.Gather.{Bare, bare, further, below_size}
-use Rattle.gathering.specs.GatherLaid.{BareEntries}
-use Rattle.gathering.specs.GatherOrder.{group_bytes, pass_writes}
+use Rattle.gathering.proofs.GatherLaid.{BareEntries}
+use Rattle.gathering.proofs.GatherOrder.{group_bytes, pass_writes}
 use Rattle.listing.specs.KnownTree.{DirectoryAt}
 use Rattle.runs.proofs.TakeLaws.{length_over, front_over}
 use Rattle.layout.specs.declared.Laid.{Laid}

@@ -16,8 +16,8 @@ use Rattle.rules.specs.Control.{Parent, sub_control}
 use Rattle.rules.specs.Check.{Part, chain, directory}
 use Rattle.rules.specs.WellFormed.{Under}
 use Rattle.gathering.specs.Gather.{bare, own_size, below_size}
-use Rattle.gathering.specs.GatherLaid.{BareEntries}
-use Rattle.gathering.specs.GatherOrder.{pass_writes}
+use Rattle.gathering.proofs.GatherLaid.{BareEntries}
+use Rattle.gathering.proofs.GatherOrder.{pass_writes}
 use Rattle.listing.specs.KnownTree.{DirectoryAt, PartAt}
 use Rattle.runs.specs.Runs.{KnownRun, LaysRun}
 use Rattle.layout.specs.Layout.{parent_of, KnownEntries, CountsFurther, part_writes, part_size, PartFits, KnownPart, LaysPart, KnownDirectory, LaysDirectory}

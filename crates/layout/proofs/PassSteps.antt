@@ -12,18 +12,18 @@ use Rattle.geometry.specs.Geometry.{data_capacity, later_entries}
 use Rattle.packet.specs.Packet.{write}
 use Rattle.rules.specs.declared.Entry.{Entry}
 use Rattle.rules.specs.Chain.{Views, content, linked}
-use Rattle.rules.specs.ChainLaws.{length_chain_of}
+use Rattle.rules.proofs.ChainLaws.{length_chain_of}
 use Rattle.rules.specs.Tree.{Label, label_of, width}
-use Rattle.rules.specs.StampLaws.{with_stamps}
-use Rattle.rules.specs.EditLaws.{width_is}
+use Rattle.rules.proofs.StampLaws.{with_stamps}
+use Rattle.rules.proofs.EditLaws.{width_is}
 use Rattle.rules.specs.Control.{Parent}
 use Rattle.rules.specs.Check.{Part, chain, directory}
 use Rattle.rules.specs.Format.{upward}
 use Rattle.editing_theorems.specs.NewChains.{length_upward}
 use Rattle.gathering.specs.Gather.{Bare, fits_here, further, file_size, below_size, file_chain}
-use Rattle.gathering.specs.GatherLeast.{fits_true}
-use Rattle.gathering.specs.GatherLaid.{BareEntries}
-use Rattle.gathering.specs.GatherOrder.{group_bytes, pass_writes}
+use Rattle.gathering.proofs.GatherLeast.{fits_true}
+use Rattle.gathering.proofs.GatherLaid.{BareEntries}
+use Rattle.gathering.proofs.GatherOrder.{group_bytes, pass_writes}
 use Rattle.listing.specs.KnownTree.{PartAt}
 use Rattle.layout.specs.Layout.{new_entry, pages_in, part_writes, part_size, PartFits}
 use Rattle.layout.proofs.Remaining.{with_part}

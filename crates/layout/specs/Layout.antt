@@ -14,8 +14,8 @@ use Rattle.rules.specs.Check.{Part, chain, directory}
 use Rattle.rules.specs.WellFormed.{Under}
 use Rattle.entries.specs.declared.Slot.{Slot}
 use Rattle.gathering.specs.Gather.{Bare, bare, further, own_size, file_size, below_size, file_chain}
-use Rattle.gathering.specs.GatherLaid.{BareEntries}
-use Rattle.gathering.specs.GatherOrder.{pass_writes}
+use Rattle.gathering.proofs.GatherLaid.{BareEntries}
+use Rattle.gathering.proofs.GatherOrder.{pass_writes}
 use Rattle.listing.specs.KnownTree.{DirectoryAt, PartAt}
 use Rattle.layout.specs.declared.Room.{Room}
 use Rattle.layout.specs.declared.Laid.{Laid}

@@ -6,7 +6,7 @@ use native.Mathlib.Omega.{arith}
 use lib.ListN.{length, take, drop, length-append}
 use lib.Seq.{length-take-le}
 use Rattle.rules.specs.Result.{Res, ok}
-use Rattle.rules.specs.ResultLaws.{clash, ok_inj}
+use Rattle.rules.proofs.ResultLaws.{clash, ok_inj}
 use Rattle.rules.specs.ListText.{list_text, text_call}
 use Rattle.dump.specs.declared.Printed.{Printed}
 use Rattle.dump.specs.declared.Printed.TheVariants as printed

@@ -11,19 +11,19 @@ use Rattle.geometry.specs.ChooseLaws.{on_choose}
 use Rattle.geometry.specs.Geometry.{control_size}
 use Rattle.rules.specs.declared.Entry.{Entry}
 use Rattle.rules.specs.Result.{ok}
-use Rattle.rules.specs.ResultLaws.{ok_inj, clash, on_then, on_refuse}
+use Rattle.rules.proofs.ResultLaws.{ok_inj, clash, on_then, on_refuse}
 use Rattle.rules.specs.PageSets.{Within}
-use Rattle.rules.specs.PageSetLaws.{count_append}
+use Rattle.rules.proofs.PageSetLaws.{count_append}
 use Rattle.rules.specs.Chain.{Views, Link, link, pages, first, Test, any_page}
-use Rattle.rules.specs.ChainLaws.{walk_sound}
+use Rattle.rules.proofs.ChainLaws.{walk_sound}
 use Rattle.rules.specs.Names.{key, directory_number, extended}
 use Rattle.rules.specs.Tree.{Items, end, page, file, dir, start_of, Token, new_page, entry, tokens, link_tokens, map_pages, Image}
-use Rattle.rules.specs.TreeLaws.{page_first}
+use Rattle.rules.proofs.TreeLaws.{page_first}
 use Rattle.rules.specs.Control.{Parent, the_root, root_page, sub_page}
 use Rattle.rules.specs.WellFormed.{Under}
 use Rattle.rules.specs.Check.{Part, chain, directory, part_pages, add, stamp, followed, Judge, Scan, judge_file, judge_entry, judge_entries, judge_directory, judge_sub, scan, check, scan_with}
-use Rattle.rules.specs.StampLaws.{stamp_tokens_lem}
-use Rattle.rules.specs.Soundness.{JudgeSound, entry_sound, sub_sound, map_sound}
+use Rattle.rules.proofs.StampLaws.{stamp_tokens_lem}
+use Rattle.rules.proofs.Soundness.{JudgeSound, entry_sound, sub_sound, map_sound}
 use Rattle.listing.specs.KnownTree.{Chained, Below, DirectoryAt, PartAt}
 use Rattle.chain.specs.KnownChain.{ChainAt}
 use Rattle.chain.proofs.Following.{chain_at_lem}

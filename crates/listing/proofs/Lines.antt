@@ -9,7 +9,7 @@ use Rattle.geometry.specs.declared.Geometry.{Geometry}
 use Rattle.rules.specs.declared.Entry.{Entry}
 use Rattle.rules.specs.declared.Line.{Line}
 use Rattle.rules.specs.Result.{ok, err}
-use Rattle.rules.specs.ResultLaws.{clash}
+use Rattle.rules.proofs.ResultLaws.{clash}
 use Rattle.rules.specs.Chain.{Views}
 use Rattle.rules.specs.Names.{extension_number, attribute, directory_number}
 use Rattle.rules.specs.Tree.{Items}

@@ -11,11 +11,11 @@ use Rattle.packet.specs.Packet.{View}
 use Rattle.rules.specs.declared.Entry.{Entry}
 use Rattle.rules.specs.Chain.{Views, Link, link}
 use Rattle.rules.specs.Tree.{Label, label_of, width, Items, end, page, file, dir, Token, new_page, entry, entry_tokens, tokens, link_tokens}
-use Rattle.rules.specs.TreeLaws.{no_tokens, page_first, EntryFirst, stamped, plain, entry_first, tokens_add}
-use Rattle.rules.specs.StampLaws.{stamp_tokens_lem}
+use Rattle.rules.proofs.TreeLaws.{no_tokens, page_first, EntryFirst, stamped, plain, entry_first, tokens_add}
+use Rattle.rules.proofs.StampLaws.{stamp_tokens_lem}
 use Rattle.rules.specs.Check.{Part, chain, directory, add, stamp_label, stamp, followed}
 use Rattle.rules.specs.Put.{insert, is_full}
-use Rattle.rules.specs.EditLaws.{width_is}
+use Rattle.rules.proofs.EditLaws.{width_is}
 use Rattle.entries.specs.declared.Slot.{Slot}
 use Rattle.entries.specs.EntrySlots.{at_entry}
 use Rattle.entries.specs.TokensAt.{TokensAt, InDirectory, Begins, PageRest, PageAhead, LastPage}

@@ -6,7 +6,7 @@ use native.Mathlib.Omega.{arith}
 use lib.ListN.{length}
 use borrow.Author.Tests.{leb-true}
 use Rattle.rules.specs.Result.{Res, ok, err}
-use Rattle.rules.specs.ResultLaws.{ok_inj, on_refuse}
+use Rattle.rules.proofs.ResultLaws.{ok_inj, on_refuse}
 use Rattle.rules.specs.Paths as paths
 use Rattle.rules.specs.Paths.{names_in, path_of, directory_path_of}
 use Rattle.lookup.specs.declared.path.Parsed.{Parsed}

@@ -14,7 +14,7 @@ use Rattle.rules.specs.Tree.{Items, start_of, file_entry, directory_entry, Image
 use Rattle.rules.specs.Check.{check}
 use Rattle.rules.specs.WellFormed.{Under}
 use Rattle.rules.specs.Paths.{Path, path_of, directory_path_of, names_in, file_key, Found, nothing, a_file, a_directory, find, Place, root_place, directory_at, Target, target_at}
-use Rattle.rules.specs.TargetLaws.{reached, target_malformed, target_nowhere, target_is}
+use Rattle.rules.proofs.TargetLaws.{reached, target_malformed, target_nowhere, target_is}
 use Rattle.chain.specs.KnownChain.{ChainAt}
 use Rattle.lookup.proofs.Parts.{file_low, directory_extension}
 use Rattle.listing.specs.KnownTree.{Chained, Below}

@@ -12,9 +12,9 @@ use Rattle.geometry.specs.declared.Geometry.{Geometry}
 use Rattle.geometry.specs.ChooseLaws.{choose_true, choose_false}
 use Rattle.geometry.specs.Number.{number}
 use Rattle.rules.specs.declared.Entry.{Entry}
-use Rattle.rules.specs.PageSetLaws.{hits, same, other}
+use Rattle.rules.proofs.PageSetLaws.{hits, same, other}
 use Rattle.rules.specs.Result.{Res, ok, err}
-use Rattle.rules.specs.ResultLaws.{clash, ok_inj}
+use Rattle.rules.proofs.ResultLaws.{clash, ok_inj}
 use Rattle.rules.specs.Chain.{Views, first}
 use Rattle.rules.specs.Names.{key, attribute, directory_number}
 use Rattle.rules.specs.Tree.{Label, key_of, Items, end, page, file, dir, start_of, directory_entry}

@@ -6,7 +6,7 @@ use Rattle.packet.specs.Packet.{View}
 use Rattle.rules.specs.declared.Entry.{Entry}
 use Rattle.rules.specs.Chain.{Link}
 use Rattle.rules.specs.Tree.{Label, Items, file_entry, Token, new_page, entry, entry_tokens, tokens}
-use Rattle.rules.specs.TreeLaws.{entries_join}
+use Rattle.rules.proofs.TreeLaws.{entries_join}
 use Rattle.rules.specs.Paths.{a_file, find}
 use Rattle.rules.specs.Put.{replace}
 use Rattle.entries.specs.declared.Slot.{Slot}

@@ -4,7 +4,7 @@ use Rattle.std.proofs.Common.{ap, subst, arith, eq-eqb, ne_eqb}
 use Rattle.geometry.specs.declared.Geometry.{Geometry}
 use Rattle.rules.specs.declared.Entry.{Entry}
 use Rattle.rules.specs.Result.{Res, ok, err}
-use Rattle.rules.specs.ResultLaws.{refuse_true, refuse_false}
+use Rattle.rules.proofs.ResultLaws.{refuse_true, refuse_false}
 use Rattle.rules.specs.Chain.{Views}
 use Rattle.rules.specs.Names.{attribute}
 use Rattle.rules.specs.Tree.{Image}

@@ -20,8 +20,8 @@ use Rattle.rules.specs.Candidate.{Absent, EmptyDirectory}
 use Rattle.rules.specs.Demand2.{empty_directory}
 use Rattle.rules.specs.declared.Edited.TheVariants as edited
 use Rattle.reading_theorems.specs.SubControlLaws.{length_sub}
-use Rattle.editing_theorems.specs.PutDone.{PutCall}
-use Rattle.editing_theorems.specs.PutCalls.{a_making}
+use Rattle.editing_theorems.proofs.PutDone.{PutCall}
+use Rattle.editing_theorems.proofs.PutCalls.{a_making}
 use Rattle.lookup.specs.declared.Reached.{Reached}
 use Rattle.edit.specs.declared.NewFile.{NewFile}
 use Rattle.edit.specs.declared.Outcome.{Outcome}

@@ -12,7 +12,7 @@ use Rattle.rules.specs.Tree.{Label, Items, Image}
 use Rattle.rules.specs.Check.{check}
 use Rattle.rules.specs.Paths.{directory_path_of, nothing, a_directory}
 use Rattle.rules.specs.Directories.{vacant}
-use Rattle.rules.specs.TargetLaws.{make_target_none, make_target_hidden, make_target_is, make_target_taken}
+use Rattle.rules.proofs.TargetLaws.{make_target_none, make_target_hidden, make_target_is, make_target_taken}
 use Rattle.entries.specs.declared.Slot.{Slot}
 use Rattle.lookup.specs.declared.Reached.{Reached}
 use Rattle.lookup.specs.declared.PathLookup.{PathLookup}

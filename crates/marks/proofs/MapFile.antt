@@ -16,10 +16,10 @@ use Rattle.packet.specs.Budgets.{Progress, Open, write_one, write_all}
 use Rattle.packet.specs.BudgetLaws.{one_stopped, stopped_all}
 use Rattle.packet.specs.Reading.{right_packet}
 use Rattle.rules.specs.PageSets.{count, Once}
-use Rattle.rules.specs.PageSetLaws.{hit_same}
+use Rattle.rules.proofs.PageSetLaws.{hit_same}
 use Rattle.rules.specs.Chain.{Link, link, pages, first, content, linked}
 use Rattle.rules.specs.Bitmap.{refill}
-use Rattle.rules.specs.BitmapLaws.{first_refill}
+use Rattle.rules.proofs.BitmapLaws.{first_refill}
 use Rattle.rules.specs.Owners.{OwnerRecord}
 use Rattle.reading_theorems.specs.DirectoryComplete.{pages_fit}
 use Rattle.editing_theorems.specs.AfterWrites.{write_pages, WriteFits}

@@ -4,9 +4,9 @@ use Rattle.std.proofs.Common.{ap, ◌∙◌, arith}
 use Rattle.geometry.specs.declared.Geometry.{Geometry}
 use Rattle.packet.specs.Packet.{View, view_of}
 use Rattle.rules.specs.PageSets.{hit, count, Within}
-use Rattle.rules.specs.PageSetLaws.{hit_same, count_append, range_le, range_of, within_length}
+use Rattle.rules.proofs.PageSetLaws.{hit_same, count_append, range_le, range_of, within_length}
 use Rattle.rules.specs.Chain.{views_of, pages}
-use Rattle.rules.specs.ChainLaws.{length_pages}
+use Rattle.rules.proofs.ChainLaws.{length_pages}
 use Rattle.rules.specs.Tree.{Items, end, page, file, dir, start_of, all_pages, Map, in_root, in_file, map_pages, Image}
 use Rattle.rules.specs.Bitmap.{map_size}
 use Rattle.rules.specs.WellFormed.{HasPackets, map_packets, IsDirectory, MapHolds, WellFormedWith}

@@ -19,7 +19,7 @@ use Rattle.rules.specs.declared.Checked.TheVariants as w
 use Rattle.rules.specs.declared.Totals.{Totals}
 use Rattle.rules.specs.declared.Mended.{Mended}
 use Rattle.rules.specs.Result.{Res, ok, err}
-use Rattle.rules.specs.ResultLaws.{ok_inj, on_then, on_refuse, then_ok, refuse_true}
+use Rattle.rules.proofs.ResultLaws.{ok_inj, on_then, on_refuse, then_ok, refuse_true}
 use Rattle.rules.specs.Chain.{views_of}
 use Rattle.rules.specs.Tree.{Image, used}
 use Rattle.rules.specs.Owners.{OwnerRecord, owners}
@@ -30,7 +30,7 @@ use Rattle.rules.specs.Calls.{Effect}
 use Rattle.rules.specs.Careful.{all_mendable, unowned, mend_writes, mend, mend_call, cleared_of}
 use Rattle.rules.specs.CarefulPromises.{IsDone, Mends}
 use Rattle.reading_theorems.specs.Accepted.{scanned_iff}
-use Rattle.careful_theorems.specs.CarefulCalls.{Alike, mended, refused, mend_alike, accepted_mendable, mend_stated}
+use Rattle.careful_theorems.proofs.CarefulCalls.{Alike, mended, refused, mend_alike, accepted_mendable, mend_stated}
 use Rattle.owners.specs.Owned.{Represents}
 use Rattle.owners.specs.OwnerLaws.{represents_owners}
 use Rattle.owners.specs.BitLaws.{marks_none}

@@ -1,7 +1,2 @@
 pub mod EitherOrder
-pub mod PathBytes
 pub mod PathEdits
-pub mod DirectorySlots
-pub mod PagesAfterPuts
-pub mod EditCalls
-pub mod EitherOrderLaws

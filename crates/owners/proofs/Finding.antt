@@ -13,7 +13,7 @@ use lib.Seq.{take_at}
 use borrow.Author.Tests.{eq-eqb}
 use Rattle.geometry.specs.ChooseLaws.{choose_true, choose_false}
 use Rattle.rules.specs.PageSets.{count, mem, free_pages}
-use Rattle.rules.specs.PageSetLaws.{mem_true, mem_false}
+use Rattle.rules.proofs.PageSetLaws.{mem_true, mem_false}
 use Rattle.rules.specs.Owners.{OwnerRecord}
 use Rattle.owners.specs.Owned.{owner_at, is_owned, nonzero, Represents, page_bit}
 use Rattle.owners.specs.OwnerLaws.{nonzero_le, nonzero_pos, nonzero_zero, owner_past, free_represents}

@@ -4,7 +4,7 @@ use Rattle.std.proofs.Common.{ap, sym, ◌∙◌, arith, inl, inr, eq-zero-or-po
 use Rattle.std.proofs.Math.Decide.{dec_lt}
 use Rattle.geometry.specs.ChooseLaws.{choose_true, choose_false}
 use Rattle.rules.specs.PageSets.{bit, count, mem, free_pages}
-use Rattle.rules.specs.PageSetLaws.{free_none, free_all, range_above, range_below}
+use Rattle.rules.proofs.PageSetLaws.{free_none, free_all, range_above, range_below}
 use Rattle.rules.specs.Owners.{OwnerRecord}
 use Rattle.owners.specs.Owned.{owner_at, nonzero, Represents, page_bit, Marks, ClaimsBelow}
 use Rattle.owners.specs.OwnerLaws.{nonzero_le}

@@ -9,7 +9,7 @@ use Rattle.std.proofs.Math.Decide.{dec_lt}
 use Rattle.geometry.specs.Choose.{choose}
 use Rattle.geometry.specs.ChooseLaws.{choose_true, choose_false}
 use Rattle.rules.specs.PageSets.{count, mem, range, Within, free_pages}
-use Rattle.rules.specs.PageSetLaws.{same, other, hits, count_append, mem_true, mem_false, free_none, free_all, free_law, range_below, range_le}
+use Rattle.rules.proofs.PageSetLaws.{same, other, hits, count_append, mem_true, mem_false, free_none, free_all, free_law, range_below, range_le}
 use Rattle.rules.specs.Owners.{OwnerRecord}
 use Rattle.owners.specs.Owned.{Represents}
 use Rattle.owners.specs.Free.{free_among, free_from, Next, found, none}

@@ -6,7 +6,7 @@ use Rattle.std.proofs.Math.Decide.{dec_lt}
 use Rattle.std.proofs.lemmas.List.{length-replicate}
 use Rattle.std.proofs.lemmas.Bool.{not-false}
 use Rattle.rules.specs.PageSets.{count, range, Within}
-use Rattle.rules.specs.PageSetLaws.{hit_same, same, other, hits, count_append, pigeon, range_below, range_of, within_length}
+use Rattle.rules.proofs.PageSetLaws.{hit_same, same, other, hits, count_append, pigeon, range_below, range_of, within_length}
 use Rattle.rules.specs.Chain.{pages}
 use Rattle.rules.specs.Tree.{Items, end, page, file, dir, own_pages, inner_pages, map_pages, Image, used}
 use Rattle.rules.specs.Owners.{file_count, directory_count, OwnerRecord, held, free, own_from, own, own_entries, owners}

@@ -9,13 +9,13 @@ use Rattle.geometry.specs.declared.Shape.TheVariants.{Fits}
 use Rattle.geometry.specs.Geometry.{geometry_of}
 use Rattle.geometry.specs.NumberLaws.{bytes_from}
 use Rattle.rules.specs.Result.{Res, ok, err}
-use Rattle.rules.specs.ResultLaws.{then_err}
+use Rattle.rules.proofs.ResultLaws.{then_err}
 use Rattle.rules.specs.Chain.{views_of}
 use Rattle.rules.specs.Check.{check}
 use Rattle.rules.specs.Put.{put_at, put}
 use Rattle.rules.specs.Calls.{put_call}
 use Rattle.rules.specs.Promises.{Puts}
-use Rattle.editing_theorems.specs.Promised.{put_stated}
+use Rattle.editing_theorems.proofs.Promised.{put_stated}
 use Rattle.rules.specs.declared.Edited.{Edited}
 use Rattle.rules.specs.Answers.{edit_result}
 use Rattle.volume.specs.Edits.{EditLeaves}

@@ -18,8 +18,8 @@ use Rattle.owners.specs.Owned.{Represents}
 use Rattle.rules.specs.declared.Edited.TheVariants as edited
 use Rattle.rules.specs.Candidate.{NotReadOnly, PutFile}
 use Rattle.editing_theorems.specs.PutLaws.{Asked}
-use Rattle.editing_theorems.specs.PutDone.{PutCall}
-use Rattle.editing_theorems.specs.PutCalls.{a_put_lem}
+use Rattle.editing_theorems.proofs.PutDone.{PutCall}
+use Rattle.editing_theorems.proofs.PutCalls.{a_put_lem}
 use Rattle.edit.specs.declared.NewFile.{NewFile}
 use Rattle.edit.specs.declared.Outcome.{Outcome}
 use Rattle.edit.specs.declared.Outcome.TheVariants as outcome

@@ -12,15 +12,15 @@ use Rattle.packet.specs.Packet.{View, view_of}
 use Rattle.rules.specs.declared.Entry.{Entry}
 use Rattle.rules.specs.Result.{ok, err}
 use Rattle.rules.specs.PageSets.{bit, count}
-use Rattle.rules.specs.PageSetLaws.{hit_same}
+use Rattle.rules.proofs.PageSetLaws.{hit_same}
 use Rattle.rules.specs.Chain.{Views, views_of, Link, link, first}
 use Rattle.rules.specs.Tree.{Label, key_of, Items, file, new_page, entry, entry_tokens, tokens, file_entry, keys, Image}
 use Rattle.rules.specs.Check.{check}
 use Rattle.rules.specs.Paths.{Path, path_of, file_key, file_label, Found, nothing, find, target_of}
 use Rattle.rules.specs.Put.{new_item, writable, put_target}
 use Rattle.rules.specs.Candidate.{chain_pages}
-use Rattle.rules.specs.EditLaws.{none_found, found_file, new_entry, new_tokens}
-use Rattle.rules.specs.TargetLaws.{reached, put_target_none, put_target_hidden, put_target_is, put_target_kept}
+use Rattle.rules.proofs.EditLaws.{none_found, found_file, new_entry, new_tokens}
+use Rattle.rules.proofs.TargetLaws.{reached, put_target_none, put_target_hidden, put_target_is, put_target_kept}
 use Rattle.reading_theorems.specs.LabelLaws.{file_no_directory}
 use Rattle.editing_theorems.specs.FormedPaths.{formed}
 use Rattle.editing_theorems.specs.PutDirectory.{file_number_lem, extra_old, extra_new, after_old, after_new, SameName, same_name}

@@ -9,7 +9,7 @@ use Rattle.packet.specs.Packet.{view_of, Write, after_writes}
 use Rattle.packet.specs.declared.Budget.{Budget}
 use Rattle.packet.specs.Budgets.{unlimited}
 use Rattle.rules.specs.Result.{Res, ok, err, and_then}
-use Rattle.rules.specs.ResultLaws.{ok_inj, then_ok, then_err, then_assoc, then_cong}
+use Rattle.rules.proofs.ResultLaws.{ok_inj, then_ok, then_err, then_assoc, then_cong}
 use Rattle.rules.specs.PageSets.{count, free_pages}
 use Rattle.rules.specs.Chain.{views_of, Link, pages}
 use Rattle.rules.specs.Tree.{Label, Items, Image, used}
@@ -20,7 +20,7 @@ use Rattle.rules.specs.Put.{kept_pages, put_edit, plain_edit, put_at}
 use Rattle.owners.specs.Owned.{Represents}
 use Rattle.owners.specs.OwnerLaws.{represents_owners, represents_freed}
 use Rattle.editing_theorems.specs.PutLaws.{Asked, kept_old, free_clear}
-use Rattle.editing_theorems.specs.PutDone.{PutCall, asked_at}
+use Rattle.editing_theorems.proofs.PutDone.{PutCall, asked_at}
 use Rattle.edit.specs.declared.NewFile.{NewFile}
 use Rattle.edit.specs.declared.Outcome.{Outcome}
 use Rattle.edit.specs.declared.Outcome.TheVariants as outcome

@@ -10,7 +10,7 @@ use Rattle.geometry.specs.NumberLaws.{bytes_from}
 use Rattle.rules.specs.declared.Totals.{Totals}
 use Rattle.rules.specs.declared.Line.{Line}
 use Rattle.rules.specs.Result.{Res, ok, err, IsOk}
-use Rattle.rules.specs.ResultLaws.{clash}
+use Rattle.rules.proofs.ResultLaws.{clash}
 use Rattle.rules.specs.Chain.{views_of}
 use Rattle.rules.specs.Owners.{table_with}
 use Rattle.owners.specs.Records.{records_of}

@@ -5,7 +5,7 @@ use Rattle.geometry.specs.declared.Geometry.{Geometry}
 use Rattle.geometry.specs.Geometry.{Valid, Fit}
 use Rattle.geometry.specs.Number.{Bytes}
 use Rattle.rules.specs.Result.{ok, err}
-use Rattle.rules.specs.ResultLaws.{ok_inj, clash}
+use Rattle.rules.proofs.ResultLaws.{ok_inj, clash}
 use Rattle.rules.specs.Chain.{Views, views_of}
 use Rattle.rules.specs.Tree.{Image}
 use Rattle.rules.specs.WellFormed.{WellFormedWith, WellFormedIn, WellFormed}

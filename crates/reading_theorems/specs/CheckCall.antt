@@ -7,11 +7,11 @@ use Rattle.geometry.specs.Geometry.{geometry_of}
 use Rattle.geometry.specs.Number.{Bytes}
 use Rattle.geometry.specs.ShapeLaws.{fit_of}
 use Rattle.rules.specs.Result.{Res, ok, IsOk, and_then}
-use Rattle.rules.specs.ResultLaws.{clash, on_then, then_ok}
+use Rattle.rules.proofs.ResultLaws.{clash, on_then, then_ok}
 use Rattle.rules.specs.Tree.{Image}
 use Rattle.rules.specs.Owners.{totals}
 use Rattle.rules.specs.Calls.{asked, check_call}
-use Rattle.rules.specs.CallLaws.{asked_fits, asked_invalid}
+use Rattle.rules.proofs.CallLaws.{asked_fits, asked_invalid}
 use Rattle.rules.specs.Demand2.{WellFormedAt}
 use Rattle.rules.specs.Promises.{Accepts, TellsTree}
 use Rattle.reading_theorems.specs.Accepted.{accepted_iff}

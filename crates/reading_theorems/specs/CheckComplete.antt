@@ -10,16 +10,16 @@ use Rattle.geometry.specs.ChooseLaws.{choose_true, choose_false}
 use Rattle.geometry.specs.Geometry.{control_size, bitmap_size, Valid}
 use Rattle.packet.specs.Packet.{good}
 use Rattle.rules.specs.Result.{ok}
-use Rattle.rules.specs.ResultLaws.{then_ok, refuse_true}
+use Rattle.rules.proofs.ResultLaws.{then_ok, refuse_true}
 use Rattle.rules.specs.PageSets.{hit, count, Within}
-use Rattle.rules.specs.PageSetLaws.{hit_same, range_le}
+use Rattle.rules.proofs.PageSetLaws.{hit_same, range_le}
 use Rattle.rules.specs.Chain.{Views, first, content, linked, any_page}
-use Rattle.rules.specs.ChainLaws.{packet_good, first_nonzero, any_passes, walk_accepts}
+use Rattle.rules.proofs.ChainLaws.{packet_good, first_nonzero, any_passes, walk_accepts}
 use Rattle.rules.specs.Tree.{Items, end, page, file, dir, start_of, tokens, token_bytes, token_links, directory_links, all_pages}
 use Rattle.rules.specs.Tree.{Map, in_root, in_file, map_pages, Image, used}
 use Rattle.rules.specs.Control.{root_control, the_root, root_page}
 use Rattle.rules.specs.Bitmap.{map_size}
-use Rattle.rules.specs.BitmapLaws.{bits_complete}
+use Rattle.rules.proofs.BitmapLaws.{bits_complete}
 use Rattle.rules.specs.WellFormed.{HasPackets, map_packets, IsDirectory, MapHolds, WellFormedWith, WellFormedIn}
 use Rattle.rules.specs.Check.{raw_bits, judge_sub, judge_map, scan, check, scan_with, judge_map_file}
 use Rattle.reading_theorems.specs.ControlLaws.{whole_ok, head_for, MapFits, head_written, length_root, start_written, count_written}

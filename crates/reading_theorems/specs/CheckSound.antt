@@ -11,14 +11,14 @@ use Rattle.geometry.specs.Number.{Bytes}
 use Rattle.geometry.specs.NumberLaws.{bytes_append}
 use Rattle.packet.specs.Packet.{good}
 use Rattle.rules.specs.Result.{ok}
-use Rattle.rules.specs.ResultLaws.{ok_inj, on_then, on_refuse}
+use Rattle.rules.proofs.ResultLaws.{ok_inj, on_then, on_refuse}
 use Rattle.rules.specs.PageSets.{Within}
 use Rattle.rules.specs.Chain.{Views, Link, link, first, content, linked, Body, any_page}
-use Rattle.rules.specs.ChainLaws.{packet_inv, walk_sound}
+use Rattle.rules.proofs.ChainLaws.{packet_inv, walk_sound}
 use Rattle.rules.specs.Tree.{Map, map_pages, Image, used}
 use Rattle.rules.specs.Control.{root_control, the_root, Head, map_start, root_page}
 use Rattle.rules.specs.Bitmap.{bitmap_from, map_size}
-use Rattle.rules.specs.BitmapLaws.{bits_sound}
+use Rattle.rules.proofs.BitmapLaws.{bits_sound}
 use Rattle.rules.specs.WellFormed.{HasPackets, map_packets, MapHolds, WellFormedWith, WellFormedIn}
 use Rattle.rules.specs.Check.{raw_bits, Scan, judge_sub, judge_map, scan, check, scan_with, judge_map_file}
 use Rattle.reading_theorems.specs.PacketLaws.{ByteView, same_bytes}

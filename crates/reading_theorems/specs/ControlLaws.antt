@@ -12,7 +12,7 @@ use Rattle.geometry.specs.Geometry.{entry_size, control_size}
 use Rattle.geometry.specs.Number.{number, number_bytes, Bytes}
 use Rattle.geometry.specs.NumberLaws.{length_number, number_of, bytes_take, bytes_drop}
 use Rattle.rules.specs.Result.{ok}
-use Rattle.rules.specs.ResultLaws.{ok_inj, on_refuse, refuse_inv, then_ok, refuse_true}
+use Rattle.rules.proofs.ResultLaws.{ok_inj, on_refuse, refuse_inv, then_ok, refuse_true}
 use Rattle.rules.specs.Chain.{Link, first}
 use Rattle.rules.specs.Tree.{Map, in_root, in_file, is_local}
 use Rattle.rules.specs.Control.{marker, place_bytes, bitmap_field, root_control, whole_entries}

@@ -7,12 +7,12 @@ use Rattle.geometry.specs.Number.{Bytes}
 use Rattle.packet.specs.Packet.{good, View}
 use Rattle.rules.specs.Result.{ok}
 use Rattle.rules.specs.PageSets.{count, range, Once}
-use Rattle.rules.specs.PageSetLaws.{hit_same, Hit, same, other, hits, count_append}
+use Rattle.rules.proofs.PageSetLaws.{hit_same, Hit, same, other, hits, count_append}
 use Rattle.rules.specs.Chain.{Views, Link, link, pages, first, linked, Test}
-use Rattle.rules.specs.ChainLaws.{rest}
+use Rattle.rules.proofs.ChainLaws.{rest}
 use Rattle.rules.specs.Tree.{Items, end, page, file, dir, start_of, file_entry, directory_entry, entry, tokens, token_bytes, directory_links, own_pages, inner_pages, all_pages, keys, Map, map_pages}
 use Rattle.rules.specs.Names.{entry_bytes}
-use Rattle.rules.specs.StampLaws.{stamps_links}
+use Rattle.rules.proofs.StampLaws.{stamps_links}
 use Rattle.reading_theorems.specs.EntryLaws.{entry_size_lem, length_entry}
 use Rattle.reading_theorems.specs.TokenLaws.{length_stamps}
 use Rattle.rules.specs.Control.{root_control, Parent, the_root, sub_control, whole_entries, root_page, sub_page}

@@ -9,17 +9,17 @@ use Rattle.geometry.specs.declared.Geometry.{Geometry}
 use Rattle.geometry.specs.ChooseLaws.{on_choose, choose_true, choose_false}
 use Rattle.geometry.specs.Geometry.{width_for, control_size, Valid}
 use Rattle.rules.specs.Result.{ok}
-use Rattle.rules.specs.ResultLaws.{then_ok, refuse_true}
+use Rattle.rules.proofs.ResultLaws.{then_ok, refuse_true}
 use Rattle.rules.specs.PageSets.{hit, count, range, Within}
-use Rattle.rules.specs.PageSetLaws.{hit_same, count_append, range_le, range_of, within_length, within_cons, free_true}
+use Rattle.rules.proofs.PageSetLaws.{hit_same, count_append, range_le, range_of, within_length, within_cons, free_true}
 use Rattle.rules.specs.Chain.{Views, Link, link, pages, first, Test, any_page}
-use Rattle.rules.specs.ChainLaws.{Passes, IsChain, first_nonzero, length_pages, any_passes, walk_accepts}
+use Rattle.rules.proofs.ChainLaws.{Passes, IsChain, first_nonzero, length_pages, any_passes, walk_accepts}
 use Rattle.rules.specs.Names.{file_number, directory_number}
 use Rattle.rules.specs.Tree.{Label, key_of, file_entry, directory_entry, Items, end, page, file, dir, start_of, own_pages, inner_pages, all_pages, keys}
 use Rattle.rules.specs.Tree.{Token, new_page, entry, tokens, token_bytes, token_links, directory_links, stamp_tokens}
 use Rattle.rules.specs.Control.{Parent, sub_control, sub_page}
 use Rattle.rules.specs.WellFormed.{HasBelow, IsDirectory, Stamps, Named, Entries}
-use Rattle.rules.specs.StampLaws.{stamp_all, with_stamps, all_file, all_dir, stamps_followed}
+use Rattle.rules.proofs.StampLaws.{stamp_all, with_stamps, all_file, all_dir, stamps_followed}
 use Rattle.rules.specs.declared.Entry.{Entry}
 use Rattle.rules.specs.Check.{chain, directory, Judge, judge_file, judge_entry, judge_entries, judge_directory, judge_sub}
 use Rattle.reading_theorems.specs.TokenLaws.{TokensFit, whole_tokens, tokens_back, stamps_fit}

@@ -11,18 +11,18 @@ use Rattle.geometry.specs.Geometry.{control_size}
 use Rattle.packet.specs.Packet.{good}
 use Rattle.rules.specs.declared.Entry.{Entry}
 use Rattle.rules.specs.Result.{ok}
-use Rattle.rules.specs.ResultLaws.{ok_inj, clash, on_then, on_refuse}
+use Rattle.rules.proofs.ResultLaws.{ok_inj, clash, on_then, on_refuse}
 use Rattle.rules.specs.PageSets.{count, range, Once, Within}
-use Rattle.rules.specs.PageSetLaws.{count_append, free_test}
+use Rattle.rules.proofs.PageSetLaws.{count_append, free_test}
 use Rattle.rules.specs.Chain.{Views, Link, link, pages, first, linked, Test, any_page}
-use Rattle.rules.specs.ChainLaws.{Passes, IsChain, walk_sound}
+use Rattle.rules.proofs.ChainLaws.{Passes, IsChain, walk_sound}
 use Rattle.rules.specs.Names.{key, valid_name, file_number, directory_number, extended}
 use Rattle.rules.specs.Tree.{Label, label_of, Items, end, page, file, dir, start_of, own_pages, inner_pages, all_pages, keys}
 use Rattle.rules.specs.Tree.{Token, new_page, entry, tokens, token_links, directory_links, link_tokens}
 use Rattle.rules.specs.Control.{Parent, sub_control, sub_page}
 use Rattle.rules.specs.WellFormed.{HasPackets, HasBelow, EntryFits, Named, Entries}
 use Rattle.rules.specs.Check.{Part, chain, directory, part_pages, add, stamp_label, stamp, followed, Judge, judge_file, judge_entry, judge_entries, judge_directory, judge_sub}
-use Rattle.rules.specs.StampLaws.{stamp_tokens_lem, stamp_keys, stamp_inner}
+use Rattle.rules.proofs.StampLaws.{stamp_tokens_lem, stamp_keys, stamp_inner}
 use Rattle.reading_theorems.specs.TokenLaws.{TokensFit, WholePages, Opens, links_begin, links_fit, links_back}
 use Rattle.reading_theorems.specs.LabelLaws.{label_sound}
 use Rattle.reading_theorems.specs.PacketLaws.{ByteView}

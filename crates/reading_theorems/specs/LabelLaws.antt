@@ -3,9 +3,9 @@ use Rattle.std.specs.Prelude.{◌≡◌, true, false, ◌&&◌, ◌||◌, List, 
 use Rattle.std.proofs.Common.{arith, leb-true, ltb-true, le-ltb, ne_eqb}
 use Rattle.rules.specs.declared.Entry.{Entry}
 use Rattle.rules.specs.Result.{ok}
-use Rattle.rules.specs.ResultLaws.{on_refuse, refuse_inv, then_ok, refuse_true}
+use Rattle.rules.proofs.ResultLaws.{on_refuse, refuse_inv, then_ok, refuse_true}
 use Rattle.rules.specs.PageSets.{count, mem}
-use Rattle.rules.specs.PageSetLaws.{same, other, hits}
+use Rattle.rules.proofs.PageSetLaws.{same, other, hits}
 use Rattle.rules.specs.Names.{signs, name_byte, valid_name, file_number, directory_number, extended}
 use Rattle.rules.specs.Check.{judge_label}
 use Rattle.geometry.specs.BoolLaws.{both, on_either, right_fails}

@@ -6,7 +6,7 @@ use Rattle.geometry.specs.Geometry.{entry_size, control_size}
 use Rattle.geometry.specs.Number.{number, number_bytes, Bytes}
 use Rattle.geometry.specs.NumberLaws.{length_number, number_of, bytes_drop}
 use Rattle.rules.specs.Result.{ok}
-use Rattle.rules.specs.ResultLaws.{on_refuse, then_ok, refuse_true}
+use Rattle.rules.proofs.ResultLaws.{on_refuse, then_ok, refuse_true}
 use Rattle.rules.specs.Control.{marker, Parent, sub_control, whole_entries, back_reference, sub_page}
 use Rattle.reading_theorems.specs.ByteLaws.{bytes_are, number_front}
 use Rattle.geometry.specs.BoolLaws.{both}

@@ -12,17 +12,17 @@ use Rattle.packet.specs.Packet.{view_of}
 use Rattle.packet.specs.declared.Budget.{Budget}
 use Rattle.rules.specs.declared.Entry.{Entry}
 use Rattle.rules.specs.Result.{ok, err}
-use Rattle.rules.specs.ResultLaws.{refuse_true, refuse_false}
+use Rattle.rules.proofs.ResultLaws.{refuse_true, refuse_false}
 use Rattle.rules.specs.PageSets.{count}
 use Rattle.rules.specs.Chain.{Views, views_of}
 use Rattle.rules.specs.Names.{attribute}
 use Rattle.rules.specs.Tree.{Label, Items, end, page, file, dir, file_entry, directory_entry, Token, entry, stamp_tokens, tokens, keys, Image}
 use Rattle.rules.specs.Check.{check}
-use Rattle.rules.specs.Soundness.{token_pages, own_tokens, pages_tokens}
+use Rattle.rules.proofs.Soundness.{token_pages, own_tokens, pages_tokens}
 use Rattle.rules.specs.Paths.{directory_path_of, file_key, Found, nothing, a_directory, find}
-use Rattle.rules.specs.TargetLaws.{reached, removal_target_none, removal_target_absent, removal_target_below, removal_target_hidden, removal_target_kept, removal_target_is}
+use Rattle.rules.proofs.TargetLaws.{reached, removal_target_none, removal_target_absent, removal_target_below, removal_target_hidden, removal_target_kept, removal_target_is}
 use Rattle.rules.specs.Directories.{present_directory, shown_directory, without_entries, removal_target}
-use Rattle.rules.specs.EditLaws.{all_found}
+use Rattle.rules.proofs.EditLaws.{all_found}
 use Rattle.editing_theorems.specs.DeleteLaws.{a_removal, no_keys}
 use Rattle.chain.specs.KnownChain.{KnownChain}
 use Rattle.entries.specs.declared.Slot.{Slot}

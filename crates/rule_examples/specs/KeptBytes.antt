@@ -4,13 +4,13 @@ use Rattle.std.proofs.Common.{ap, ◌∙◌, subst}
 use Rattle.geometry.specs.Page.{page_of}
 use Rattle.packet.specs.Packet.{made}
 use Rattle.rules.specs.Result.{Res, ok, and_then}
-use Rattle.rules.specs.ResultLaws.{ok_inj, then_ok}
+use Rattle.rules.proofs.ResultLaws.{ok_inj, then_ok}
 use Rattle.rules.specs.Chain.{views_of}
 use Rattle.rules.specs.Tree.{Image, used}
 use Rattle.rules.specs.Bitmap.{bitmap_of}
 use Rattle.rules.specs.Check.{check}
 use Rattle.rules.specs.Paths.{path_of, Target, target_of}
-use Rattle.rules.specs.TargetLaws.{target_is}
+use Rattle.rules.proofs.TargetLaws.{target_is}
 use Rattle.rules.specs.Writes.{edited, edit_writes}
 use Rattle.rules.specs.Delete.{delete_edit}
 use Rattle.rules.specs.Demand2.{reach, IsFile, Deleted}

@@ -23,17 +23,3 @@ pub mod Demand2
 pub mod Promises
 pub mod Careful
 pub mod CarefulPromises
-pub mod ResultLaws
-pub mod StampLaws
-pub mod PageSetLaws
-pub mod ChainLaws
-pub mod Soundness
-pub mod BitmapLaws
-pub mod EditLaws
-pub mod TargetLaws
-pub mod TreeLaws
-pub mod RefusalLaws
-pub mod FuelLaws
-pub mod CallLaws
-pub mod CarefulLaws
-pub mod DigitLaws

@@ -18,7 +18,7 @@ use Rattle.chain.specs.KnownChain.{ChainAt}
 use Rattle.chain.proofs.Following.{Following, follow, Passed, passes_data, all_passed, follow_on}
 use Rattle.editing_theorems.specs.Capacity.{capacity_is}
 use Rattle.gathering.specs.Gather.{file_size, file_chain}
-use Rattle.gathering.specs.GatherPass.{chain_last}
+use Rattle.gathering.proofs.GatherPass.{chain_last}
 use Rattle.runs.specs.declared.Filling.{Filling}
 use Rattle.runs.specs.Runs.{left_to_lay, page_after, Ready, Takes}
 
@@ -97,4 +97,4 @@ module _ (g : Geometry) (image : List ℕ) (fit : Fit g image) (to : ℕ) (secon
         (w ∙ ap (λ (ws : List Write). after_writes g ws second') (sym k) ∙ lays_on, omega (arith, ends_on, ap (file_size g) y, one x h))
       where
         one : (x : List ℕ) → length x ≤ data_capacity g → file_size g x ≡ 1
-        one x h = Rattle.gathering.specs.GatherPass.size_last g fit.valid x h
+        one x h = Rattle.gathering.proofs.GatherPass.size_last g fit.valid x h

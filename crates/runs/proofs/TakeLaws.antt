@@ -11,7 +11,7 @@ use Rattle.geometry.specs.Page.{overwritten}
 use Rattle.packet.specs.Packet.{write, write_page, after_writes}
 use Rattle.rules.specs.Chain.{linked}
 use Rattle.gathering.specs.Gather.{file_size, file_chain}
-use Rattle.gathering.specs.GatherPass.{size_more, chain_more}
+use Rattle.gathering.proofs.GatherPass.{size_more, chain_more}
 use Rattle.runs.specs.declared.Filling.{Filling}
 use Rattle.runs.specs.Runs.{Ready, Takes}
 

@@ -6,7 +6,7 @@ use native.Mathlib.Omega.{arith}
 use native.Mathlib.Numerals.{add-one}
 use lib.ListN.{length, drop, get_or, set, length-append, drop_of_length-le}
 use lib.Seq.{drop-cons, set_out}
-use Rattle.rules.specs.DigitLaws.{digits_one, digits_more}
+use Rattle.rules.proofs.DigitLaws.{digits_one, digits_more}
 use Rattle.rules.specs.ListText.{digits, without_blanks}
 use Rattle.text.specs.Placed.{placed, Written}
 use Rattle.text.specs.PlacedLaws.{placed_append}

@@ -14,7 +14,7 @@ use Rattle.geometry.specs.Number.{number_bytes}
 use Rattle.rules.specs.declared.Totals.{Totals}
 use Rattle.rules.specs.declared.Line.{Line}
 use Rattle.rules.specs.Result.{err}
-use Rattle.rules.specs.DigitLaws.{digits_one, digits_more}
+use Rattle.rules.proofs.DigitLaws.{digits_one, digits_more}
 use Rattle.rules.specs.ListText.{digits, without_blanks, line_text, totals_text, refusal_text}
 
 pub blank_dropped : (c : ℕ) → c ≡ 32 → without_blanks (c ∷ []) ≡ []

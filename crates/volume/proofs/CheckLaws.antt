@@ -14,13 +14,13 @@ use Rattle.packet.specs.Packet.{View, view_of}
 use Rattle.rules.specs.declared.Totals.{Totals}
 use Rattle.rules.specs.Result.{Res, ok, err, IsOk, and_then}
 use Rattle.rules.specs.Promises.{Accepts}
-use Rattle.rules.specs.ResultLaws.{clash, then_ok, then_err}
+use Rattle.rules.proofs.ResultLaws.{clash, then_ok, then_err}
 use Rattle.rules.specs.Chain.{Views, views_of}
 use Rattle.rules.specs.Tree.{Image, used}
 use Rattle.rules.specs.Owners.{OwnerRecord, owners, totals, table_with, table_after}
 use Rattle.rules.specs.Check.{Scan, judge_bits, scan, check}
 use Rattle.rules.specs.Calls.{asked, check_call}
-use Rattle.rules.specs.CallLaws.{asked_fits}
+use Rattle.rules.proofs.CallLaws.{asked_fits}
 use Rattle.reading_theorems.specs.CheckCall.{check_accepts}
 use Rattle.directory.specs.declared.control.Root.{Root}
 use Rattle.directory.specs.declared.control.Root.TheVariants as root

@@ -9,9 +9,9 @@ use borrow.Author.Tests.{eq-eqb, ne_eqb, lt-ltb, le-ltb}
 use Rattle.geometry.specs.declared.Geometry.{Geometry}
 use Rattle.geometry.specs.Geometry.{bitmap_size}
 use Rattle.rules.specs.Result.{Res, ok, err, and_then, refuse_unless}
-use Rattle.rules.specs.ResultLaws.{then_ok, then_err, refuse_true, refuse_false}
+use Rattle.rules.proofs.ResultLaws.{then_ok, then_err, refuse_true, refuse_false}
 use Rattle.rules.specs.Chain.{Views, Link, pages, content, walk}
-use Rattle.rules.specs.ChainLaws.{length_pages}
+use Rattle.rules.proofs.ChainLaws.{length_pages}
 use Rattle.rules.specs.Tree.{in_file}
 use Rattle.rules.specs.Owners.{OwnerRecord, free, own}
 use Rattle.owners.specs.Owned.{Represents}

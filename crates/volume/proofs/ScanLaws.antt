@@ -20,18 +20,18 @@ use Rattle.packet.specs.Judged.{judged}
 use Rattle.packet.specs.Reading.{right_packet}
 use Rattle.rules.specs.declared.Totals.{Totals}
 use Rattle.rules.specs.Result.{Res, ok, err, and_then, and_after, refuse_unless}
-use Rattle.rules.specs.ResultLaws.{ok_inj, clash, on_then, on_refuse, then_ok, then_err}
+use Rattle.rules.proofs.ResultLaws.{ok_inj, clash, on_then, on_refuse, then_ok, then_err}
 use Rattle.rules.specs.PageSets.{count, Within}
-use Rattle.rules.specs.PageSetLaws.{count_append}
+use Rattle.rules.proofs.PageSetLaws.{count_append}
 use Rattle.rules.specs.Chain.{Views, views_of, Link, content, packet_at, any_page}
-use Rattle.rules.specs.ChainLaws.{packet_good, length_pages, walk_sound}
+use Rattle.rules.proofs.ChainLaws.{packet_good, length_pages, walk_sound}
 use Rattle.rules.specs.Tree.{Items, own_pages, inner_pages, all_pages, Map, in_root, in_file, map_pages, used}
 use Rattle.rules.specs.Control.{the_root, Head, head_of, map_start, map_count, root_page, most_local, local_allowed, place_zeros, field_at}
 use Rattle.rules.specs.Owners.{OwnerRecord, free, own, owners}
 use Rattle.owners.specs.Owned.{owner_at, nonzero, Represents}
 use Rattle.owners.specs.OwnerLaws.{represents_none, represents_own, represents_length, in_use, length_own, represents_owners}
 use Rattle.rules.specs.Check.{Scan, raw_bits, judge_bits, judge_map, judge_directory, judge_sub, scan, check, scan_with, judge_map_file}
-use Rattle.rules.specs.Soundness.{scan_sound}
+use Rattle.rules.proofs.Soundness.{scan_sound}
 use Rattle.directory.specs.declared.control.Root.{Root}
 use Rattle.directory.specs.declared.control.Root.TheVariants as root
 use Rattle.directory.specs.Faults.{control}

@@ -10,7 +10,7 @@ use Rattle.rules.specs.declared.Totals.{Totals}
 use Rattle.rules.specs.declared.Checked.{Checked}
 use Rattle.rules.specs.declared.Checked.TheVariants as w
 use Rattle.rules.specs.Result.{ok}
-use Rattle.rules.specs.ResultLaws.{ok_inj, clash}
+use Rattle.rules.proofs.ResultLaws.{ok_inj, clash}
 use Rattle.rules.specs.Chain.{Views}
 use Rattle.rules.specs.Tree.{used}
 use Rattle.rules.specs.Check.{Scan, scan}

@@ -8,9 +8,9 @@ use Rattle.packet.specs.Packet.{View}
 use Rattle.rules.specs.declared.Totals.{Totals}
 use Rattle.rules.specs.Result.{Res, err}
 use Rattle.rules.specs.PageSets.{Within}
-use Rattle.rules.specs.PageSetLaws.{count_append}
+use Rattle.rules.proofs.PageSetLaws.{count_append}
 use Rattle.rules.specs.Chain.{Views, Link, pages, Test, walk}
-use Rattle.rules.specs.ChainLaws.{IsChain, walk_sound}
+use Rattle.rules.proofs.ChainLaws.{IsChain, walk_sound}
 use Rattle.rules.specs.Owners.{OwnerRecord, own}
 use Rattle.owners.specs.Owned.{Represents}
 use Rattle.owners.specs.OwnerLaws.{represents_own, represents_within, in_use, taken, represents_taken}

@@ -14,16 +14,16 @@ use Rattle.rules.specs.declared.Entry.{Entry}
 use Rattle.rules.specs.declared.Totals.{Totals}
 use Rattle.rules.specs.Result.{Res, ok}
 use Rattle.rules.specs.PageSets.{hit, count, mem, Within}
-use Rattle.rules.specs.PageSetLaws.{same, other, hits, count_append}
+use Rattle.rules.proofs.PageSetLaws.{same, other, hits, count_append}
 use Rattle.rules.specs.Chain.{Views, Link}
 use Rattle.rules.specs.Names.{key, extended}
 use Rattle.rules.specs.Tree.{Token, entry, link_tokens}
-use Rattle.rules.specs.TreeLaws.{page_tokens}
+use Rattle.rules.proofs.TreeLaws.{page_tokens}
 use Rattle.rules.specs.Control.{Parent}
 use Rattle.owners.specs.Owned.{Represents}
 use Rattle.owners.specs.OwnerLaws.{represents_within, taken, represents_taken}
 use Rattle.rules.specs.Check.{Part, part_pages, followed, Judge, judge_entry, judge_sub}
-use Rattle.rules.specs.Soundness.{entry_sound, sub_sound}
+use Rattle.rules.proofs.Soundness.{entry_sound, sub_sound}
 use Rattle.directory.specs.declared.entries.Item.{Item}
 use Rattle.directory.specs.declared.entries.Item.TheVariants.{Extended}
 use Rattle.chain.specs.KnownChain.{ChainAt, KnownChain}

@@ -16,11 +16,11 @@ use Rattle.packet.specs.Packet.{View}
 use Rattle.rules.specs.declared.Entry.{Entry}
 use Rattle.rules.specs.declared.Totals.{Totals}
 use Rattle.rules.specs.Result.{Res, ok, err, and_then, and_after, refuse_unless}
-use Rattle.rules.specs.ResultLaws.{clash, then_ok, then_err, refuse_true, refuse_false}
+use Rattle.rules.proofs.ResultLaws.{clash, then_ok, then_err, refuse_true, refuse_false}
 use Rattle.rules.specs.PageSets.{mem, Within}
-use Rattle.rules.specs.PageSetLaws.{count_append, within_length}
+use Rattle.rules.proofs.PageSetLaws.{count_append, within_length}
 use Rattle.rules.specs.Chain.{Views, Link, pages, content, Test, any_page, walk}
-use Rattle.rules.specs.ChainLaws.{length_pages, walk_sound}
+use Rattle.rules.proofs.ChainLaws.{length_pages, walk_sound}
 use Rattle.rules.specs.Names.{key, directory_number}
 use Rattle.rules.specs.Owners.{OwnerRecord, own}
 use Rattle.owners.specs.OwnerLaws.{in_use, in_use_le, taken, represents_taken, represents_within}

@@ -11,21 +11,21 @@ use Rattle.geometry.specs.Geometry.{control_size}
 use Rattle.rules.specs.declared.Entry.{Entry}
 use Rattle.rules.specs.declared.Totals.{Totals}
 use Rattle.rules.specs.Result.{ok, err}
-use Rattle.rules.specs.ResultLaws.{then_ok, then_err, refuse_true, refuse_false}
+use Rattle.rules.proofs.ResultLaws.{then_ok, then_err, refuse_true, refuse_false}
 use Rattle.rules.specs.PageSets.{count, range, Within}
-use Rattle.rules.specs.PageSetLaws.{count_append}
+use Rattle.rules.proofs.PageSetLaws.{count_append}
 use Rattle.rules.specs.Chain.{Views, Link, pages, Test, walk}
-use Rattle.rules.specs.ChainLaws.{length_pages}
+use Rattle.rules.proofs.ChainLaws.{length_pages}
 use Rattle.rules.specs.Names.{key, extended}
 use Rattle.rules.specs.Tree.{Items, end, page, Token, new_page, entry, link_tokens, own_pages, inner_pages, all_pages}
-use Rattle.rules.specs.TreeLaws.{page_tokens, last_page}
+use Rattle.rules.proofs.TreeLaws.{page_tokens, last_page}
 use Rattle.rules.specs.Control.{Parent}
 use Rattle.rules.specs.Owners.{OwnerRecord, file_count, directory_count, own, own_entries}
 use Rattle.owners.specs.Owned.{Represents}
 use Rattle.owners.specs.OwnerLaws.{represents_own, represents_entries, represents_length, length_own}
 use Rattle.rules.specs.Check.{Part, chain, directory, part_pages, add, stamp, followed, Judge, judge_entry, judge_entries, judge_directory, judge_sub}
-use Rattle.rules.specs.StampLaws.{stamp_inner, stamp_files, stamp_directories, stamp_owners}
-use Rattle.rules.specs.Soundness.{PartClear, entries_of, entries_sound, sub_sound, pages_tokens}
+use Rattle.rules.proofs.StampLaws.{stamp_inner, stamp_files, stamp_directories, stamp_owners}
+use Rattle.rules.proofs.Soundness.{PartClear, entries_of, entries_sound, sub_sound, pages_tokens}
 use Rattle.rules.specs.declared.Checked.{Checked}
 use Rattle.rules.specs.declared.Checked.TheVariants as w
 use Rattle.walk.specs.Walks.{Good, Ready, Answers, plus_entries, plus_directory, plus_part, own_directory, own_part}

@@ -3,7 +3,7 @@ use Prim.Native.Nat.{◌-◌, ◌*◌}
 use native.Mathlib.Omega.{arith}
 use Rattle.owners.specs.Records.{records_of}
 use Rattle.rules.specs.Chain.{content}
-use Rattle.rules.specs.CarefulLaws.{unowned_most}
+use Rattle.rules.proofs.CarefulLaws.{unowned_most}
 use Rattle.owners.specs.OwnerLaws.{taken, represents_taken}
 use Rattle.chain.proofs.Following.{never_refused, page_known, counts_up, data_inside}
 use Rattle.bitmap.proofs.PagesRead.{in_bounds}

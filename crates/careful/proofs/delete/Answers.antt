@@ -4,7 +4,7 @@ use mathlib.Core.Path.{sym, ◌∙◌}
 use native.Mathlib.Omega.{arith}
 use lib.Seq.{length-take-le}
 use Rattle.geometry.specs.ShapeLaws.{sized_of, fit_of}
-use Rattle.careful_theorems.specs.CarefulCalls.{careful_delete_invalid}
+use Rattle.careful_theorems.proofs.CarefulCalls.{careful_delete_invalid}
 use Rattle.rules.specs.declared.Halted.TheVariants as halted
 use Rattle.careful.proofs.Deleting.{deleted, delete_is}
 use Rattle.careful.proofs.delete.Goals as goal

@@ -4,7 +4,7 @@ use mathlib.Core.Path.{sym, ◌∙◌}
 use native.Mathlib.Omega.{arith}
 use lib.Seq.{length-take-le}
 use Rattle.geometry.specs.ShapeLaws.{sized_of, fit_of}
-use Rattle.rules.specs.CallLaws.{format_invalid}
+use Rattle.rules.proofs.CallLaws.{format_invalid}
 use Rattle.rules.specs.declared.Edited.TheVariants as edited
 use Rattle.format.proofs.Calling.{format_leaves, format_is}
 use Rattle.format.proofs.format.Goals as goal

@@ -16,8 +16,8 @@ use Rattle.entries.specs.TokensAt.{entries_ahead}
 use Rattle.entries.proofs.Stepping.{entry_answer, end_answer, entry_in, past_less}
 use Rattle.entries.proofs.ItemLaws.{plain_answer}
 use Rattle.gathering.specs.Gather.{bare, below_size, further as furtherOf}
-use Rattle.gathering.specs.GatherLaid.{BareEntries}
-use Rattle.gathering.specs.GatherOrder.{pass_writes}
+use Rattle.gathering.proofs.GatherLaid.{BareEntries}
+use Rattle.gathering.proofs.GatherOrder.{pass_writes}
 use Rattle.listing.specs.KnownTree.{DirectoryAt}
 use Rattle.layout.specs.Layout.{parent_of, Holding}
 use Rattle.layout.proofs.AddedEntries.{head_room}

@@ -4,7 +4,7 @@ use Rattle.rules.specs.Chain.{views_of}
 use Rattle.rules.specs.Tree.{Items}
 use Rattle.entries.specs.TokensAt.{entries_ahead}
 use Rattle.gathering.specs.Gather.{bare, further}
-use Rattle.gathering.specs.GatherLaid.{BareEntries}
+use Rattle.gathering.proofs.GatherLaid.{BareEntries}
 use Rattle.listing.specs.KnownTree.{DirectoryAt}
 use Rattle.layout.proofs.Counting.{Counting}
 use Rattle.layout.proofs.further_pages.Given as goal

@@ -4,7 +4,7 @@ use mathlib.Core.Path.{sym, ◌∙◌}
 use native.Mathlib.Omega.{arith}
 use lib.Seq.{length-take-le}
 use Rattle.geometry.specs.ShapeLaws.{sized_of, fit_of}
-use Rattle.rules.specs.CallLaws.{make_invalid}
+use Rattle.rules.proofs.CallLaws.{make_invalid}
 use Rattle.rules.specs.declared.Edited.TheVariants as edited
 use Rattle.make.proofs.Calling.{made, make_is}
 use Rattle.make.proofs.make.Goals as goal

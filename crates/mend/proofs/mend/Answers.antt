@@ -4,7 +4,7 @@ use mathlib.Core.Path.{sym, ◌∙◌}
 use native.Mathlib.Omega.{arith}
 use lib.Seq.{length-take-le}
 use Rattle.geometry.specs.ShapeLaws.{sized_of, fit_of}
-use Rattle.careful_theorems.specs.CarefulCalls.{mend_invalid}
+use Rattle.careful_theorems.proofs.CarefulCalls.{mend_invalid}
 use Rattle.rules.specs.declared.Mended.TheVariants as mended
 use Rattle.mend.proofs.Mending.{mend_left, mend_is}
 use Rattle.mend.proofs.mend.Goals as goal

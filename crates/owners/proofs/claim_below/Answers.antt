@@ -3,7 +3,7 @@ use mathlib.Core.List.{List}
 use Prim.Native.Nat.{ℕ, ◌+◌, ◌-◌, ◌<◌}
 use native.Mathlib.Omega.{arith}
 use lib.ListN.{length, set, length-set}
-use Rattle.rules.specs.PageSetLaws.{same, other, hits}
+use Rattle.rules.proofs.PageSetLaws.{same, other, hits}
 use Rattle.rules.specs.Owners.{OwnerRecord, held}
 use Rattle.owners.specs.Records.{records_of}
 use Rattle.owners.specs.RecordLaws.{length_records}

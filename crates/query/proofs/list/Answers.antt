@@ -4,7 +4,7 @@ use mathlib.Core.Path.{sym, ◌∙◌}
 use native.Mathlib.Omega.{arith}
 use lib.Seq.{length-take-le}
 use Rattle.geometry.specs.ShapeLaws.{sized_of, fit_of}
-use Rattle.rules.specs.CallLaws.{list_invalid}
+use Rattle.rules.proofs.CallLaws.{list_invalid}
 use Rattle.rules.specs.declared.Listed.TheVariants as listed
 use Rattle.query.proofs.Calling.{list_fault, is_accepted, list_done, lists_tree}
 use Rattle.query.proofs.list.Goals as goal

@@ -4,7 +4,7 @@ use mathlib.Core.Path.{sym, ◌∙◌}
 use native.Mathlib.Omega.{arith}
 use lib.Seq.{length-take-le}
 use Rattle.geometry.specs.ShapeLaws.{sized_of, fit_of}
-use Rattle.rules.specs.CallLaws.{read_invalid}
+use Rattle.rules.proofs.CallLaws.{read_invalid}
 use Rattle.rules.specs.declared.Length.TheVariants as length'
 use Rattle.query.proofs.Calling.{read_fault, is_accepted, read_done, reads_tree}
 use Rattle.query.proofs.read.Goals as goal

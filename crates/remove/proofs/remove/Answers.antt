@@ -4,7 +4,7 @@ use mathlib.Core.Path.{sym, ◌∙◌}
 use native.Mathlib.Omega.{arith}
 use lib.Seq.{length-take-le}
 use Rattle.geometry.specs.ShapeLaws.{sized_of, fit_of}
-use Rattle.rules.specs.CallLaws.{remove_invalid}
+use Rattle.rules.proofs.CallLaws.{remove_invalid}
 use Rattle.rules.specs.declared.Edited.TheVariants as edited
 use Rattle.remove.proofs.Calling.{removed, remove_is}
 use Rattle.remove.proofs.remove.Goals as goal

@@ -4,7 +4,7 @@ use mathlib.Core.Path.{sym, ◌∙◌}
 use native.Mathlib.Omega.{arith}
 use lib.Seq.{length-take-le}
 use Rattle.geometry.specs.ShapeLaws.{sized_of, fit_of}
-use Rattle.rules.specs.CallLaws.{check_invalid}
+use Rattle.rules.proofs.CallLaws.{check_invalid}
 use Rattle.rules.specs.declared.Checked.TheVariants as w
 use Rattle.volume.proofs.CheckLaws.{checked, accepts}
 use Rattle.volume.proofs.check.Goals as goal

@@ -1,0 +1,15 @@
+-- The theorems.
+pub mod HaltLaws
+pub mod MapStops
+pub mod MarkLaws
+pub mod MendCount
+pub mod MendLaws
+pub mod VisibleWrite
+pub mod Stops
+pub mod MadeStops
+pub mod WholeStops
+pub mod Halts
+pub mod CarefulDeletes
+pub mod CarefulPuts
+pub mod CarefulCalls
+pub mod MarkedPages

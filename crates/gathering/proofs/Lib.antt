@@ -1,0 +1,9 @@
+-- The theorems.
+pub mod GatherPages
+pub mod GatherLeast
+pub mod GatherLaid
+pub mod GatherShape
+pub mod GatherDone
+pub mod WriteOrder
+pub mod GatherOrder
+pub mod GatherPass

@@ -1,0 +1,15 @@
+-- The theorems.
+pub mod ResultLaws
+pub mod StampLaws
+pub mod PageSetLaws
+pub mod ChainLaws
+pub mod Soundness
+pub mod BitmapLaws
+pub mod EditLaws
+pub mod TargetLaws
+pub mod TreeLaws
+pub mod RefusalLaws
+pub mod FuelLaws
+pub mod CallLaws
+pub mod CarefulLaws
+pub mod DigitLaws
