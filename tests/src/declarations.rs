@@ -210,17 +210,17 @@ fn rattle_parameter(text: &str) -> Vec<Item> {
     vec![rust_item(&format!("{name}: {pointer}")), length]
 }
 
-/// What the Rattle sources export: the structs of one file, and the functions of another, `#[no_mangle] pub extern "C" fn ..`.
+/// What the Rattle sources export: the structs of one file, and the functions of another, `#[unsafe(no_mangle)] pub extern "C" fn ..`.
 pub fn of_rattle(structs: &str, functions: &str) -> Declarations {
     let mut all = Declarations::new();
     declare_structs(&mut all, &without_line_comments(structs), rattle_field);
     let code = words(&without_line_comments(functions));
-    let exported = code.split("#[no_mangle] pub extern \"C\" fn ").skip(1);
+    let exported = code.split("#[unsafe(no_mangle)] pub extern \"C\" fn ").skip(1);
     let marks = code.matches("extern \"C\"").count();
     assert_eq!(
         exported.clone().count(),
         marks,
-        "functions marked #[no_mangle]"
+        "functions marked #[unsafe(no_mangle)]"
     );
     for text in exported {
         declare_function(&mut all, text, rattle_parameter);

@@ -1,8 +1,8 @@
 // Prints what a dump on standard input holds: totals and entries, or the refusal.
 #![tactic(auto)]
 
-ghost use Rattle.std.specs.Prelude.{◌≤◌, length, IfOk};
-ghost use Rattle.list.specs.Input.{IsPrefixLen, PrintsText};
+ghost use Rattle.std.specs.Prelude.{◌≤◌, length, IfOk, IfSome};
+ghost use Rattle.list.specs.Input.{IsPrefixLen, IsRead, PrintsText};
 
 use dump::Printed;
 use std::io::{self, Read};
@@ -26,15 +26,16 @@ fn text_of(input: &[u8], n: usize, out: &mut [u8]) -> usize
     }
 }
 
-// Reads until the input is full or the reader ends; how many bytes it read, which stand at the front of the input.
+// Reads until the input is full or the reader ends; how many bytes it read, which stand at the front of the input. Of a reader that tells its bytes they are the first.
 fn read_full<R: Read>(reader: &mut R, input: &mut [u8]) -> io::Result<usize>
     ensures prefix_len { IfOk result (λ n. IsPrefixLen n input.new) }
+    ensures reads { IfOk result (λ n. IfSome (R.remaining reader.old) (λ dump. IsRead dump input.new n)) }
 {
     let mut at = 0;
     while at < input.len() {
         let got = reader.read(&mut input[at..])?;
         if got == 0 {
-            break;
+            return Ok(at);
         }
         at += got;
     }
