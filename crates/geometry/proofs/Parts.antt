@@ -1,11 +1,11 @@
 -- A part that was lent and filled, said of the whole.
 use mathlib.Core.Path.{◌≡◌, refl, ap, ◌∙◌}
-use mathlib.Core.List.{List, ◌++◌, append-nil, [], ◌∷◌}
+use mathlib.Core.List.{List, ◌++◌, [], ◌∷◌}
 use Prim.Native.Nat.{ℕ, suc, ◌+◌, ◌-◌, ◌*◌, ◌^◌, ◌≤◌, ◌<◌}
 use native.Mathlib.Nat.{add-sub_cancel_left}
 use native.Mathlib.Omega.{arith}
-use lib.ListN.{length, get_or, take, drop, length-take, length-drop, drop_of_length-le}
-use lib.Seq.{drop-cons, take-length, length-take-le, drop-drop}
+use lib.ListN.{length, get_or, take, drop, length-drop}
+use lib.Seq.{drop-cons, length-take-le, drop-drop}
 use Rattle.geometry.specs.Number.{number, number_bytes}
 use Rattle.geometry.specs.NumberLaws.{length_number}
 use Rattle.geometry.specs.Page.{overwritten}

@@ -6,7 +6,7 @@ use Rattle.std.proofs.Math.ListN.{length}
 use Rattle.geometry.specs.declared.Geometry.{Geometry}
 use Rattle.packet.specs.Packet.{Write}
 use Rattle.rules.specs.declared.WriteCount.{WriteCount}
-use Rattle.rules.specs.Result.{Res, ok}
+use Rattle.rules.specs.Result.{ok}
 use Rattle.rules.proofs.ResultLaws.{ok_inj, on_then, on_refuse}
 use Rattle.rules.specs.Chain.{views_of}
 use Rattle.rules.specs.Tree.{used}

@@ -1,7 +1,7 @@
 -- Laws of stamps: one more before the first entry changes nothing but that entry's stamps; stamps begin no page.
 use Rattle.std.proofs.Math.Path.{◌≡◌, refl}
 use Rattle.std.proofs.Common.{ap, arith}
-use Rattle.std.specs.Prelude.{true, false, List, [], ◌∷◌, ℕ}
+use Rattle.std.specs.Prelude.{true, List, [], ◌∷◌, ℕ}
 use Rattle.rules.specs.declared.Entry.{Entry}
 use Rattle.rules.specs.Chain.{Link}
 use Rattle.rules.specs.Tree.{Label, Items, end, page, file, dir, Token, entry, stamp_tokens, tokens, token_links, own_pages, inner_pages, keys}

@@ -9,7 +9,7 @@ use Rattle.rules.specs.PageSets.{bit, mem, free_pages}
 use Rattle.rules.specs.Chain.{views_of}
 use Rattle.rules.specs.Tree.{Image, used}
 use Rattle.rules.specs.Bitmap.{bit_at, lowest_difference, bitmap_of}
-use Rattle.rules.specs.Check.{Scan, scan, check}
+use Rattle.rules.specs.Check.{scan, check}
 use Rattle.rules.specs.Writes.{map_writes, Edit, edited, edit_writes}
 use Rattle.rules.specs.Put.{put_target, put_edit}
 use Rattle.rules.specs.Delete.{delete_target, delete_edit}

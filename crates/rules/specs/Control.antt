@@ -4,7 +4,7 @@ use Rattle.geometry.specs.declared.Geometry.{Geometry}
 use Rattle.geometry.specs.Choose.{choose}
 use Rattle.geometry.specs.Geometry.{entry_size, control_size}
 use Rattle.geometry.specs.Number.{number, number_bytes}
-use Rattle.rules.specs.Result.{Res, ok, and_then as ◌>>=◌, and_after as ◌>>◌, refuse_unless}
+use Rattle.rules.specs.Result.{Res, ok, and_after as ◌>>◌, refuse_unless}
 use Rattle.rules.specs.Chain.{first, Test}
 use Rattle.rules.specs.Names.{ROOT}
 use Rattle.rules.specs.Tree.{Map, in_root, in_file}

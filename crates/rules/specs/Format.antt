@@ -4,7 +4,7 @@ use Rattle.geometry.specs.declared.Geometry.{Geometry}
 use Rattle.geometry.specs.Choose.{choose}
 use Rattle.geometry.specs.Geometry.{data_capacity, bitmap_size}
 use Rattle.packet.specs.Packet.{Write, after_writes}
-use Rattle.rules.specs.Result.{Res, ok, and_then as ◌>>=◌, and_after as ◌>>◌, refuse_unless}
+use Rattle.rules.specs.Result.{Res, ok, and_after as ◌>>◌, refuse_unless}
 use Rattle.rules.specs.Chain.{linked, chain_of, pages_for}
 use Rattle.rules.specs.Tree.{end, page, directory_links, Map, in_root, in_file, Image, used}
 use Rattle.rules.specs.Control.{local_allowed, root_control}

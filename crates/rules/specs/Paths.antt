@@ -4,7 +4,6 @@ use Rattle.geometry.specs.Choose.{choose}
 use Rattle.geometry.specs.Number.{number}
 use Rattle.rules.specs.Result.{Res, ok, err, and_then as ◌>>=◌, and_after as ◌>>◌, refuse_unless}
 use Rattle.rules.specs.Chain.{Link}
-use Rattle.rules.specs.declared.Entry.{Entry}
 use Rattle.rules.specs.Names.{valid_name, attribute, key}
 use Rattle.rules.specs.Tree.{Label, key_of, Items, end, page, file, dir, start_of}
 use Rattle.rules.specs.Control.{Parent, the_root}

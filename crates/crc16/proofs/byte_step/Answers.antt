@@ -1,6 +1,4 @@
-use mathlib.Core.Logic.{inl, inr}
 use mathlib.Core.Path.{refl, ◌∙◌}
-use Prim.Native.Nat.{◌-◌}
 use native.Mathlib.Omega.{arith}
 use Rattle.crc16.specs.Crc16.{byte_step}
 use Rattle.crc16.proofs.Steps.{odd_step, even_step, one_more, all_eight}

@@ -1,5 +1,4 @@
 use mathlib.Core.Path.{refl}
-use Prim.Native.Nat.{◌-◌}
 use Rattle.crc16.proofs.Bytes.{more, done}
 use borrow.Author.Rules.{rules}
 use Rattle.crc16.proofs.crc_of.Goals as goal

@@ -1,5 +1,4 @@
 use mathlib.Core.Path.{refl, sym, ◌∙◌}
-use Prim.Native.Nat.{◌-◌}
 use native.Mathlib.Omega.{arith}
 use Rattle.packet.proofs.Same.{other_length, same_on, differ_here, same_all}
 use Rattle.packet.proofs.same_bytes.Goals as goal
