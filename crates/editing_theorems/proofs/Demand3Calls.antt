@@ -1,31 +1,17 @@
 -- Demand 3 of a call that puts something at a path, whole, and as another answer says it.
-use Rattle.std.specs.Prelude.{◌≡◌, refl, ◌↔◌, ◌⊎◌, List, ◌++◌, ℕ, ◌+◌, ◌≤◌, ◌<◌, length}
-use Rattle.std.proofs.Common.{ap, sym, ◌∙◌, subst, inl, inr, arith, length-append}
-use Rattle.std.proofs.Math.Decide.{dec_lt}
+use Rattle.std.specs.Prelude.{◌≡◌, ◌↔◌, List, ℕ}
+use Rattle.std.proofs.Common.{inl, inr}
 use Rattle.geometry.specs.declared.Geometry.{Geometry}
-use Rattle.geometry.specs.declared.Shape.{Shape}
-use Rattle.geometry.specs.declared.Shape.TheVariants.{Fits, Invalid}
-use Rattle.geometry.specs.Geometry.{Fit}
 use Rattle.geometry.specs.Number.{Bytes}
 use Rattle.rules.specs.Result.{Res, ok, err}
-use Rattle.rules.proofs.ResultLaws.{ok_inj, clash, err_same, on_then, on_refused}
-use Rattle.rules.proofs.PageSetLaws.{count_append, free_length}
-use Rattle.rules.specs.Chain.{views_of, Link}
-use Rattle.rules.specs.Tree.{Label, Items, Image, used}
+use Rattle.rules.specs.Chain.{Link}
+use Rattle.rules.specs.Tree.{Label, Items}
 use Rattle.rules.specs.Put.{put_at}
-use Rattle.rules.specs.Check.{check}
-use Rattle.rules.specs.Paths.{Path, file_key, file_label, Found, find, Place, Target}
-use Rattle.rules.proofs.RefusalLaws.{Refuses}
-use Rattle.rules.proofs.FuelLaws.{check_faults}
-use Rattle.rules.specs.Candidate.{Accepted, OnlyRoom, Exists, at_path, stamps_of, target_path, file_path, Candidate, chain_pages, pages_in_use, CandidateFor, Demand3}
-use Rattle.rules.specs.Calls.{in_geometry, shape, plainly, effect, changed}
-use Rattle.reading_theorems.specs.Accepted.{accepted}
-use Rattle.geometry.specs.ShapeLaws.{fit_of}
-use Rattle.editing_theorems.proofs.CallEdits.{done_ok}
-use Rattle.editing_theorems.specs.PutLaws.{same_length, Asked, located, all_old, kept, kept_within, free, free_clear, extra, wanted, result, kept_old, put_total, put_edited}
-use Rattle.editing_theorems.proofs.PutDone.{put_fits, put_full, put_room, Met, PutCall, asked_at, put_gives}
-use Rattle.editing_theorems.specs.PutCandidate.{put_candidate, no_entry_more}
-use Rattle.editing_theorems.specs.LowerBound.{Needs, least, candidate_room}
+use Rattle.rules.specs.Paths.{Path, Found, Place, Target}
+use Rattle.rules.specs.Candidate.{OnlyRoom, stamps_of, Demand3}
+use Rattle.rules.specs.Calls.{changed}
+use Rattle.editing_theorems.specs.PutLaws.{Asked}
+use Rattle.editing_theorems.proofs.PutDone.{PutCall}
 use Rattle.editing_theorems.proofs.Demand3.{demand_from, call, only_room, put_done, call_ok, call_takes, put_least, put_keeps}
 
 module _ {asked : Res Path} {Allowed Wanted : Found → Type 0} {target : Items → Res Target} {bytes_at : Geometry → Place → List ℕ} {stands : Label → List Link → Found}

@@ -1,3 +1,2 @@
 // The starred examples of document 01 are proved in specs/.
 #![tactic(auto)]
-
