@@ -7,14 +7,14 @@ use native.Mathlib.Omega.{arith}
 use native.Mathlib.Decide.{dec_lt}
 use lib.Dec.{eqb, ltb, leb}
 use lib.ListN.{length, get_or}
-use borrow.Author.Tests.{lt-ltb, le-ltb, le-leb, lt-leb, leb-true, eqb-true}
+use borrow.Author.Tests.{lt-ltb, le-ltb, le-leb, lt-leb, leb-true}
 use Rattle.geometry.specs.Choose.{choose}
 use Rattle.geometry.specs.ChooseLaws.{choose_true, choose_false}
 use Rattle.rules.specs.PageSets.{bit, mem}
 use Rattle.rules.specs.Bitmap.{bit_at}
 use Rattle.rules.specs.Careful.{mendable, all_mendable, unowned}
 use Rattle.rules.specs.Owners.{OwnerRecord}
-use Rattle.owners.specs.Owned.{Represents, owner_at, nonzero, page_bit}
+use Rattle.owners.specs.Owned.{Represents, nonzero, page_bit}
 use Rattle.owners.specs.OwnerLaws.{owner_past}
 use Rattle.owners.specs.BitLaws.{bit_from}
 use Rattle.bitmap.specs.declared.Survey.{Survey}

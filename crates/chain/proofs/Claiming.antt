@@ -3,11 +3,10 @@ use mathlib.Core.Path.{◌≡◌, refl, ap, ap₂, sym, ◌∙◌}
 use mathlib.Core.Bool.{Bool, true, false, not}
 use mathlib.Core.List.{List, [], ◌∷◌, ◌++◌, append-nil}
 use Prim.Native.Nat.{ℕ, suc, ◌+◌, ◌-◌, ◌*◌, ◌≤◌, ◌<◌}
-use native.Mathlib.Decide.{dec_lt}
 use native.Mathlib.Omega.{arith}
 use lib.Dec.{eqb}
 use lib.ListN.{length, set, length-append}
-use borrow.Author.Tests.{eqb-true, ltb-true, lt-ltb, eq-eqb, ne_eqb, not-false}
+use borrow.Author.Tests.{ltb-true, lt-ltb, eq-eqb, ne_eqb}
 use Rattle.geometry.specs.declared.Geometry.{Geometry}
 use Rattle.geometry.specs.Choose.{choose}
 use Rattle.geometry.specs.ChooseLaws.{choose_true, choose_false}
@@ -18,9 +17,9 @@ use Rattle.packet.specs.Packet.{View, view_of}
 use Rattle.packet.specs.Reading.{right_packet}
 use Rattle.rules.specs.Result.{Res, ok, err, and_then, refuse_unless}
 use Rattle.rules.proofs.ResultLaws.{ok_inj, then_ok, then_err, refuse_true, refuse_false, on_then, on_refuse}
-use Rattle.rules.specs.PageSets.{count, mem}
+use Rattle.rules.specs.PageSets.{mem}
 use Rattle.rules.proofs.PageSetLaws.{within_length, free_true, mem_true}
-use Rattle.rules.specs.Chain.{Link, link, pages, content, Body, Test, walk}
+use Rattle.rules.specs.Chain.{Link, link, content, Body, Test, walk}
 use Rattle.rules.proofs.ChainLaws.{packet_inv}
 use Rattle.rules.specs.Owners.{OwnerRecord, held}
 use Rattle.owners.specs.Owned.{owner_at, Represents}

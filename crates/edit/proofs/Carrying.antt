@@ -1,17 +1,16 @@
 -- A chain stored and its entry entered: the first two steps of an edit.
-use mathlib.Core.Path.{◌≡◌, refl, ap, sym, ◌∙◌, subst}
-use mathlib.Core.Bool.{Bool, true, false}
+use mathlib.Core.Path.{◌≡◌, ap, sym, ◌∙◌, subst}
+use mathlib.Core.Bool.{true, false}
 use mathlib.Core.List.{List, [], ◌∷◌, ◌++◌, append-nil}
 use Prim.Native.Nat.{ℕ}
-use native.Mathlib.Omega.{arith}
 use lib.ListN.{length}
 use Rattle.geometry.specs.declared.Geometry.{Geometry}
-use Rattle.geometry.specs.Geometry.{data_capacity, Fit}
+use Rattle.geometry.specs.Geometry.{Fit}
 use Rattle.packet.specs.Packet.{view_of}
 use Rattle.packet.specs.declared.Budget.{Budget}
 use Rattle.packet.specs.Budgets.{Progress, Open, write_all}
 use Rattle.rules.specs.declared.Entry.{Entry}
-use Rattle.rules.specs.Chain.{Link, linked, chain_of, pages_for}
+use Rattle.rules.specs.Chain.{Link, linked}
 use Rattle.rules.specs.Names.{entry_bytes}
 use Rattle.rules.specs.Owners.{OwnerRecord}
 use Rattle.editing_theorems.specs.EditedImage.{ws₂, image₁, fit₁}

@@ -1,56 +1,40 @@
 -- A plain put of a file: the three steps are the rule's list of page writes.
-use mathlib.Core.Path.{◌≡◌, refl, ap, sym, ◌∙◌, subst}
-use mathlib.Core.Bool.{Bool, true, false, false≢true}
-use mathlib.Core.Logic.{inl, inr}
-use mathlib.Core.List.{List, [], ◌∷◌, ◌++◌}
-use Prim.Native.Nat.{ℕ, suc, ◌+◌, ◌-◌, ◌*◌, ◌/◌, ◌≤◌, ◌<◌}
-use native.Mathlib.Nat.{eq-zero-or-pos, div-mul-le_self, mul-le-mul_right}
+use mathlib.Core.Path.{◌≡◌, refl, ap, sym, ◌∙◌}
+use mathlib.Core.Bool.{true, false}
+use mathlib.Core.List.{List}
+use Prim.Native.Nat.{ℕ}
 use native.Mathlib.Omega.{arith}
-use lib.ListN.{length, take, drop, get_or, length-drop}
-use lib.Seq.{take-add}
-use borrow.Author.Tests.{lt-leb, le-leb}
+use lib.ListN.{length}
 use Rattle.geometry.specs.declared.Geometry.{Geometry}
-use Rattle.geometry.specs.Geometry.{data_capacity, Fit, Valid}
+use Rattle.geometry.specs.Geometry.{data_capacity, Fit}
 use Rattle.packet.specs.Packet.{view_of, Write}
 use Rattle.packet.specs.declared.Budget.{Budget}
 use Rattle.packet.specs.Budgets.{Progress, Open, write_all}
-use Rattle.rules.specs.declared.Entry.{Entry}
-use Rattle.rules.specs.Result.{Res, ok, err, and_after, refuse_unless}
-use Rattle.rules.proofs.ResultLaws.{then_ok, then_err, refuse_true, refuse_false}
-use Rattle.rules.specs.PageSets.{count, range, free_pages}
-use Rattle.rules.proofs.PageSetLaws.{hit_same, count_append, count_split, range_le}
-use Rattle.rules.specs.Chain.{Link, pages, first, chain_of, pages_for}
-use Rattle.rules.proofs.ChainLaws.{pages_chain_of}
-use Rattle.rules.specs.Paths.{file_key, Found, nothing, find}
-use Rattle.rules.specs.Tree.{Label, Items, end, page, file, dir, Token, new_page, entry, entry_tokens, tokens, file_entry, own_pages, all_pages, keys, map_pages, used}
+use Rattle.rules.specs.Result.{Res}
+use Rattle.rules.proofs.ResultLaws.{then_ok, then_err}
+use Rattle.rules.specs.PageSets.{free_pages}
+use Rattle.rules.specs.Chain.{pages_for}
+use Rattle.rules.specs.Tree.{used}
 use Rattle.rules.specs.Bitmap.{bitmap_of}
-use Rattle.rules.specs.Writes.{Edit, edited, edit_writes}
-use Rattle.rules.specs.Put.{kept_pages, items_after, put_edit}
-use Rattle.rules.specs.Candidate.{chain_pages}
-use Rattle.owners.specs.Owned.{Represents, Marks}
-use Rattle.owners.specs.Free.{free_from}
+use Rattle.rules.specs.Writes.{edited, edit_writes}
+use Rattle.rules.specs.Put.{kept_pages}
+use Rattle.owners.specs.Owned.{Marks}
 use Rattle.owners.specs.BitLaws.{marks_below}
-use Rattle.editing_theorems.specs.Capacity.{capacity_least}
-use Rattle.rules.proofs.EditLaws.{find_none}
 use Rattle.rules.specs.Owners.{OwnerRecord}
-use Rattle.editing_theorems.specs.PutDirectory.{extra_one, extra_old}
 use Rattle.editing_theorems.specs.PutLaws as laws
 use Rattle.editing_theorems.specs.PutLaws.{Asked}
 use Rattle.editing_theorems.specs.EditedImage as es
 use Rattle.editing_theorems.specs.EditedImage.{DirectoryOf, OneEdit}
 use Rattle.marks.specs.MapPages.{HasRoot, WritesMap}
-use Rattle.marks.specs.RootLaws.{zero_taken}
-use Rattle.writes.specs.declared.Change.{Change}
 use Rattle.edit.specs.declared.Pages.{Pages}
 use Rattle.edit.specs.declared.NewFile.{NewFile}
 use Rattle.edit.specs.declared.Taken.{Taken}
 use Rattle.edit.specs.declared.Taken.TheVariants as took
 use Rattle.edit.specs.declared.Outcome.TheVariants as outcome
-use Rattle.edit.specs.Pages.{PagesTaken, TakenIs, Takes}
-use Rattle.edit.specs.Entering.{Exchanges, Joins, Entering}
+use Rattle.edit.specs.Pages.{Takes}
 use Rattle.edit.specs.FilePlans.{full, T', the_edit, edit_is, plan_of, carried_is, left_then}
 use Rattle.edit.specs.StepLaws.{step₂, step₃, whole_is, two_stopped, two_open, fit_then, has_root, map_is}
-use Rattle.edit.specs.Plans.{change_of, entry_of, Plan, Putting, PlainPutting, Outcomes, put_writes}
+use Rattle.edit.specs.Plans.{change_of, entry_of, Plan, PlainPutting, Outcomes, put_writes}
 
 module _ (g : Geometry) (image : List ℕ) (table : List OwnerRecord) (bytes : List ℕ) (sized : length table ≡ g.pages) (f : NewFile) (P : PlainPutting g image table bytes f) where
   abbrev a : Asked g image bytes P.stands

@@ -29,6 +29,10 @@ use Rattle.writes.specs.declared.Change.{Change}
 use Rattle.writes.specs.Changes.{spliced, HasSpan, entry_from, change_writes}
 use Rattle.edit.specs.Entering.{Exchanges}
 
+-- what is left of writes that fit fits
+pub fits_from : (g : Geometry) (ws us : List Write) → WritesFit g (ws ++ us) → WritesFit g us
+fits_from g ws us f = fits_right g ws us f
+
 -- entries of one size
 entries_length : (g : Geometry) (es : List Entry) → length (entries_bytes g.width es) ≡ entry_size g * length es
 entries_length g [] = omega arith
@@ -104,7 +108,7 @@ module _ {g : Geometry} {image marks : List ℕ} {D : DirectoryOf g image marks}
   packet₁ = stands (view_of g (image₁ E)) (own₁ E)
 
   fits : WriteFits g p data₁ pointer
-  fits = (fits_right g one.before (write p data₁ pointer ∷ one.after) (subst (WritesFit g) one.new_is (new_fits E))).0
+  fits = (fits_from g one.before (write p data₁ pointer ∷ one.after) (subst (WritesFit g) one.new_is (new_fits E))).0
 
   -- where the exchanged entries begin and end
   abbrev front : List ℕ

@@ -1,30 +1,25 @@
 -- The plan of a file put: the pages found, its entry, the change of its directory, and the pages then in use; for any pages that must not be taken.
-use Rattle.std.specs.Prelude.{◌≡◌, Bool, true, false, List, [], ◌∷◌, ◌++◌, ℕ, suc, ◌+◌, ◌-◌, ◌*◌, ◌/◌, ◌≤◌, ◌<◌, take, drop, get_or}
+use Rattle.std.specs.Prelude.{◌≡◌, List, [], ◌∷◌, ◌++◌, ℕ, ◌+◌, ◌-◌, ◌/◌, ◌≤◌, ◌<◌, take, drop, get_or}
 use Rattle.std.proofs.Math.Path.{refl, ap, subst}
 use Rattle.std.proofs.Common.{sym, ◌∙◌, inl, inr, eq-zero-or-pos, div-mul-le_self, mul-le-mul_right, arith, length-drop, take-add, le-leb}
-use Rattle.std.proofs.lemmas.Bool.{false≢true, lt-leb}
+use Rattle.std.proofs.lemmas.Bool.{lt-leb}
 use Rattle.std.proofs.Math.ListN.{length}
 use Rattle.geometry.specs.declared.Geometry.{Geometry}
-use Rattle.geometry.specs.Geometry.{data_capacity, Fit, Valid}
-use Rattle.packet.specs.Packet.{view_of, Write}
+use Rattle.geometry.specs.Geometry.{data_capacity, Valid}
 use Rattle.packet.specs.declared.Budget.{Budget}
-use Rattle.packet.specs.Budgets.{Progress, Open, write_all}
+use Rattle.packet.specs.Budgets.{Progress}
 use Rattle.rules.specs.declared.Entry.{Entry}
-use Rattle.rules.specs.Result.{Res, ok, err, and_after, refuse_unless}
+use Rattle.rules.specs.Result.{ok, err}
 use Rattle.rules.proofs.ResultLaws.{then_ok, then_err, refuse_true, refuse_false}
-use Rattle.rules.specs.PageSets.{count, range, free_pages}
-use Rattle.rules.proofs.PageSetLaws.{hit_same, count_append, count_split, range_le}
+use Rattle.rules.specs.PageSets.{count, free_pages}
+use Rattle.rules.proofs.PageSetLaws.{hit_same, count_append, range_le}
 use Rattle.rules.specs.Chain.{Link, pages, first, chain_of, pages_for}
 use Rattle.rules.proofs.ChainLaws.{pages_chain_of}
 use Rattle.rules.specs.Paths.{Path, file_key, Found, nothing, find}
-use Rattle.rules.specs.Tree.{Label, Items, end, page, file, dir, Token, new_page, entry, entry_tokens, stamp_tokens, tokens, file_entry, directory_entry, own_pages, all_pages, keys, map_pages, Image}
-use Rattle.rules.specs.Bitmap.{bitmap_of}
-use Rattle.rules.specs.Writes.{Edit, edited, edit_writes}
-use Rattle.rules.specs.Put.{kept_pages, items_after, put_edit}
+use Rattle.rules.specs.Tree.{Label, Token, new_page, entry, entry_tokens, tokens, all_pages, keys, map_pages, Image}
+use Rattle.rules.specs.Put.{kept_pages, put_edit}
 use Rattle.rules.specs.Candidate.{chain_pages}
-use Rattle.owners.specs.Owned.{Represents, Marks}
 use Rattle.owners.specs.Free.{free_from}
-use Rattle.owners.specs.BitLaws.{marks_below}
 use Rattle.editing_theorems.specs.Capacity.{capacity_least}
 use Rattle.rules.proofs.EditLaws.{find_none, new_entry}
 use Rattle.rules.proofs.Soundness.{token_pages, own_tokens}
@@ -34,19 +29,17 @@ use Rattle.editing_theorems.specs.PutLaws as laws
 use Rattle.editing_theorems.specs.PutLaws.{Asked}
 use Rattle.editing_theorems.specs.EditedImage as es
 use Rattle.editing_theorems.specs.EditedImage.{DirectoryOf, OneEdit}
-use Rattle.marks.specs.MapPages.{HasRoot, WritesMap}
 use Rattle.marks.specs.RootLaws.{zero_taken}
 use Rattle.writes.specs.declared.Change.{Change}
 use Rattle.edit.specs.declared.Pages.{Pages}
 use Rattle.edit.specs.declared.NewFile.{NewFile}
 use Rattle.edit.specs.declared.Taken.{Taken}
 use Rattle.edit.specs.declared.Taken.TheVariants as took
-use Rattle.edit.specs.declared.Outcome.TheVariants as outcome
 use Rattle.edit.specs.Pages.{PagesTaken, TakenIs, Takes}
 use Rattle.edit.specs.Entering.{Exchanges, Joins, Entering}
 use Rattle.edit.specs.ExchangeLaws.{pointer_is}
 use Rattle.edit.specs.StepLaws.{step₂, step₃}
-use Rattle.edit.specs.Plans.{change_of, count_told, entry_of, Plan, Putting, PlainPutting, Outcomes, put_writes}
+use Rattle.edit.specs.Plans.{change_of, count_told, entry_of, Plan, Putting}
 
 -- ---- the pages of a directory by its tokens
 page_there : (p : ℕ) (a ts : List Token) → 1 ≤ count p (token_pages (a ++ (new_page p ∷ ts)))

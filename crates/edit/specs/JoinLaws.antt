@@ -7,7 +7,7 @@ use Rattle.geometry.specs.ChooseLaws.{choose_false}
 use Rattle.packet.specs.Packet.{good, view_of, Write, write}
 use Rattle.packet.specs.Budgets.{Progress, write_all}
 use Rattle.rules.specs.declared.Entry.{Entry}
-use Rattle.rules.specs.Chain.{Link, first, linked}
+use Rattle.rules.specs.Chain.{first, linked}
 use Rattle.rules.specs.Tree.{Token, new_page, token_bytes, token_links, entry_tokens}
 use Rattle.rules.specs.WellFormed.{HasPackets}
 use Rattle.rules.specs.Writes.{changes, backwards}
@@ -18,7 +18,7 @@ use Rattle.editing_theorems.specs.EditedImage.{DirectoryOf, OneEdit, control, ol
 use Rattle.writes.specs.declared.Change.{Change}
 use Rattle.writes.specs.Changes.{spliced, entry_from, JoinFits, change_writes}
 use Rattle.edit.specs.Entering.{Joins}
-use Rattle.editing_theorems.specs.HeldPackets.{fits_right}
+use Rattle.edit.specs.ExchangeLaws.{fits_from}
 
 module _ {g : Geometry} {image marks : List ℕ} {D : DirectoryOf g image marks} (E : OneEdit D) (c : Change) (more : List Entry) (some : c.joins ≡ 0 → ⊥) (X : Joins E c more) where
   open X use {before, entries, shape, then, other}
@@ -65,7 +65,7 @@ module _ {g : Geometry} {image marks : List ℕ} {D : DirectoryOf g image marks}
   packet = let v = view_of g (image₁ E) in (packets_right v apart.before (write p last 0 ∷ []) (subst (HasPackets v) old_is (own₁ E))).0
 
   new_fit : WriteFits g p last q × (WriteFits g q (entries_bytes n more) 0 × Unit {0})
-  new_fit = fits_right g apart.before (write p last q ∷ (write q (entries_bytes n more) 0 ∷ [])) (subst (WritesFit g) new_is (new_fits E))
+  new_fit = fits_from g apart.before (write p last q ∷ (write q (entries_bytes n more) 0 ∷ [])) (subst (WritesFit g) new_is (new_fits E))
 
   pub can_join : (c.slot.page < g.pages) × JoinFits g (view_of g (image₁ E)) c (length (entries_bytes g.width more))
   can_join = (

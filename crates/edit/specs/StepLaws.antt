@@ -9,7 +9,7 @@ use Rattle.geometry.specs.Geometry.{Fit}
 use Rattle.geometry.specs.Number.{Bytes}
 use Rattle.packet.specs.Packet.{view_of, Write, after_writes}
 use Rattle.packet.specs.declared.Budget.{Budget}
-use Rattle.packet.specs.Budgets.{Progress, Open, Stopped, write_all}
+use Rattle.packet.specs.Budgets.{Progress, Open, write_all}
 use Rattle.packet.specs.BudgetLaws.{all_joined, stopped_all}
 use Rattle.rules.proofs.PageSetLaws.{range_le}
 use Rattle.rules.specs.Chain.{linked}

@@ -32,7 +32,7 @@ use Rattle.entries.specs.TokensAt.{TokensAt, InDirectory, Begins, IsEntry, IsIte
 use Rattle.entries.proofs.KeyLaws.{entry_least}
 use Rattle.entries.proofs.TokenLaws.{next_pointer}
 use Rattle.entries.proofs.ItemLaws.{extended_answer}
-use Rattle.listing.specs.KnownTree.{AreExtended, Kinds, Below}
+use Rattle.listing.specs.KnownTree.{Kinds, Below}
 use Rattle.lookup.specs.declared.Search.TheVariants as search
 use Rattle.lookup.specs.Searches as searches
 use Rattle.lookup.proofs.Passed.{Passed, passed_first, passed_on, passed_entries, passed_pages}

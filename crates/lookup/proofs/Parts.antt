@@ -1,11 +1,11 @@
 -- What the code takes a path apart into: its parts lie within its bytes; a file's path has a file's extension, a directory's that of a directory.
-use mathlib.Core.Path.{◌≡◌, refl, ap, sym, ◌∙◌}
+use mathlib.Core.Path.{◌≡◌, ap, sym, ◌∙◌}
 use mathlib.Core.List.{List}
-use Prim.Native.Nat.{ℕ, ◌-◌, ◌*◌, ◌/◌, ◌≤◌}
+use Prim.Native.Nat.{ℕ, ◌-◌, ◌/◌, ◌≤◌}
 use native.Mathlib.Omega.{arith}
 use lib.ListN.{length}
 use borrow.Author.Tests.{leb-true}
-use Rattle.rules.specs.Result.{Res, ok, err}
+use Rattle.rules.specs.Result.{Res, ok}
 use Rattle.rules.proofs.ResultLaws.{ok_inj, on_refuse}
 use Rattle.rules.specs.Paths as paths
 use Rattle.rules.specs.Paths.{names_in, path_of, directory_path_of}

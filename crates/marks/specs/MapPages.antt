@@ -1,5 +1,5 @@
 -- For contracts: the pages that the bitmap stands in, and those pages with the bytes of an owner table.
-use Rattle.std.specs.Prelude.{◌≡◌, Bool, List, ◌++◌, ℕ, ◌<◌, ◌≤◌, length, drop}
+use Rattle.std.specs.Prelude.{◌≡◌, Bool, List, ◌++◌, ℕ, ◌≤◌, length, drop}
 use Rattle.geometry.specs.declared.Geometry.{Geometry}
 use Rattle.geometry.specs.Geometry.{bitmap_size}
 use Rattle.packet.specs.Packet.{good, View, view_of, Write, write}

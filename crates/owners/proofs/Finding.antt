@@ -2,23 +2,23 @@
 use mathlib.Core.Path.{◌≡◌, refl, ap, sym, ◌∙◌}
 use mathlib.Core.Bool.{false, not}
 use mathlib.Core.Logic.{inl, inr}
-use mathlib.Core.List.{List, []}
-use Prim.Native.Nat.{ℕ, zero, suc, ◌+◌, ◌-◌, ◌≤◌, ◌<◌}
+use mathlib.Core.List.{List}
+use Prim.Native.Nat.{ℕ, ◌+◌, ◌-◌, ◌≤◌, ◌<◌}
 use native.Mathlib.Nat.{eq-zero-or-pos}
 use native.Mathlib.Omega.{arith}
 use native.Mathlib.Numerals.{add-one}
 use lib.Dec.{eqb}
-use lib.ListN.{length, get_or, take, length-append}
+use lib.ListN.{length, take, length-append}
 use lib.Seq.{take_at}
 use borrow.Author.Tests.{eq-eqb}
 use Rattle.geometry.specs.ChooseLaws.{choose_true, choose_false}
-use Rattle.rules.specs.PageSets.{count, mem, free_pages}
+use Rattle.rules.specs.PageSets.{count, free_pages}
 use Rattle.rules.proofs.PageSetLaws.{mem_true, mem_false}
 use Rattle.rules.specs.Owners.{OwnerRecord}
 use Rattle.owners.specs.Owned.{owner_at, is_owned, nonzero, Represents, page_bit}
 use Rattle.owners.specs.OwnerLaws.{nonzero_le, nonzero_pos, nonzero_zero, owner_past, free_represents}
 use Rattle.owners.specs.BitLaws.{bit_from}
-use Rattle.owners.specs.Free.{free_from, found, none, NextFree, RoomIs, Rooms}
+use Rattle.owners.specs.Free.{free_from, found, none, NextFree, Rooms}
 use Rattle.owners.specs.FreeLaws.{from_past, from_used, from_free, from_split}
 use Rattle.owners.specs.declared.Room.TheVariants as room
 

@@ -1,5 +1,5 @@
 -- Laws of the owner table: the claimed pages that it represents, one page more and less, the owners of an image, and how many pages have one.
-use Rattle.std.specs.Prelude.{◌≡◌, refl, List, [], ◌∷◌, ◌++◌, ℕ, zero, suc, ◌+◌, ◌≤◌, ◌<◌, length, get_or, set, replicate}
+use Rattle.std.specs.Prelude.{◌≡◌, refl, List, [], ◌∷◌, ◌++◌, ℕ, zero, suc, ◌+◌, ◌≤◌, ◌<◌, length, set, replicate}
 use Rattle.std.proofs.Common.{ap, subst, sym, ◌∙◌, inl, inr, eq-zero-or-pos, arith, length-set, get_or-set_same, get_or-set_other, eq-eqb, eqb-true}
 use mathlib.Core.Bool.{Bool, true, false, not}
 use Rattle.std.proofs.Math.Decide.{dec_lt}
@@ -78,9 +78,9 @@ pub represents_set : (table : List OwnerRecord) (claimed : List ℕ) (p : ℕ) (
 represents_set table claimed p r h i z k x = elim (hits x p) [
   | same e q ↦ (
       let at_p : count p (p ∷ claimed) ≡ nonzero (owner_at (set table p r) p) =
-          omega (arith, hit_same p, h p, ap nonzero z, ap nonzero (owner_set table p r i), nonzero_pos r.owner k) in
+      omega (arith, hit_same p, h p, ap nonzero z, ap nonzero (owner_set table p r i), nonzero_pos r.owner k) in
       subst (λ (y : ℕ). count y (p ∷ claimed) ≡ nonzero (owner_at (set table p r) y)) (sym e) at_p
-    )
+      )
   | other e q ↦ omega (arith, h x, ap nonzero (owner_other table p x r e))
 ]
 

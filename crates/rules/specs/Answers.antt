@@ -9,7 +9,7 @@ use Rattle.rules.specs.declared.Edited.TheVariants as edited
 use Rattle.rules.specs.declared.Listed.{Listed}
 use Rattle.rules.specs.declared.Listed.TheVariants as listed
 use Rattle.rules.specs.declared.Length.{Length}
-use Rattle.rules.specs.declared.Length.TheVariants as length
+use Rattle.rules.specs.declared.Length.TheVariants as file_length
 use Rattle.rules.specs.declared.WriteCount.{WriteCount}
 use Rattle.rules.specs.declared.Halted.{Halted}
 use Rattle.rules.specs.declared.Halted.TheVariants as halted
@@ -30,8 +30,8 @@ line_result (listed.Entry x) = ok x
 line_result (listed.Refused n p) = err n p
 
 abbrev pub length_result : Length → Res ℕ
-length_result (length.Done n) = ok n
-length_result (length.Refused n p) = err n p
+length_result (file_length.Done n) = ok n
+length_result (file_length.Refused n p) = err n p
 
 abbrev pub count_result : Halted → Res WriteCount
 count_result (halted.Done c) = ok c

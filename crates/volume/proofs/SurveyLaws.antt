@@ -9,11 +9,10 @@ use Rattle.geometry.specs.declared.Geometry.{Geometry}
 use Rattle.rules.specs.declared.Totals.{Totals}
 use Rattle.rules.specs.declared.Checked.{Checked}
 use Rattle.rules.specs.declared.Checked.TheVariants as w
-use Rattle.rules.specs.Result.{ok}
 use Rattle.rules.proofs.ResultLaws.{ok_inj, clash}
 use Rattle.rules.specs.Chain.{Views}
 use Rattle.rules.specs.Tree.{used}
-use Rattle.rules.specs.Check.{Scan, scan}
+use Rattle.rules.specs.Check.{Scan}
 use Rattle.rules.specs.Careful.{all_mendable}
 use Rattle.rules.specs.Owners.{OwnerRecord}
 use Rattle.bitmap.specs.declared.Survey.{Survey}

@@ -3,7 +3,7 @@ use Rattle.std.specs.Prelude.{◌≡◌, List, ℕ, suc, length}
 use Rattle.geometry.specs.declared.Geometry.{Geometry}
 use Rattle.packet.specs.Packet.{Packet, bad, good}
 use Rattle.rules.specs.declared.Totals.{Totals}
-use Rattle.rules.specs.Result.{ok, err, and_then as ◌>>=◌, and_after as ◌>>◌}
+use Rattle.rules.specs.Result.{ok, err}
 use Rattle.rules.specs.Chain.{Views}
 use Rattle.rules.specs.Tree.{map_pages, Image}
 use Rattle.rules.specs.Control.{the_root, head_of, root_page}

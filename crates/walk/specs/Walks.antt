@@ -5,7 +5,7 @@ use Rattle.geometry.specs.Geometry.{control_size}
 use Rattle.packet.specs.Packet.{View}
 use Rattle.rules.specs.declared.Entry.{Entry}
 use Rattle.rules.specs.declared.Totals.{Totals}
-use Rattle.rules.specs.Result.{Res, ok, err, and_then as ◌>>=◌, and_after as ◌>>◌, refuse_unless}
+use Rattle.rules.specs.Result.{Res, ok, err, and_after as ◌>>◌, refuse_unless}
 use Rattle.rules.specs.PageSets.{mem}
 use Rattle.rules.specs.Chain.{Views, Link, pages, Test}
 use Rattle.rules.specs.Names.{key}

@@ -1,10 +1,9 @@
 -- A directory's pages changed: entries of one page exchanged, or a page that joins written before the page that then points to it.
-use mathlib.Core.Path.{◌≡◌, refl, ap, sym, ◌∙◌, subst}
-use mathlib.Core.Bool.{Bool, true, false}
+use mathlib.Core.Path.{◌≡◌, ap, sym, ◌∙◌, subst}
+use mathlib.Core.Bool.{Bool, true}
 use mathlib.Core.List.{List, [], ◌∷◌}
-use Prim.Native.Nat.{ℕ, ◌+◌, ◌*◌, ◌<◌, ◌^◌}
+use Prim.Native.Nat.{ℕ, ◌+◌, ◌*◌}
 use native.Mathlib.Omega.{arith}
-use lib.Dec.{eqb}
 use lib.ListN.{length}
 use borrow.Author.Tests.{eq-eqb, ne_eqb}
 use Rattle.geometry.specs.declared.Geometry.{Geometry}
@@ -12,9 +11,9 @@ use Rattle.geometry.specs.Choose.{choose}
 use Rattle.geometry.specs.ChooseLaws.{choose_true, choose_false}
 use Rattle.geometry.specs.Geometry.{entry_size, Fit}
 use Rattle.geometry.specs.Number.{Bytes}
-use Rattle.packet.specs.Packet.{good, view_of, Write, write}
+use Rattle.packet.specs.Packet.{view_of, Write, write}
 use Rattle.packet.specs.declared.Budget.{Budget}
-use Rattle.packet.specs.Budgets.{Progress, Open, Stopped, write_one, write_all}
+use Rattle.packet.specs.Budgets.{Progress, Open, write_one, write_all}
 use Rattle.packet.specs.BudgetLaws.{one_stopped, stopped_all}
 use Rattle.reading_theorems.specs.DirectoryComplete.{pages_fit}
 use Rattle.editing_theorems.specs.AfterWrites.{WriteFits}

@@ -15,7 +15,7 @@ use Rattle.chain.specs.declared.Cursor.{Cursor}
 use Rattle.chain.specs.declared.Step.{Step}
 use Rattle.chain.specs.declared.Step.TheVariants as step
 use Rattle.chain.specs.Claims.{IsGood, Counted}
-use Rattle.chain.specs.Steps.{first_step, after, step_of}
+use Rattle.chain.specs.Steps.{first_step, step_of}
 use Rattle.chain.proofs.Following.{stepped, small_view}
 use Rattle.writes.specs.Changes.{over_front, spliced, HasSpan}
 

@@ -1,5 +1,4 @@
 use mathlib.Core.Path.{sym, ◌∙◌}
-use Prim.Native.Nat.{◌-◌}
 use native.Mathlib.Omega.{arith}
 use Rattle.owners.specs.Records.{records_of}
 use Rattle.bitmap.proofs.BitLaws.{right_on, part_same, part_differ}

@@ -32,7 +32,10 @@ delete_in-requires c =
 pub returns-in-Invalid : goal.returns-in-Invalid
 returns-in-Invalid c =
     let a = c.args in
-    let e = sym (careful_delete_invalid a.size a.pages a.image.now a.table.now (sym c.new.ensures ∙ c.in-Invalid.is) a.allowed a.path.now) in record { table_after = e; carefully_deletes = delete_is a.size a.pages a.image.now a.table.now a.path.now a.allowed (λ i. (c.slice_known-1.given i).fits) (halted.Refused 1 0) a.image.now a.table.now e }
+    let e = sym (careful_delete_invalid a.size a.pages a.image.now a.table.now (sym c.new.ensures ∙ c.in-Invalid.is) a.allowed a.path.now) in record {
+      table_after = e;
+      carefully_deletes = delete_is a.size a.pages a.image.now a.table.now a.path.now a.allowed (λ i. (c.slice_known-1.given i).fits) (halted.Refused 1 0) a.image.now a.table.now e;
+    }
 
 pub returns-in-Fits : goal.returns-in-Fits
 returns-in-Fits c =
@@ -40,4 +43,7 @@ returns-in-Fits c =
     let f = sym c.new.ensures ∙ c.in-Fits.is in
     let part = c.delete_in.new.table in
     let l = c.delete_in.auto.table ∙ length-take-le _ a.table.now (sized_of a.size a.pages _ _ _ f).room in
-    let e = deleted a.size a.pages a.image.now a.table.now a.path.now a.allowed _ f part l (λ i. (c.slice_known-in-Fits-2-1.given i).fits) c.delete_in.result _ c.delete_in.ensures in record { table_after = e; carefully_deletes = delete_is a.size a.pages a.image.now a.table.now a.path.now a.allowed (λ i. (c.slice_known-1.given i).fits) c.delete_in.result _ _ e }
+    let e = deleted a.size a.pages a.image.now a.table.now a.path.now a.allowed _ f part l (λ i. (c.slice_known-in-Fits-2-1.given i).fits) c.delete_in.result _ c.delete_in.ensures in record {
+      table_after = e;
+      carefully_deletes = delete_is a.size a.pages a.image.now a.table.now a.path.now a.allowed (λ i. (c.slice_known-1.given i).fits) c.delete_in.result _ _ e;
+    }

@@ -18,7 +18,10 @@ pub release_old-requires : goal.release_old-requires
 release_old-requires c =
     let M = c.requires.table_len.1 in
     let h = c.put_entry-changed.ensures M.plan in
-    let fit = marked_fit c.args.budget c.requires.table_len.2 M h c.if-changed.false in record { fit = fit.0; has_old = (marked_old c.args.budget c.requires.table_len.2 M h c.if-changed.false, c.claim_below.auto.table ∙ c.requires.table_len.0) }
+    let fit = marked_fit c.args.budget c.requires.table_len.2 M h c.if-changed.false in record {
+      fit = fit.0;
+      has_old = (marked_old c.args.budget c.requires.table_len.2 M h c.if-changed.false, c.claim_below.auto.table ∙ c.requires.table_len.0);
+    }
 
 pub write_map-requires : goal.write_map-requires
 write_map-requires c =

@@ -1,5 +1,4 @@
 use mathlib.Core.Path.{sym, ◌∙◌}
-use Prim.Native.Nat.{◌-◌}
 use native.Mathlib.Omega.{arith}
 use Rattle.chain.proofs.Reading.{counted_all, count_on}
 use Rattle.chain.proofs.Following.{never_refused, page_known, counts_up, read_first}

@@ -1,5 +1,4 @@
 use mathlib.Core.Path.{refl, sym, ◌∙◌}
-use Prim.Native.Nat.{◌-◌}
 use native.Mathlib.Omega.{arith}
 use Rattle.chain.proofs.Following.{never_refused, page_known, counts_up, data_inside}
 use Rattle.chain.proofs.Reading.{copy_first, has_place, copied_all, copy_on}

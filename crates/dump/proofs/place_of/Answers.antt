@@ -22,4 +22,10 @@ returns-then-dump-offset-gt-MOST_IMAGE c =
 
 pub returns : goal.returns
 returns c =
-    place_right _ _ c.number_at-offset.ensures.0 (record { header = c.if-dump-lt-HEADER_BYTES.false; least = c.if-offset-lt-HEADER_BYTES.false; most = c.if-offset-gt-MOST_OFFSET.false; inside = c.if-dump-offset.false; short = c.if-dump-offset-gt-MOST_IMAGE.false })
+    place_right _ _ c.number_at-offset.ensures.0 (record {
+      header = c.if-dump-lt-HEADER_BYTES.false;
+      least = c.if-offset-lt-HEADER_BYTES.false;
+      most = c.if-offset-gt-MOST_OFFSET.false;
+      inside = c.if-dump-offset.false;
+      short = c.if-dump-offset-gt-MOST_IMAGE.false;
+    })

@@ -31,7 +31,10 @@ pub put_entry-changed-requires : goal.put_entry-changed-requires
 put_entry-changed-requires c =
     let a = c.args in
     let p = c.requires in
-    let n = c.pages_for-pages.ensures ∙ ap (λ (x : ℕ). pages_for x (length a.bytes.now)) c.data_capacity.ensures in record { fit = p.fit; table_len = (p.table_len.0, plan_is a.g a.image.now (records_of a.table.now) a.bytes.now (length_exact _ _ p.table_len.0) a.file p.table_len.1 n c.find_pages.ensures c.in-At.is, p.table_len.2) }
+    let n = c.pages_for-pages.ensures ∙ ap (λ (x : ℕ). pages_for x (length a.bytes.now)) c.data_capacity.ensures in record {
+      fit = p.fit;
+      table_len = (p.table_len.0, plan_is a.g a.image.now (records_of a.table.now) a.bytes.now (length_exact _ _ p.table_len.0) a.file p.table_len.1 n c.find_pages.ensures c.in-At.is, p.table_len.2);
+    }
 
 pub returns-then-changed : goal.returns-then-changed
 returns-then-changed c =

@@ -32,7 +32,10 @@ format_in-requires c =
 pub returns-in-Invalid : goal.returns-in-Invalid
 returns-in-Invalid c =
     let a = c.args in
-    let e = sym (format_invalid a.size a.pages a.image.now a.table.now (sym c.new.ensures ∙ c.in-Invalid.is) a.local) in record { table_after = e; formats = format_is a.size a.pages a.image.now a.table.now (λ i. (c.slice_known-1.given i).fits) a.local (edited.Refused 1 0) a.image.now a.table.now e }
+    let e = sym (format_invalid a.size a.pages a.image.now a.table.now (sym c.new.ensures ∙ c.in-Invalid.is) a.local) in record {
+      table_after = e;
+      formats = format_is a.size a.pages a.image.now a.table.now (λ i. (c.slice_known-1.given i).fits) a.local (edited.Refused 1 0) a.image.now a.table.now e;
+    }
 
 pub returns-in-Fits : goal.returns-in-Fits
 returns-in-Fits c =

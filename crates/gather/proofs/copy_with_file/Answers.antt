@@ -28,7 +28,11 @@ lay_root-size-requires c =
     let s = c.requires in
     let K = s.table_len.1 in
     let valid = s.fit.0.valid in
-    let n = count_is a.g valid _ _ c.bitmap_size.ensures c.data_capacity.ensures _ c.pages_for-count.ensures in record { fit = s.fit; fit_2 = s.fit_2; control_bound = (omega arith, ap length c.fill_place.ensures ∙ place_length a.g valid _, file_room a.g a.image.now s.fit.0 s.fit.1 K.tree K.accepted (K.kind K.tree K.accepted) _ n) }
+    let n = count_is a.g valid _ _ c.bitmap_size.ensures c.data_capacity.ensures _ c.pages_for-count.ensures in record {
+      fit = s.fit;
+      fit_2 = s.fit_2;
+      control_bound = (omega arith, ap length c.fill_place.ensures ∙ place_length a.g valid _, file_room a.g a.image.now s.fit.0 s.fit.1 K.tree K.accepted (K.kind K.tree K.accepted) _ n);
+    }
 
 pub write_bits-requires : goal.write_bits-requires
 write_bits-requires c =

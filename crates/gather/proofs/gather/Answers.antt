@@ -12,7 +12,10 @@ use Rattle.gather.proofs.gather.Goals as goal
 pub returns-then-second-image : goal.returns-then-second-image
 returns-then-second-image c =
     let a = c.args in
-    let e = other_length a.size a.pages a.image.now a.second.now a.table.now c.if-second-image.true in record { table_after = e; gathers = gather_is a.size a.pages a.image.now a.second.now a.table.now (λ i. (c.shared_slice_known-1.given i).fits) (edited.Refused 1 0) a.second.now a.table.now e }
+    let e = other_length a.size a.pages a.image.now a.second.now a.table.now c.if-second-image.true in record {
+      table_after = e;
+      gathers = gather_is a.size a.pages a.image.now a.second.now a.table.now (λ i. (c.shared_slice_known-1.given i).fits) (edited.Refused 1 0) a.second.now a.table.now e;
+    }
 
 pub overflow_mul-end : goal.overflow_mul-end
 overflow_mul-end c =
@@ -41,7 +44,10 @@ gather_in-requires c =
 pub returns-in-Invalid : goal.returns-in-Invalid
 returns-in-Invalid c =
     let a = c.args in
-    let e = invalid a.size a.pages a.image.now a.second.now a.table.now c.if-second-image.false (sym c.new.ensures ∙ c.in-Invalid.is) in record { table_after = e; gathers = gather_is a.size a.pages a.image.now a.second.now a.table.now (λ i. (c.shared_slice_known-1.given i).fits) (edited.Refused 1 0) a.second.now a.table.now e }
+    let e = invalid a.size a.pages a.image.now a.second.now a.table.now c.if-second-image.false (sym c.new.ensures ∙ c.in-Invalid.is) in record {
+      table_after = e;
+      gathers = gather_is a.size a.pages a.image.now a.second.now a.table.now (λ i. (c.shared_slice_known-1.given i).fits) (edited.Refused 1 0) a.second.now a.table.now e;
+    }
 
 pub returns-in-Fits : goal.returns-in-Fits
 returns-in-Fits c =
@@ -50,4 +56,7 @@ returns-in-Fits c =
     let part = c.gather_in.new.table in
     let l = c.gather_in.auto.table ∙ length-take-le _ a.table.now (sized_of a.size a.pages _ _ _ e).room in
     let k = gather_left a.size a.pages a.image.now a.second.now a.table.now c.if-second-image.false _ e part l
-    (λ i. (c.slice_known-in-Fits-2-1.given i).fits) c.gather_in.result c.gather_in.new.second c.gather_in.ensures in record { table_after = k; gathers = gather_is a.size a.pages a.image.now a.second.now a.table.now (λ i. (c.shared_slice_known-1.given i).fits) c.gather_in.result c.gather_in.new.second _ k }
+    (λ i. (c.slice_known-in-Fits-2-1.given i).fits) c.gather_in.result c.gather_in.new.second c.gather_in.ensures in record {
+      table_after = k;
+      gathers = gather_is a.size a.pages a.image.now a.second.now a.table.now (λ i. (c.shared_slice_known-1.given i).fits) c.gather_in.result c.gather_in.new.second _ k;
+    }

@@ -7,7 +7,11 @@ use Rattle.gather.proofs.gather_in.Goals as goal
 pub copy-requires : goal.copy-requires
 copy-requires c =
     let a = c.args in
-    let s = c.requires in record { fit = (s.fit, bytes_from a.image.now (λ i. (c.shared_slice_known-1.given i).fits)); fit_2 = s.fit_2; table_len = (search rules, has_image a.g a.image.now a.second.now _ _ c.check_table.ensures _ c.in-Done.is) }
+    let s = c.requires in record {
+      fit = (s.fit, bytes_from a.image.now (λ i. (c.shared_slice_known-1.given i).fits));
+      fit_2 = s.fit_2;
+      table_len = (search rules, has_image a.g a.image.now a.second.now _ _ c.check_table.ensures _ c.in-Done.is);
+    }
 
 pub returns-in-Refused : goal.returns-in-Refused
 returns-in-Refused c =

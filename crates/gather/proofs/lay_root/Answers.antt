@@ -46,7 +46,11 @@ lay_directory-requires c =
     let a = c.args in
     let s = c.requires in
     let n = field_length a.g a.control a.four.now s.control_bound.1 ∙ sym c.control_size-size.ensures.0 in
-    let r = front_read _ _ _ _ c.fill_control.ensures n in record { fit = s.fit; fit_2 = fit_same _ _ _ s.fit_2 (ap length c.blank.ensures ∙ length-replicate (length a.second.now) 255); levels_bound = (omega arith, known_root a.g a.image.now s.fit.0 s.fit.1 _ s.control_bound.2 _ c.further_pages-further.ensures _ (ap length r ∙ field_length a.g a.control a.four.now s.control_bound.1)) }
+    let r = front_read _ _ _ _ c.fill_control.ensures n in record {
+      fit = s.fit;
+      fit_2 = fit_same _ _ _ s.fit_2 (ap length c.blank.ensures ∙ length-replicate (length a.second.now) 255);
+      levels_bound = (omega arith, known_root a.g a.image.now s.fit.0 s.fit.1 _ s.control_bound.2 _ c.further_pages-further.ensures _ (ap length r ∙ field_length a.g a.control a.four.now s.control_bound.1));
+    }
 
 pub returns : goal.returns
 returns c =

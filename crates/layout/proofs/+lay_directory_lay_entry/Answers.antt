@@ -1,25 +1,16 @@
-use mathlib.Core.Path.{◌≡◌, refl, ap, sym, ◌∙◌}
-use Prim.Native.Nat.{ℕ, ◌+◌, ◌*◌, ◌≤◌, ◌<◌}
+use mathlib.Core.Path.{refl, ap, sym, ◌∙◌}
+use Prim.Native.Nat.{ℕ}
 use native.Mathlib.Omega.{arith}
 use lib.ListN.{length, length-replicate}
 use lib.Seq.{length-take-le}
-use Rattle.geometry.specs.Geometry.{first_entries}
-use Rattle.packet.specs.Packet.{after_writes}
 use Rattle.packet.proofs.Fronts.{zeros_front, front_room, front_size, front_read}
-use Rattle.rules.specs.Chain.{views_of}
-use Rattle.rules.specs.Tree.{Items}
 use Rattle.reading_theorems.specs.ControlLaws.{control_size_lem}
 use Rattle.reading_theorems.specs.SubControlLaws.{length_sub}
-use Rattle.entries.specs.TokensAt.{entries_ahead}
 use Rattle.entries.proofs.Stepping.{entry_answer, end_answer, entry_in, past_less}
 use Rattle.entries.proofs.ItemLaws.{plain_answer}
-use Rattle.gathering.specs.Gather.{bare, below_size, further as furtherOf}
-use Rattle.gathering.proofs.GatherLaid.{BareEntries}
-use Rattle.gathering.proofs.GatherOrder.{pass_writes}
-use Rattle.listing.specs.KnownTree.{DirectoryAt}
-use Rattle.layout.specs.Layout.{parent_of, Holding}
+use Rattle.layout.specs.Layout.{parent_of}
 use Rattle.layout.proofs.AddedEntries.{head_room}
-use Rattle.layout.proofs.Laying.{Laying, lay_first, lay_in, further_low, lay_done, few_stamps, stamps_inside, lay_stamp, slots_fit, known_part, after_turn, turn_some}
+use Rattle.layout.proofs.Laying.{lay_first, lay_in, further_low, lay_done, few_stamps, stamps_inside, lay_stamp, slots_fit, known_part, after_turn, turn_some}
 use Rattle.layout.proofs.Laying.{turn_holds, chain_grows, add_holds, after_entry, first_holds, field_front, field_long, fit_same}
 use Rattle.layout.proofs.PartLaws.{known_run, lays_chain, known_sub, known_entries, known_directory, further_small, lays_sub}
 use borrow.Author.Rules.{rules}
@@ -151,7 +142,10 @@ lay_directory-add-w-requires t c =
     let t₁ = c.turn-w.ensures in
     let q = stamps_inside s.fit.0 s.fit.1 (parent_of c.args.name c.args.at) (i.2 K.tree K.stands) n in
     let o = turn_holds s.fit.0 s.fit.1 (parent_of c.args.name c.args.at) (i.2 K.tree K.stands) n x.0 x.1 wide (K.fitting, K.inner) K.room i.1 _ _ t₁ in
-    let some = turn_some s.fit.0 s.fit.1 (parent_of c.args.name c.args.at) (i.2 K.tree K.stands) n x.0 x.1 wide _ _ t₁ in record { fit = s.fit.0; holding = (o, some, chain_grows s.fit.0 s.fit.1 (parent_of c.args.name c.args.at) l n x.0 x.1 some _ _ c.lay_entry-next.ensures, q.0, q.1, q.2) }
+    let some = turn_some s.fit.0 s.fit.1 (parent_of c.args.name c.args.at) (i.2 K.tree K.stands) n x.0 x.1 wide _ _ t₁ in record {
+      fit = s.fit.0;
+      holding = (o, some, chain_grows s.fit.0 s.fit.1 (parent_of c.args.name c.args.at) l n x.0 x.1 some _ _ c.lay_entry-next.ensures, q.0, q.1, q.2);
+    }
 
 pub lay_directory-loop-here-smaller : goal.lay_directory-loop-here-smaller
 lay_directory-loop-here-smaller t c =

@@ -1,30 +1,19 @@
 -- The loop's invariant: the page at hand is in the buffer, and what is still to be written gives the whole. Its measure: the entries ahead, pages to come counted as full.
 -- Of the two functions that call each other, a subdirectory has a level less.
-use mathlib.Core.Path.{◌≡◌, refl, ap, sym, ◌∙◌}
-use Prim.Native.Nat.{ℕ, ◌+◌, ◌*◌, ◌≤◌, ◌<◌}
-use native.Mathlib.Omega.{arith}
-use lib.ListN.{length, length-replicate}
-use lib.Seq.{length-take-le}
+use mathlib.Core.Path.{◌≡◌}
+use Prim.Native.Nat.{◌+◌, ◌*◌, ◌≤◌}
+use lib.ListN.{length}
 use Rattle.geometry.specs.Geometry.{first_entries}
 use Rattle.packet.specs.Packet.{after_writes}
-use Rattle.packet.proofs.Fronts.{zeros_front, front_room, front_size, front_read}
 use Rattle.rules.specs.Chain.{views_of}
 use Rattle.rules.specs.Tree.{Items}
-use Rattle.reading_theorems.specs.ControlLaws.{control_size_lem}
-use Rattle.reading_theorems.specs.SubControlLaws.{length_sub}
 use Rattle.entries.specs.TokensAt.{entries_ahead}
-use Rattle.entries.proofs.Stepping.{entry_answer, end_answer, entry_in, past_less}
-use Rattle.entries.proofs.ItemLaws.{plain_answer}
 use Rattle.gathering.specs.Gather.{bare, below_size, further as furtherOf}
 use Rattle.gathering.proofs.GatherLaid.{BareEntries}
 use Rattle.gathering.proofs.GatherOrder.{pass_writes}
 use Rattle.listing.specs.KnownTree.{DirectoryAt}
 use Rattle.layout.specs.Layout.{parent_of, Holding}
-use Rattle.layout.proofs.AddedEntries.{head_room}
-use Rattle.layout.proofs.Laying.{Laying, lay_first, lay_in, further_low, lay_done, few_stamps, stamps_inside, lay_stamp, slots_fit, known_part, after_turn, turn_some}
-use Rattle.layout.proofs.Laying.{turn_holds, chain_grows, add_holds, after_entry, first_holds, field_front, field_long, fit_same}
-use Rattle.layout.proofs.PartLaws.{known_run, lays_chain, known_sub, known_entries, known_directory, further_small, lays_sub}
-use borrow.Author.Rules.{rules}
+use Rattle.layout.proofs.Laying.{Laying}
 use Rattle.layout.proofs.+lay_directory_lay_entry.Given as goal
 
 abbrev pub invariant-lay_directory-loop-here : goal.invariant-lay_directory-loop-here

@@ -1,5 +1,4 @@
 use native.Mathlib.Omega.{arith}
-use Rattle.geometry.specs.Geometry.{first_entries}
 use Rattle.entries.proofs.Stepping.{entry_answer, end_answer, entry_in, past_less}
 use Rattle.entries.proofs.ItemLaws.{plain_answer}
 use Rattle.layout.proofs.Counting.{count_first, count_in, count_done, opened_few, few_stamps, count_stamp, slots_fit, count_entry}

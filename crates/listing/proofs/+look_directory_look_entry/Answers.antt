@@ -1,14 +1,10 @@
 use mathlib.Core.Path.{sym, ◌∙◌}
-use Prim.Native.Nat.{◌<◌, ℕ, ◌+◌, ◌*◌}
 use native.Mathlib.Omega.{arith}
 use Rattle.rules.specs.Chain.{views_of}
-use Rattle.rules.specs.Tree.{Items}
-use Rattle.entries.specs.TokensAt.{entries_ahead}
 use Rattle.entries.proofs.Stepping.{entry_answer, end_answer, entry_in, past_less}
 use Rattle.entries.proofs.ItemLaws.{plain_answer}
-use Rattle.listing.specs.KnownTree.{DirectoryAt}
 use Rattle.listing.proofs.Lines.{looks_head, looks_file, some_level, has_directory, looks_below}
-use Rattle.listing.proofs.Ahead.{Ahead, ahead_first, ahead_in, ahead_stamp, ahead_part, ahead_found, ahead_past, ahead_done}
+use Rattle.listing.proofs.Ahead.{ahead_first, ahead_in, ahead_stamp, ahead_part, ahead_found, ahead_past, ahead_done}
 use borrow.Author.Rules.{rules}
 use Rattle.listing.proofs.+look_directory_look_entry.Goals as goal
 

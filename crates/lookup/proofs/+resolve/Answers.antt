@@ -1,6 +1,5 @@
 use mathlib.Core.Path.{ap, sym, ◌∙◌, subst}
 use native.Mathlib.Omega.{arith}
-use Prim.Native.Nat.{◌<◌, ℕ}
 use Rattle.rules.specs.Chain.{views_of}
 use Rattle.rules.specs.Paths.{step_down}
 use Rattle.lookup.proofs.Resolving.{step_reached, has_tree_from, lead_here, lead_absent, lead_next, lead_on}

@@ -32,7 +32,10 @@ mend_in-requires c =
 pub returns-in-Invalid : goal.returns-in-Invalid
 returns-in-Invalid c =
     let a = c.args in
-    let e = sym (mend_invalid a.size a.pages a.image.now a.table.now (sym c.new.ensures ∙ c.in-Invalid.is)) in record { table_after = e; mends = mend_is a.size a.pages a.image.now a.table.now (λ i. (c.slice_known-1.given i).fits) (mended.Refused 1 0) a.image.now a.table.now e }
+    let e = sym (mend_invalid a.size a.pages a.image.now a.table.now (sym c.new.ensures ∙ c.in-Invalid.is)) in record {
+      table_after = e;
+      mends = mend_is a.size a.pages a.image.now a.table.now (λ i. (c.slice_known-1.given i).fits) (mended.Refused 1 0) a.image.now a.table.now e;
+    }
 
 pub returns-in-Fits : goal.returns-in-Fits
 returns-in-Fits c =
@@ -40,4 +43,7 @@ returns-in-Fits c =
     let f = sym c.new.ensures ∙ c.in-Fits.is in
     let part = c.mend_in.new.table in
     let l = c.mend_in.auto.table ∙ length-take-le _ a.table.now (sized_of a.size a.pages _ _ _ f).room in
-    let e = mend_left a.size a.pages a.image.now a.table.now _ f part l (λ i. (c.slice_known-in-Fits-2-1.given i).fits) c.mend_in.result _ c.mend_in.ensures in record { table_after = e; mends = mend_is a.size a.pages a.image.now a.table.now (λ i. (c.slice_known-1.given i).fits) c.mend_in.result _ _ e }
+    let e = mend_left a.size a.pages a.image.now a.table.now _ f part l (λ i. (c.slice_known-in-Fits-2-1.given i).fits) c.mend_in.result _ c.mend_in.ensures in record {
+      table_after = e;
+      mends = mend_is a.size a.pages a.image.now a.table.now (λ i. (c.slice_known-1.given i).fits) c.mend_in.result _ _ e;
+    }

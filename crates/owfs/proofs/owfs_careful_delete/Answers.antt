@@ -19,4 +19,7 @@ returns c =
     let a = c.args in
     let image_bytes = bytes_from a.image.now (λ i. (c.slice_known-1.given i).fits) in
     let call = careful_delete_call a.size a.pages a.image.now a.owners.now a.allowed a.path.now in
-    let e = told_both writes_for (count_result c.delete.result) c.tell_writes.result _ _ call c.delete.ensures.table_after c.tell_writes.ensures in record { owners_after = e; carefully_deletes = carefully_deletes a.size a.pages a.image.now a.owners.now image_bytes a.allowed a.path.now c.tell_writes.result _ _ e }
+    let e = told_both writes_for (count_result c.delete.result) c.tell_writes.result _ _ call c.delete.ensures.table_after c.tell_writes.ensures in record {
+      owners_after = e;
+      carefully_deletes = carefully_deletes a.size a.pages a.image.now a.owners.now image_bytes a.allowed a.path.now c.tell_writes.result _ _ e;
+    }

@@ -18,4 +18,7 @@ returns c =
     let a = c.args in
     let image_bytes = bytes_from a.image.now (λ i. (c.shared_slice_known-1.given i).fits) in
     let call = check_call a.size a.pages a.image.now a.owners.now in
-    let e = told totals_for (check_result c.check.result) c.tell.result _ call c.check.ensures.table_after c.tell.ensures in record { owners_after = e; accepts = accepts_tree a.size a.pages a.image.now a.owners.now image_bytes c.tell.result _ e }
+    let e = told totals_for (check_result c.check.result) c.tell.result _ call c.check.ensures.table_after c.tell.ensures in record {
+      owners_after = e;
+      accepts = accepts_tree a.size a.pages a.image.now a.owners.now image_bytes c.tell.result _ e;
+    }

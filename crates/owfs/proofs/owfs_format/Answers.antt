@@ -18,4 +18,7 @@ returns c =
     let a = c.args in
     let image_bytes = bytes_from a.image.now (λ i. (c.slice_known-1.given i).fits) in
     let call = format_call a.size a.pages a.image.now a.owners.now (asks_local a.local) in
-    let e = told_both answer_for (edit_result c.format.result) c.tell_answer.result _ _ call c.format.ensures.table_after c.tell_answer.ensures in record { owners_after = e; formats = formats a.size a.pages a.image.now a.owners.now image_bytes a.local c.tell_answer.result _ _ e }
+    let e = told_both answer_for (edit_result c.format.result) c.tell_answer.result _ _ call c.format.ensures.table_after c.tell_answer.ensures in record {
+      owners_after = e;
+      formats = formats a.size a.pages a.image.now a.owners.now image_bytes a.local c.tell_answer.result _ _ e;
+    }

@@ -17,4 +17,7 @@ returns c =
     let a = c.args in
     let image_bytes = bytes_from a.image.now (λ i. (c.shared_slice_known-1.given i).fits) in
     let call = gather_call a.size a.pages a.image.now a.copy.now a.owners.now in
-    let e = told_both answer_for (edit_result c.gather.result) c.tell_answer.result _ _ call c.gather.ensures.table_after c.tell_answer.ensures in record { owners_after = e; gathers = gathers a.size a.pages a.image.now a.copy.now a.owners.now image_bytes c.tell_answer.result _ _ e }
+    let e = told_both answer_for (edit_result c.gather.result) c.tell_answer.result _ _ call c.gather.ensures.table_after c.tell_answer.ensures in record {
+      owners_after = e;
+      gathers = gathers a.size a.pages a.image.now a.copy.now a.owners.now image_bytes c.tell_answer.result _ _ e;
+    }

@@ -18,4 +18,7 @@ returns c =
     let a = c.args in
     let image_bytes = bytes_from a.image.now (λ i. (c.shared_slice_known-1.given i).fits) in
     let call = list_call a.size a.pages a.image.now a.owners.now a.position in
-    let e = told entry_for (line_result c.list.result) c.tell_entry.result _ call c.list.ensures.table_after c.tell_entry.ensures in record { owners_after = e; tells_tree = lists_tree a.size a.pages a.image.now a.owners.now image_bytes a.position c.tell_entry.result _ e }
+    let e = told entry_for (line_result c.list.result) c.tell_entry.result _ call c.list.ensures.table_after c.tell_entry.ensures in record {
+      owners_after = e;
+      tells_tree = lists_tree a.size a.pages a.image.now a.owners.now image_bytes a.position c.tell_entry.result _ e;
+    }

@@ -1,4 +1,3 @@
-use Prim.Native.Nat.{◌-◌}
 use native.Mathlib.Omega.{arith}
 use Rattle.owners.proofs.Finding.{count_first, count_on, too_few, enough}
 use Rattle.owners.proofs.find_room.Goals as goal

@@ -1,4 +1,3 @@
-use Prim.Native.Nat.{◌-◌}
 use native.Mathlib.Omega.{arith}
 use Rattle.owners.proofs.Finding.{bit_none, bit_some, search_first, found_here, search_on, none_left}
 use Rattle.owners.proofs.next_free.Goals as goal

@@ -41,7 +41,10 @@ entry_of-requires c =
 pub returns-in-Invalid : goal.returns-in-Invalid
 returns-in-Invalid c =
     let a = c.args in
-    let e = sym (list_invalid a.size a.pages a.image.now a.table.now (sym c.new.ensures ∙ c.in-Invalid.is) a.position) in record { table_after = e; tells_tree = lists_tree a.size a.pages a.image.now a.table.now (λ i. (c.shared_slice_known-1.given i).fits) a.position (listed.Refused 1 0) a.table.now e }
+    let e = sym (list_invalid a.size a.pages a.image.now a.table.now (sym c.new.ensures ∙ c.in-Invalid.is) a.position) in record {
+      table_after = e;
+      tells_tree = lists_tree a.size a.pages a.image.now a.table.now (λ i. (c.shared_slice_known-1.given i).fits) a.position (listed.Refused 1 0) a.table.now e;
+    }
 
 pub returns-in-Refused : goal.returns-in-Refused
 returns-in-Refused c =

@@ -30,7 +30,10 @@ check_table-requires c =
 pub returns-in-Invalid : goal.returns-in-Invalid
 returns-in-Invalid c =
     let a = c.args in
-    let e = sym (check_invalid a.size a.pages a.image.now a.table.now (sym c.new.ensures ∙ c.in-Invalid.is)) in record { table_after = e; accepts = accepts a.size a.pages a.image.now a.table.now (λ i. (c.shared_slice_known-1.given i).fits) (w.Refused 1 0) a.table.now e }
+    let e = sym (check_invalid a.size a.pages a.image.now a.table.now (sym c.new.ensures ∙ c.in-Invalid.is)) in record {
+      table_after = e;
+      accepts = accepts a.size a.pages a.image.now a.table.now (λ i. (c.shared_slice_known-1.given i).fits) (w.Refused 1 0) a.table.now e;
+    }
 
 pub returns-in-Fits : goal.returns-in-Fits
 returns-in-Fits c =

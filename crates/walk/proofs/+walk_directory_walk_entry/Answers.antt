@@ -1,21 +1,14 @@
-use mathlib.Core.Path.{◌≡◌, refl, sym, ◌∙◌}
-use mathlib.Core.List.{List, []}
+use mathlib.Core.Path.{refl, sym, ◌∙◌}
+use mathlib.Core.List.{[]}
 use native.Mathlib.Omega.{arith}
-use lib.ListN.{length}
-use Prim.Native.Nat.{◌<◌, ℕ, ◌+◌, ◌-◌, ◌*◌, ◌≤◌}
 use Rattle.owners.specs.Records.{records_of}
 use Rattle.owners.specs.RecordLaws.{length_exact}
-use Rattle.packet.specs.Packet.{view_of}
-use Rattle.rules.specs.Chain.{views_of, Link}
-use Rattle.owners.specs.Owned.{Represents}
-use Rattle.owners.specs.OwnerLaws.{taken}
-use Rattle.chain.specs.KnownChain.{ChainAt, KnownChain}
+use Rattle.rules.specs.Chain.{views_of}
 use Rattle.entries.proofs.Stepping.{entry_answer, end_answer, entry_in}
 use Rattle.entries.proofs.ItemLaws.{plain_answer}
 use Rattle.walk.proofs.Parts.{totals_fit, below_some, below_ready, entry_refused, file_entry_lem, entry_below, entry_directory}
-use Rattle.walk.proofs.Left.{Left, witness, some_to_go, left_in, left_known, left_stamp, left_loose, left_refused, left_entry, left_done, left_first}
+use Rattle.walk.proofs.Left.{witness, some_to_go, left_in, left_known, left_stamp, left_loose, left_refused, left_entry, left_done, left_first}
 use Rattle.walk.proofs.Directories.{refused_directory, is_claimed, pages_few, claimed_known, whole_done, whole_refused}
-use borrow.Author.Tests.{not-true, not-false}
 use Rattle.walk.proofs.+walk_directory_walk_entry.Goals as goal
 
 pub walk_directory-overflow_add-so_far : goal.walk_directory-overflow_add-so_far

@@ -1,23 +1,15 @@
 -- The loop's invariant: whatever answers what is left of a directory's entries answers the whole. Its measure: the entries to go.
 -- Of the two functions that call each other, levels left and entries left fall together.
-use mathlib.Core.Path.{◌≡◌, refl, sym, ◌∙◌}
-use mathlib.Core.List.{List, []}
-use native.Mathlib.Omega.{arith}
+use mathlib.Core.Path.{◌≡◌}
+use mathlib.Core.List.{List}
 use lib.ListN.{length}
-use Prim.Native.Nat.{◌<◌, ℕ, ◌+◌, ◌-◌, ◌*◌, ◌≤◌}
+use Prim.Native.Nat.{ℕ, ◌+◌, ◌-◌, ◌*◌, ◌≤◌}
 use Rattle.owners.specs.Records.{records_of}
-use Rattle.owners.specs.RecordLaws.{length_exact}
 use Rattle.packet.specs.Packet.{view_of}
 use Rattle.rules.specs.Chain.{views_of, Link}
 use Rattle.owners.specs.Owned.{Represents}
-use Rattle.owners.specs.OwnerLaws.{taken}
 use Rattle.chain.specs.KnownChain.{ChainAt, KnownChain}
-use Rattle.entries.proofs.Stepping.{entry_answer, end_answer, entry_in}
-use Rattle.entries.proofs.ItemLaws.{plain_answer}
-use Rattle.walk.proofs.Parts.{totals_fit, below_some, below_ready, entry_refused, file_entry_lem, entry_below, entry_directory}
-use Rattle.walk.proofs.Left.{Left, witness, some_to_go, left_in, left_known, left_stamp, left_loose, left_refused, left_entry, left_done, left_first}
-use Rattle.walk.proofs.Directories.{refused_directory, is_claimed, pages_few, claimed_known, whole_done, whole_refused}
-use borrow.Author.Tests.{not-true, not-false}
+use Rattle.walk.proofs.Left.{Left}
 use Rattle.walk.proofs.+walk_directory_walk_entry.Given as goal
 
 abbrev pub invariant-walk_directory-loop-at : goal.invariant-walk_directory-loop-at

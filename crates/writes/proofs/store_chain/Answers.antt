@@ -1,5 +1,4 @@
 use mathlib.Core.Path.{refl}
-use Prim.Native.Nat.{◌-◌}
 use native.Mathlib.Omega.{arith}
 use Rattle.owners.specs.RecordLaws.{length_exact}
 use Rattle.editing_theorems.specs.Capacity.{capacity_least}

@@ -1,5 +1,4 @@
 use mathlib.Core.Path.{refl, sym, ◌∙◌}
-use Prim.Native.Nat.{◌-◌}
 use Rattle.rules.specs.Names.{signs}
 use Rattle.directory.proofs.NameLaws.{found, passed, missing}
 use borrow.Author.Rules.{rules}

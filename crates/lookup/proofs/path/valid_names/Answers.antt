@@ -1,5 +1,4 @@
 use mathlib.Core.Path.{sym, ◌∙◌}
-use Prim.Native.Nat.{◌-◌}
 use Rattle.lookup.proofs.Cases.{name_bad, name_good, names_begin, names_end}
 use Rattle.std.proofs.lemmas.Bool.{not_from_true, not_from_false}
 use borrow.Author.Rules.{rules}
