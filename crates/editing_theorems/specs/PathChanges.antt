@@ -13,7 +13,7 @@ use Rattle.rules.specs.Candidate.{look_up, root_label, at_path, found_entry}
 use Rattle.rules.specs.Result.{err}
 use Rattle.rules.specs.Calls.{bytes_of}
 use Rattle.packet.specs.Packet.{same_list}
-use Rattle.rules.specs.Demand2.{directory_seen, shown}
+use Rattle.rules.specs.Demand2.{shown}
 use Rattle.editing_theorems.specs.DirectoryWrites.{same_list_lem}
 use Rattle.editing_theorems.specs.Contexts.{Context, gap, after_page, after_file, after_directory, filled, gap_label, filled_all, context_path, start_filled}
 use Rattle.editing_theorems.specs.ContextLaws.{keys_filled, own_filled, Shaped, shaped_in}
@@ -104,7 +104,7 @@ start_entry g l d e h = ap (directory_bytes g l) h
 pub shown_directory_lem : (g : Geometry) (l : Label) (d e : Items) → start_of e ≡ start_of d → own_pages e ≡ own_pages d → shown g (a_directory l e) ≡ shown g (a_directory l d)
 unfolding bytes_of
 shown_directory_lem g l d e h k =
-    ap₂ (λ (s : ℕ) (ps : List ℕ). record { stands = directory_seen l; entry = directory_bytes g l s; pages = ps; bytes = []; answer = err 15 0 }) h k
+    ap₂ (λ (s : ℕ) (ps : List ℕ). record { entry = directory_bytes g l s; pages = ps; bytes = []; answer = err 15 0 }) h k
 
 pub shown_blind : (g : Geometry) (l : Label) (c : Context) (d e : Items) → shown g (a_directory l (filled c e)) ≡ shown g (a_directory l (filled c d))
 shown_blind g l c d e =

@@ -17,10 +17,9 @@ use Rattle.rules.specs.Paths.{Path, path_of}
 use Rattle.rules.specs.Calls.{shape, asked, file_at, read_bytes, length_of, filled, read_call}
 use Rattle.rules.proofs.CallLaws.{asked_fits, asked_invalid}
 use Rattle.rules.specs.Candidate.{Accepted, at_path, file_path, pages_in_use}
-use Rattle.rules.specs.Demand2.{seen}
 use Rattle.reading_theorems.specs.Accepted.{accepted}
 use Rattle.editing_theorems.specs.ReadLaws.{read_at}
-use Rattle.order_theorems.specs.EitherOrder.{FileEdit, a_put, a_delete, edit_path, EditBytes, BothPut, BothDelete, Agree, InEitherOrder}
+use Rattle.order_theorems.specs.EitherOrder.{FileEdit, a_put, a_delete, edit_path, EditBytes, BothPut, BothDelete, seen, Agree, InEitherOrder}
 use Rattle.order_theorems.proofs.PathBytes.{one_path}
 use Rattle.order_theorems.specs.PathEdits.{same_bytes, change_by, in_either_order}
 use Rattle.order_theorems.proofs.PagesAfterPuts.{PutStep, sum_after, joined_same}

@@ -15,7 +15,7 @@ use Rattle.rules.specs.Paths.{Path, file_key, file_label, Found, nothing, a_file
 use Rattle.rules.specs.Put.{extra_pages}
 use Rattle.rules.proofs.EditLaws.{width_is}
 use Rattle.rules.specs.Candidate.{look_up, root_label, at_path, chain_pages, stamps_of, target_path, file_path, pages_in_use}
-use Rattle.rules.specs.Demand2.{Seen, file_seen, directory_seen, seen, Shown, PutDone}
+use Rattle.rules.specs.Demand2.{Shown, PutDone}
 use Rattle.reading_theorems.specs.PacketLaws.{byte_view}
 use Rattle.editing_theorems.specs.Contexts.{directory_items}
 use Rattle.editing_theorems.specs.PathLaws.{path_append}
@@ -24,7 +24,7 @@ use Rattle.editing_theorems.specs.PutLaws.{same_length}
 use Rattle.editing_theorems.specs.FoundLaws.{last_same}
 use Rattle.editing_theorems.specs.FullPages.{slots, width_found}
 use Rattle.editing_theorems.specs.PathContents.{DirectoryThere, FoundIn, path_stands, root_there, there_holds}
-use Rattle.order_theorems.specs.EitherOrder.{a_put}
+use Rattle.order_theorems.specs.EitherOrder.{a_put, Seen, file_seen, directory_seen, seen}
 use Rattle.order_theorems.proofs.PathBytes.{front_same}
 use Rattle.order_theorems.specs.PathEdits.{stamps_seen, stamps_seen_lem, width_seen, width_seen_lem, Edits, change_by, put_edits}
 use Rattle.order_theorems.proofs.DirectorySlots.{Sound, slots_but, no_extra, same_extra}

@@ -5,10 +5,11 @@ use Rattle.geometry.specs.declared.Shape.TheVariants.{Fits}
 use Rattle.geometry.specs.Geometry.{geometry_of}
 use Rattle.geometry.specs.Number.{Bytes}
 use Rattle.rules.specs.Result.{Res, ok}
-use Rattle.rules.specs.Tree.{Image}
+use Rattle.rules.specs.Chain.{content}
+use Rattle.rules.specs.Tree.{Label, Image}
+use Rattle.rules.specs.Paths.{Found, nothing, a_file, a_directory}
 use Rattle.rules.specs.Calls.{read_call, put_call, delete_call}
 use Rattle.rules.specs.Candidate.{Accepted, at_path, pages_in_use}
-use Rattle.rules.specs.Demand2.{seen}
 
 -- an edit: a put of bytes at a path, or a delete of a path
 pub data FileEdit : Type 0 where
@@ -38,6 +39,17 @@ BothDelete (a_put p b) e = ⊥
 abbrev pub edit_call : ℕ → ℕ → List ℕ → List ℕ → FileEdit → Res (Unit {0}) × List ℕ × List ℕ
 edit_call P N image table (a_put path bytes) = put_call P N image table path bytes
 edit_call P N image table (a_delete path) = delete_call P N image table path
+
+-- what stands at a path, without pages: a file with its label (name, extension byte, stamps) and its bytes, or a directory with its label
+pub data Seen : Type 0 where
+  no_entry : Seen
+  file_seen : Label → List ℕ → Seen
+  directory_seen : Label → Seen
+
+abbrev pub seen : Found → Seen
+seen nothing = no_entry
+seen (a_file l ls) = file_seen l (content ls)
+seen (a_directory l d) = directory_seen l
 
 -- two edits, one after the other, both answered 0, whatever owner tables are lent; they leave the image `after`
 pub record BothDone (P N : ℕ) (image : List ℕ) (first second : FileEdit) (after : List ℕ) : Type 0 where

@@ -1,2 +1,3 @@
 pub mod EitherOrder
+pub mod ShownSeen
 pub mod PathEdits

@@ -8,10 +8,11 @@ use Rattle.rules.specs.Tree.{Label, width, Image}
 use Rattle.rules.specs.Paths.{Path, Found, nothing, a_file, a_directory, path_of}
 use Rattle.rules.specs.Candidate.{at_path, stamps_of, target_path, file_path}
 use Rattle.rules.specs.Calls.{bytes_of}
-use Rattle.rules.specs.Demand2.{Seen, no_entry, file_seen, directory_seen, seen, Shown, IsFile, Deleted, PutDone}
+use Rattle.rules.specs.Demand2.{IsFile, Deleted, PutDone}
 use Rattle.editing_theorems.specs.PathChanges.{same_path}
 use Rattle.editing_theorems.specs.FullPages.{width_found}
-use Rattle.order_theorems.specs.EitherOrder.{FileEdit, a_put, a_delete}
+use Rattle.order_theorems.specs.EitherOrder.{FileEdit, a_put, a_delete, Seen, no_entry, file_seen, directory_seen, seen}
+use Rattle.order_theorems.specs.ShownSeen.{seen_same}
 
 -- ---- what is seen decides stamps, slots and what a read answers
 abbrev pub stamps_seen : Seen → List Entry
@@ -78,9 +79,9 @@ put_edits g path bytes image now p =
       at = ap seen s.standing ∙ ap₂ file_seen l s.reads;
       others = λ ks n. same_path ks (target_path p.at.to)
           (λ e. rw e (ap seen s.target_after ∙ sym (ap seen s.target_before)))
-          (λ m. ap (λ (x : Shown). x.stands) (s.others ks n m));
+          (λ m. seen_same g image now p.at.before p.tree p.at.accepted p.done.well_formed ks (s.others ks n m));
     }
 
 pub delete_edits : (g : Geometry) (path image now : List ℕ) (p : Deleted g (path_of path) IsFile image now)
     → Edits (file_path p.at.to) (change_by (a_delete path) p.at.to) p.at.before p.tree
-delete_edits g path image now p = record { at = ap seen p.shows.gone; others = λ ks n. ap (λ (x : Shown). x.stands) (p.shows.others ks n) }
+delete_edits g path image now p = record { at = ap seen p.shows.gone; others = λ ks n. seen_same g image now p.at.before p.tree p.at.accepted p.done.well_formed ks (p.shows.others ks n) }

@@ -28,27 +28,15 @@ pub record WellFormedAt (P N : ℕ) (image table : List ℕ) : Type 0 where
   pub reading : Image
   pub formed : WellFormed geometry image reading
 
--- what stands at a path, without pages: a file with its label (name, extension byte, stamps) and its bytes, or a directory with its label
-pub data Seen : Type 0 where
-  no_entry : Seen
-  file_seen : Label → List ℕ → Seen
-  directory_seen : Label → Seen
-
-abbrev pub seen : Found → Seen
-seen nothing = no_entry
-seen (a_file l ls) = file_seen l (content ls)
-seen (a_directory l d) = directory_seen l
-
--- what a path shows: what stands there, the bytes of its entry with its stamps, the pages of its chain, what it reads, and what a read of it answers
+-- what a path shows: the bytes of its entry with its stamps, the pages of its chain, what it reads, and what a read of it answers
 pub record Shown : Type 0 where
-  pub stands : Seen
   pub entry : List ℕ
   pub pages : List ℕ
   pub bytes : List ℕ
   pub answer : Res (List ℕ)
 
 abbrev pub shown : Geometry → Found → Shown
-shown g f = record { stands = seen f; entry = found_entry g f; pages = chain_pages f; bytes = reads f; answer = bytes_of f }
+shown g f = record { entry = found_entry g f; pages = chain_pages f; bytes = reads f; answer = bytes_of f }
 
 -- where the longest packet ends that is written into page p; 0 if none is
 abbrev pub reach : Geometry → ℕ → List Write → ℕ
