@@ -13,7 +13,7 @@ use Rattle.rules.specs.Result.{ok, err}
 use Rattle.rules.specs.PageSets.{bit, mem}
 use Rattle.rules.specs.Chain.{Link, content}
 use Rattle.rules.specs.Bitmap.{bit_at}
-use Rattle.rules.proofs.BitmapLaws.{IsLowest}
+use Rattle.rules.specs.BitmapLaws.{IsLowest}
 use Rattle.owners.specs.Owned.{Represents}
 use Rattle.rules.specs.Check.{judge_bits}
 use Rattle.rules.specs.Owners.{OwnerRecord}

@@ -4,7 +4,7 @@ use Rattle.geometry.specs.declared.Geometry.{Geometry}
 use Rattle.packet.specs.Packet.{View}
 use Rattle.rules.specs.Result.{Res, ok, err}
 use Rattle.rules.specs.Chain.{Link, content}
-use Rattle.rules.proofs.BitmapLaws.{IsLowest}
+use Rattle.rules.specs.BitmapLaws.{IsLowest}
 use Rattle.owners.specs.Owned.{Represents}
 use Rattle.rules.specs.Check.{judge_bits}
 use Rattle.rules.specs.Owners.{OwnerRecord}

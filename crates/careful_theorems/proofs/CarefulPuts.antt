@@ -15,7 +15,8 @@ use Rattle.rules.specs.WellFormed.{IsDirectory}
 use Rattle.rules.specs.Paths.{path_of, Found, a_file}
 use Rattle.rules.specs.Writes.{Edit}
 use Rattle.rules.specs.Put.{insert, new_item, replace, items_after}
-use Rattle.rules.proofs.EditLaws.{new_entry, new_tokens}
+use Rattle.rules.proofs.EditLaws.{new_tokens}
+use Rattle.rules.specs.EditLaws.{new_entry}
 use Rattle.rules.specs.Calls.{Effect}
 use Rattle.rules.specs.Careful.{halted_at, careful_writes, careful_put}
 use Rattle.rules.specs.CarefulPromises.{CarefullyPut}

@@ -20,7 +20,8 @@ use Rattle.rules.proofs.PageSetLaws.{mem_true, mem_false}
 use Rattle.rules.specs.Chain.{views_of}
 use Rattle.rules.specs.Tree.{Items, all_pages, Map, in_root, in_file, map_pages, Image, used}
 use Rattle.rules.specs.Bitmap.{bit_at, lowest_difference, bitmap_from, map_size, bitmap_of, remap}
-use Rattle.rules.proofs.BitmapLaws.{bit_most, length_bitmap, bytes_bitmap, bits_bitmap, IsLowest, lowest, pages_remap}
+use Rattle.rules.proofs.BitmapLaws.{bit_most, length_bitmap, bytes_bitmap, bits_bitmap, lowest, pages_remap}
+use Rattle.rules.specs.BitmapLaws.{IsLowest}
 use Rattle.rules.specs.Check.{judge_bits, scan, check}
 use Rattle.rules.specs.WellFormed.{MapHolds, WellFormedWith, WellFormed}
 use Rattle.rules.specs.Writes.{map_writes}

@@ -14,7 +14,8 @@ use Rattle.packet.specs.Reading.{right_packet}
 use Rattle.rules.specs.PageSets.{count}
 use Rattle.rules.proofs.PageSetLaws.{hit_same, range_of, within_length}
 use Rattle.rules.specs.Chain.{Link, link, pages, first, content, Test}
-use Rattle.rules.proofs.ChainLaws.{rest, IsChain, length_pages, first_nonzero}
+use Rattle.rules.proofs.ChainLaws.{IsChain, length_pages, first_nonzero}
+use Rattle.rules.specs.ChainLaws.{rest}
 use Rattle.chain.specs.declared.Cursor.{Cursor}
 use Rattle.chain.specs.declared.Step.{Step}
 use Rattle.chain.specs.declared.Step.TheVariants as step

@@ -4,7 +4,7 @@ use Rattle.geometry.specs.declared.Geometry.{Geometry}
 use Rattle.packet.specs.Packet.{View}
 use Rattle.rules.specs.PageSets.{count}
 use Rattle.rules.specs.Chain.{Link, pages, first, linked}
-use Rattle.rules.proofs.ChainLaws.{rest}
+use Rattle.rules.specs.ChainLaws.{rest}
 use Rattle.rules.specs.WellFormed.{HasPackets}
 
 -- all its pages are below N and no more than N, and none but the first has the number 0

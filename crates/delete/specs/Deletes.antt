@@ -14,7 +14,7 @@ use Rattle.rules.specs.Check.{check}
 use Rattle.rules.specs.Paths.{file_key, find, root_place, directory_at, Target}
 use Rattle.rules.specs.Writes.{edited, edit_writes}
 use Rattle.rules.specs.Delete.{delete_target, delete_edit}
-use Rattle.rules.proofs.EditLaws.{all_found}
+use Rattle.rules.specs.EditLaws.{all_found}
 use Rattle.rules.specs.Owners.{OwnerRecord}
 use Rattle.chain.specs.KnownChain.{ChainAt}
 use Rattle.entries.specs.declared.Slot.{Slot}

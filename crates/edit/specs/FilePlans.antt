@@ -21,7 +21,8 @@ use Rattle.rules.specs.Put.{kept_pages, put_edit}
 use Rattle.rules.specs.Candidate.{chain_pages}
 use Rattle.owners.specs.Free.{free_from}
 use Rattle.editing_theorems.specs.Capacity.{capacity_least}
-use Rattle.rules.proofs.EditLaws.{find_none, new_entry}
+use Rattle.rules.proofs.EditLaws.{find_none}
+use Rattle.rules.specs.EditLaws.{new_entry}
 use Rattle.rules.proofs.Soundness.{token_pages, own_tokens}
 use Rattle.rules.specs.Owners.{OwnerRecord}
 use Rattle.editing_theorems.specs.PutDirectory.{extra_one, extra_old}

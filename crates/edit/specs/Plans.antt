@@ -15,7 +15,7 @@ use Rattle.rules.specs.Bitmap.{bitmap_of}
 use Rattle.rules.specs.Paths.{Path, file_label, Found, Target}
 use Rattle.rules.specs.Writes.{edited, edit_writes}
 use Rattle.rules.specs.Names.{directory_number}
-use Rattle.rules.proofs.EditLaws.{new_entry}
+use Rattle.rules.specs.EditLaws.{new_entry}
 use Rattle.rules.specs.Put.{kept_pages, extra_pages, items_after, put_edit}
 use Rattle.rules.specs.Owners.{OwnerRecord}
 use Rattle.owners.specs.Owned.{Represents}

@@ -23,7 +23,8 @@ use Rattle.rules.specs.Writes.{edited, edit_writes}
 use Rattle.rules.specs.Put.{plain_edit}
 use Rattle.rules.specs.Delete.{remove, present, delete_target, remove_edit, delete_edit, remove_at}
 use Rattle.rules.specs.Directories.{present_directory, without_entries, removal_target}
-use Rattle.rules.proofs.EditLaws.{all_found, remove_own, remove_inner, remove_fewer, find_removed, find_beside_removed}
+use Rattle.rules.proofs.EditLaws.{remove_own, remove_inner, remove_fewer, find_removed, find_beside_removed}
+use Rattle.rules.specs.EditLaws.{all_found}
 use Rattle.rules.specs.Candidate.{look_up, at_path, chain_pages, EmptyDirectory, directory_keys}
 use Rattle.rules.specs.Demand2.{shown, EditDone, PathIn, IsFile, DeleteShows, Deleted}
 use Rattle.reading_theorems.specs.Directory.{all_split}

@@ -17,7 +17,8 @@ use Rattle.rules.specs.WellFormed.{WellFormed}
 use Rattle.rules.specs.Paths.{Found, nothing, a_file, a_directory, find, Place, root_place}
 use Rattle.rules.specs.Put.{is_full, extra_pages}
 use Rattle.rules.specs.Delete.{remove}
-use Rattle.rules.proofs.EditLaws.{all_found, remove_inner}
+use Rattle.rules.proofs.EditLaws.{remove_inner}
+use Rattle.rules.specs.EditLaws.{all_found}
 use Rattle.rules.specs.Candidate.{look_up, root_label, at_path, chain_pages, found_entry, Exists, directory_keys, PutFile, EmptyDirectory, Candidate}
 use Rattle.reading_theorems.specs.PacketLaws.{ByteView, byte_view}
 use Rattle.reading_theorems.specs.Directory.{all_split}

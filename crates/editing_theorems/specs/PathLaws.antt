@@ -9,7 +9,8 @@ use Rattle.rules.specs.Names.{directory_number}
 use Rattle.rules.specs.Tree.{Label, key_of, Items, end, page, file, dir, inner_pages, all_pages, keys}
 use Rattle.rules.specs.WellFormed.{Entries}
 use Rattle.rules.specs.Paths.{Found, nothing, a_file, a_directory, find}
-use Rattle.rules.proofs.EditLaws.{find_none, all_found, remove_inner}
+use Rattle.rules.proofs.EditLaws.{find_none, remove_inner}
+use Rattle.rules.specs.EditLaws.{all_found}
 use Rattle.rules.specs.Candidate.{look_up, chain_pages}
 use Rattle.reading_theorems.specs.Directory.{all_split}
 use Rattle.editing_theorems.specs.Contexts.{file_no_directory, nothing_no_directory}

@@ -16,7 +16,8 @@ use Rattle.rules.specs.Control.{Parent, sub_control}
 use Rattle.rules.specs.WellFormed.{Named, Entries}
 use Rattle.rules.specs.Paths.{Path, file_key, file_label, Found, nothing, a_file, a_directory, find, Place}
 use Rattle.rules.specs.Put.{insert, is_full, new_item, replace, extra_pages, items_after}
-use Rattle.rules.proofs.EditLaws.{IsEntry, directory_entry_lem, width_is, all_found, find_none, none_found, found_file, file_entry_lem, insert_own, find_inserted, find_beside_inserted}
+use Rattle.rules.proofs.EditLaws.{IsEntry, directory_entry_lem, width_is, find_none, none_found, found_file, file_entry_lem, insert_own, find_inserted, find_beside_inserted}
+use Rattle.rules.specs.EditLaws.{all_found}
 use Rattle.rules.proofs.EditLaws.{replace_own, replace_inner, replace_none, find_replaced, find_beside_replaced}
 use Rattle.rules.specs.Candidate.{look_up, chain_pages, stamps_of}
 use Rattle.rules.specs.Demand2.{empty_directory}

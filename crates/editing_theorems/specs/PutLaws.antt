@@ -20,7 +20,8 @@ use Rattle.rules.specs.WellFormed.{Named, WellFormed}
 use Rattle.rules.specs.Paths.{Path, file_key, file_label, Found, find, Place, root_place, directory_at, change_at}
 use Rattle.rules.specs.Writes.{Edit, edited, edit_writes}
 use Rattle.rules.specs.Put.{replace, kept_pages, put_edit, plain_edit, extra_pages, items_after}
-use Rattle.rules.proofs.EditLaws.{all_found, replace_own}
+use Rattle.rules.proofs.EditLaws.{replace_own}
+use Rattle.rules.specs.EditLaws.{all_found}
 use Rattle.rules.specs.Candidate.{chain_pages}
 use Rattle.rules.specs.Demand2.{EditDone}
 use Rattle.reading_theorems.specs.Directory.{all_split}

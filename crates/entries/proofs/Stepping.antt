@@ -9,7 +9,7 @@ use Rattle.geometry.specs.Geometry.{Fit}
 use Rattle.packet.specs.Packet.{View, view_of}
 use Rattle.rules.specs.declared.Entry.{Entry}
 use Rattle.rules.specs.Tree.{Token, new_page, entry, entry_tokens, link_tokens}
-use Rattle.rules.proofs.TreeLaws.{page_tokens, last_page}
+use Rattle.rules.specs.TreeLaws.{page_tokens, last_page}
 use Rattle.chain.specs.Claims.{IsGood, Counted}
 use Rattle.chain.proofs.Following.{page_known}
 use Rattle.entries.specs.declared.Slot.{Slot}

@@ -13,7 +13,7 @@ use Rattle.rules.specs.declared.Entry.{Entry}
 use Rattle.rules.specs.Chain.{Link, link, first, linked}
 use Rattle.rules.specs.Names.{key, entry_of}
 use Rattle.rules.specs.Tree.{Token, new_page, entry, entry_tokens, entries_in, link_tokens}
-use Rattle.rules.proofs.TreeLaws.{page_tokens}
+use Rattle.rules.specs.TreeLaws.{page_tokens}
 use Rattle.rules.specs.WellFormed.{HasPackets}
 use Rattle.chain.specs.declared.Cursor.{Cursor}
 use Rattle.chain.specs.Steps.{first_step}

@@ -8,7 +8,7 @@ use Rattle.rules.specs.PageSets.{count}
 use Rattle.rules.specs.Chain.{Link, pages, first, linked}
 use Rattle.rules.specs.Names.{extended}
 use Rattle.rules.specs.Tree.{Token, new_page, entry, entry_tokens, entries_in, link_tokens}
-use Rattle.rules.proofs.TreeLaws.{page_tokens, last_page}
+use Rattle.rules.specs.TreeLaws.{page_tokens, last_page}
 use Rattle.rules.specs.WellFormed.{HasPackets}
 use Rattle.directory.specs.declared.entries.Item.{Item}
 use Rattle.directory.specs.declared.entries.Item.TheVariants.{Plain, Extended}

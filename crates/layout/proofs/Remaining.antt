@@ -19,7 +19,8 @@ use Rattle.rules.specs.Chain.{Views, views_of, content}
 use Rattle.rules.specs.Names.{extended, entry_of, entry_bytes}
 use Rattle.rules.specs.Tree.{label_of, Items, end, Token, entry, entry_tokens, tokens, token_bytes}
 use Rattle.rules.proofs.StampLaws.{stamp_all, with_stamps, all_file, all_dir}
-use Rattle.rules.proofs.TreeLaws.{page_tokens, page_first, EntryFirst, stamped, plain, entry_first, on_pages, pages_first, only_pages}
+use Rattle.rules.proofs.TreeLaws.{page_first, EntryFirst, stamped, plain, entry_first, on_pages, pages_first, only_pages}
+use Rattle.rules.specs.TreeLaws.{page_tokens}
 use Rattle.rules.specs.Check.{Part, chain, directory, add, stamp, followed}
 use Rattle.entries.specs.declared.Slot.{Slot}
 use Rattle.entries.specs.EntrySlots.{advanced}

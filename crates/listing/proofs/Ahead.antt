@@ -12,7 +12,8 @@ use Rattle.rules.specs.Chain.{Views}
 use Rattle.rules.specs.Names.{extended}
 use Rattle.rules.specs.Tree.{label_of, Items, end, page, file, dir, start_of, Token, entry, tokens}
 use Rattle.rules.proofs.StampLaws.{stamp_lines}
-use Rattle.rules.proofs.TreeLaws.{page_tokens, page_first, part_entry, EntryFirst, stamped, plain, entry_first, on_pages, PagesFirst, pages_first, only_pages, lines_pages}
+use Rattle.rules.proofs.TreeLaws.{page_first, part_entry, EntryFirst, stamped, plain, entry_first, on_pages, PagesFirst, pages_first, only_pages, lines_pages}
+use Rattle.rules.specs.TreeLaws.{page_tokens}
 use Rattle.rules.specs.WellFormed.{Under}
 use Rattle.rules.specs.Listing.{lines_of}
 use Rattle.rules.specs.Check.{Part, chain, directory, add, stamp, followed}

@@ -17,7 +17,8 @@ use Rattle.rules.specs.declared.Entry.{Entry}
 use Rattle.rules.specs.Names.{key, extended}
 use Rattle.rules.specs.Chain.{Views, Link}
 use Rattle.rules.specs.Tree.{Label, label_of, Items, end, page, file, dir, file_entry, Token, new_page, entry, entry_tokens, tokens}
-use Rattle.rules.proofs.TreeLaws.{page_tokens, entries_join, page_first, part_entry, EntryFirst, stamped, plain, entry_first, part_found, last_page, on_pages, pages_first, only_pages, tokens_pages, find_pages}
+use Rattle.rules.proofs.TreeLaws.{entries_join, page_first, part_entry, EntryFirst, stamped, plain, entry_first, part_found, on_pages, pages_first, only_pages, tokens_pages, find_pages}
+use Rattle.rules.specs.TreeLaws.{page_tokens, last_page}
 use Rattle.rules.proofs.StampLaws.{stamp_all, with_stamps, all_file, all_dir}
 use Rattle.rules.specs.Check.{Part, chain, directory, add, stamp, followed}
 use Rattle.rules.specs.Paths.{nothing, a_file, find}

@@ -9,7 +9,8 @@ use Rattle.geometry.specs.Geometry.{control_size}
 use Rattle.packet.specs.Packet.{View}
 use Rattle.rules.specs.declared.Entry.{Entry}
 use Rattle.rules.specs.Tree.{Token, new_page, entry, entry_tokens}
-use Rattle.rules.proofs.TreeLaws.{page_tokens, last_page, entries_append}
+use Rattle.rules.proofs.TreeLaws.{entries_append}
+use Rattle.rules.specs.TreeLaws.{page_tokens, last_page}
 use Rattle.editing_theorems.specs.PageChange.{control_on}
 use Rattle.entries.specs.declared.Slot.{Slot}
 use Rattle.entries.specs.EntrySlots.{at_entry}

@@ -165,7 +165,7 @@ impl Budget {
     pub fn write(self, image: &mut [u8], g: Geometry, p: usize, bytes: &[u8], next: usize) -> Budget
         requires fit { Fit g image.old }
         requires p_lt_pages { (p < g.pages) × (length bytes.now + g.width + 3 ≤ g.size) }
-        ensures { ◌≡◌ {A = Progress} (record { image = image.exit.now; budget = result }) (write_one g (write p bytes.now next) (record { image = image.entry.now; budget = self })) }
+        ensures { ◌≡◌ {A = Progress} (record { image = image.new; budget = result }) (write_one g (write p bytes.now next) (record { image = image.old; budget = self })) }
     {
         if self.limited {
             if holds(geometry::page_of(image, g, p), p, g.width, bytes, next) {

@@ -19,7 +19,8 @@ use Rattle.rules.specs.Check.{check}
 use Rattle.rules.specs.Paths.{Path, path_of, file_key, file_label, Found, nothing, find, target_of}
 use Rattle.rules.specs.Put.{new_item, writable, put_target}
 use Rattle.rules.specs.Candidate.{chain_pages}
-use Rattle.rules.proofs.EditLaws.{none_found, found_file, new_entry, new_tokens}
+use Rattle.rules.proofs.EditLaws.{none_found, found_file, new_tokens}
+use Rattle.rules.specs.EditLaws.{new_entry}
 use Rattle.rules.proofs.TargetLaws.{reached, put_target_none, put_target_hidden, put_target_is, put_target_kept}
 use Rattle.reading_theorems.specs.LabelLaws.{file_no_directory}
 use Rattle.editing_theorems.specs.FormedPaths.{formed}

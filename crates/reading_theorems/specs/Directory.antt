@@ -9,7 +9,7 @@ use Rattle.rules.specs.Result.{ok}
 use Rattle.rules.specs.PageSets.{count, range, Once}
 use Rattle.rules.proofs.PageSetLaws.{hit_same, Hit, same, other, hits, count_append}
 use Rattle.rules.specs.Chain.{Views, Link, link, pages, first, linked, Test}
-use Rattle.rules.proofs.ChainLaws.{rest}
+use Rattle.rules.specs.ChainLaws.{rest}
 use Rattle.rules.specs.Tree.{Items, end, page, file, dir, start_of, file_entry, directory_entry, entry, tokens, token_bytes, directory_links, own_pages, inner_pages, all_pages, keys, Map, map_pages}
 use Rattle.rules.specs.Names.{entry_bytes}
 use Rattle.rules.proofs.StampLaws.{stamps_links}

@@ -22,7 +22,7 @@ use Rattle.rules.proofs.Soundness.{token_pages, own_tokens, pages_tokens}
 use Rattle.rules.specs.Paths.{directory_path_of, file_key, Found, nothing, a_directory, find}
 use Rattle.rules.proofs.TargetLaws.{reached, removal_target_none, removal_target_absent, removal_target_below, removal_target_hidden, removal_target_kept, removal_target_is}
 use Rattle.rules.specs.Directories.{present_directory, shown_directory, without_entries, removal_target}
-use Rattle.rules.proofs.EditLaws.{all_found}
+use Rattle.rules.specs.EditLaws.{all_found}
 use Rattle.editing_theorems.specs.DeleteLaws.{a_removal, no_keys}
 use Rattle.chain.specs.KnownChain.{KnownChain}
 use Rattle.entries.specs.declared.Slot.{Slot}

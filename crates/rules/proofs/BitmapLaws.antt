@@ -17,6 +17,7 @@ use Rattle.rules.specs.Tree.{Map, in_root, in_file, map_pages, Image, used}
 use Rattle.rules.specs.Bitmap.{bit_at, lowest_difference, byte_for, bitmap_from, map_size, bitmap_of, refill, remap}
 use Rattle.rules.specs.Check.{judge_bits}
 use Rattle.rules.specs.WellFormed.{MapHolds, WellFormed}
+use Rattle.rules.specs.BitmapLaws.{IsLowest}
 
 bit_le : (b : Bool) → bit b ≤ 1
 bit_le true = omega arith
@@ -77,13 +78,6 @@ page_has_bit g bits (in_file ls) h = omega arith
 
 pub page_bits : (g : Geometry) (image : List ℕ) (i : Image) → WellFormed g image i → (k : ℕ) → k < g.pages → bit_at (bitmap_of g (used i) i.map) k ≡ bit (mem k (used i))
 page_bits g image i w k h = bits_bitmap (used i) (map_size g i.map) k (omega (arith, h, page_has_bit g _ i.map w.holds.map))
-
--- ---- the lowest bit that differs
-pub record IsLowest (bits used : List ℕ) (k n d : ℕ) : Type 0 where
-  pub low : k ≤ d
-  pub high : d ≤ k + n
-  pub agree : (j : ℕ) → k ≤ j → j < d → bit_at bits j ≡ bit (mem j used)
-  pub differs : d < k + n → bit_at bits d ≡ bit (mem d used) → ⊥
 
 lowest_here : (bits used : List ℕ) (k n : ℕ) → (bit_at bits k ≡ bit (mem k used) → ⊥) → IsLowest bits used k (suc n) k
 lowest_here bits used k n e = record { low = omega arith; high = omega arith; agree = λ j p q. absurd (omega arith); differs = λ h q. e q }

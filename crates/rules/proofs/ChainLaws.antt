@@ -13,6 +13,7 @@ use Rattle.rules.specs.PageSets.{count, range, Within}
 use Rattle.rules.proofs.PageSetLaws.{hit_same, same, other, hits, range_le, range_of, within_length, within_cons, free_test, free_true}
 use Rattle.rules.specs.Chain.{Link, link, pages, first, content, linked, Body, packet_at, Test, any_page, walk, chain_of, pages_for}
 use Rattle.rules.specs.WellFormed.{HasPackets}
+use Rattle.rules.specs.ChainLaws.{rest}
 
 -- ---- a page's packet
 pub packet_good : (v : View) (p : ℕ) (b : List ℕ) (n : ℕ) → v p ≡ good b n → packet_at v p ≡ ok (record { bytes = b; next = n })
@@ -26,11 +27,6 @@ packet_case v p x (good b n) q e = let h : record { bytes = b; next = n } ≡ x 
 
 pub packet_inv : (v : View) (p : ℕ) (x : Body) → packet_at v p ≡ ok x → v p ≡ good x.bytes x.next
 packet_inv v p x e = packet_case v p x (v p) refl e
-
--- ---- what a chain is
-abbrev pub rest : List Link → List Link
-rest [] = []
-rest (l ∷ ls) = ls
 
 -- every page passes the test, the first of them as the i-th of its chain
 abbrev pub Passes : Test → ℕ → List Link → Type 0

@@ -12,6 +12,7 @@ use Rattle.rules.specs.Paths.{Found, nothing, a_file, a_directory, find}
 use Rattle.rules.specs.Names.{directory_number}
 use Rattle.rules.specs.Put.{insert, is_full, new_item, replace}
 use Rattle.rules.specs.Delete.{remove}
+use Rattle.rules.specs.EditLaws.{all_found, new_entry}
 
 -- ---- an entry's slots
 pub width_is : (l : Label) → width l ≡ suc (length l.stamps)
@@ -53,12 +54,6 @@ none_found k (dir l d t) e = elim (hits k (key_of l)) [
   | same q i ↦ absurd (let r : a_directory l d ≡ nothing = simp (eq-eqb k (key_of l) q, choose_true) at e in let z : ◌≡◌ {A = ℕ} 0 1 = cc in omega arith)
   | other q i ↦ omega (arith, none_found k t (simp (ne_eqb k (key_of l) q, choose_false) at e))
 ]
-
--- the pages of what is found, with all below it
-abbrev pub all_found : Found → List ℕ
-all_found nothing = []
-all_found (a_file l ls) = pages ls
-all_found (a_directory l d) = all_pages d
 
 -- a file that is found is an entry of the directory, with its pages
 pub record FoundFile (k : ℕ) (l : Label) (ls : List Link) (t : Items) : Type 0 where
@@ -270,10 +265,6 @@ find_beside_removed j k n (dir l d t) = elim (hits k (key_of l)) [
   | same e i ↦ simp (eq-eqb k (key_of l) e, choose_true, ne_eqb j (key_of l) (λ f. n (f ∙ sym e)), choose_false)
   | other e i ↦ simp (ne_eqb k (key_of l) e, choose_false) (ap (choose (eqb j (key_of l)) (a_directory l d)) (find_beside_removed j k n t))
 ]
-
--- ---- a new entry as it is written: a directory's page count is 0
-abbrev pub new_entry : Label → List Link → Entry
-new_entry l ls = record { name = l.name; extension = l.extension; start = first ls; pages = choose (directory_number l.extension) 0 (length ls) }
 
 pub new_tokens : (l : Label) (ls : List Link) (t : Items) → tokens (new_item l ls t) ≡ stamp_tokens l.stamps (entry (new_entry l ls) ∷ tokens t)
 new_tokens l ls t = go (directory_number l.extension)

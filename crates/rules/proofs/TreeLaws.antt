@@ -9,11 +9,7 @@ use Rattle.rules.proofs.StampLaws.{stamps_followed, with_stamps}
 use Rattle.rules.specs.Check.{Part, chain, directory, add, stamp, followed}
 use Rattle.rules.specs.Listing.{lines_of}
 use Rattle.rules.specs.Paths.{Found, a_file, a_directory, find}
-
--- ---- tokens of one kind
-abbrev pub page_tokens : List ℕ → List Token
-page_tokens [] = []
-page_tokens (p ∷ ps) = new_page p ∷ page_tokens ps
+use Rattle.rules.specs.TreeLaws.{page_tokens, last_page}
 
 -- entries of one page in a row
 pub entries_join : (xs ys : List Entry) (ts : List Token) → entry_tokens xs ++ (entry_tokens ys ++ ts) ≡ entry_tokens (xs ++ ys) ++ ts
@@ -22,11 +18,6 @@ entries_join (x ∷ xs) ys ts = ap (λ (us : List Token). entry x ∷ us) (entri
 
 pub entries_append : (xs ys : List Entry) → entry_tokens xs ++ entry_tokens ys ≡ entry_tokens (xs ++ ys)
 entries_append xs ys = ap (λ (ts : List Token). entry_tokens xs ++ ts) (sym (append-nil (entry_tokens ys))) ∙ entries_join xs ys [] ∙ append-nil (entry_tokens (xs ++ ys))
-
--- the page that stands after pages have begun, p the one before
-abbrev pub last_page : ℕ → List ℕ → ℕ
-last_page p [] = p
-last_page p (q ∷ ps) = last_page q ps
 
 -- ---- its end, a page that begins, an entry
 -- stamps and an entry are no end and begin no page

@@ -132,7 +132,7 @@ module _ (g : Geometry) (vs : Views) (fuel : ℕ) where
     t ← judge_directory (judge_sub 8) (root_page g) the_root (map_pages m) 0
     ok (record { image = record { tree = t; map = m }; raw = raw_bits h m })
 
--- fuel of N + 1 is enough: any more gives the same answer (`scan-fuel`)
+-- fuel of N + 1 is enough: any more gives the same answer (`scan_fuel`)
 unfoldable pub scan : Geometry → Views → Res Scan
 scan g vs = scan_with g vs (suc g.pages)
 

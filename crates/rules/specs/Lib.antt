@@ -23,3 +23,7 @@ pub mod Demand2
 pub mod Promises
 pub mod Careful
 pub mod CarefulPromises
+pub mod BitmapLaws
+pub mod ChainLaws
+pub mod EditLaws
+pub mod TreeLaws

@@ -18,7 +18,7 @@ use Rattle.rules.proofs.PageSetLaws.{same, other, hits, count_append}
 use Rattle.rules.specs.Chain.{Views, Link}
 use Rattle.rules.specs.Names.{key, extended}
 use Rattle.rules.specs.Tree.{Token, entry, link_tokens}
-use Rattle.rules.proofs.TreeLaws.{page_tokens}
+use Rattle.rules.specs.TreeLaws.{page_tokens}
 use Rattle.rules.specs.Control.{Parent}
 use Rattle.owners.specs.Owned.{Represents}
 use Rattle.owners.specs.OwnerLaws.{represents_within, taken, represents_taken}

@@ -18,7 +18,7 @@ use Rattle.rules.specs.Chain.{Views, Link, pages, Test, walk}
 use Rattle.rules.proofs.ChainLaws.{length_pages}
 use Rattle.rules.specs.Names.{key, extended}
 use Rattle.rules.specs.Tree.{Items, end, page, Token, new_page, entry, link_tokens, own_pages, inner_pages, all_pages}
-use Rattle.rules.proofs.TreeLaws.{page_tokens, last_page}
+use Rattle.rules.specs.TreeLaws.{page_tokens, last_page}
 use Rattle.rules.specs.Control.{Parent}
 use Rattle.rules.specs.Owners.{OwnerRecord, file_count, directory_count, own, own_entries}
 use Rattle.owners.specs.Owned.{Represents}
