@@ -1,2 +1,2 @@
-// The careful edits and the mend: the theorems are in specs/.
+// The careful edits and the mend: the theorems are in proofs/.
 #![tactic(auto)]

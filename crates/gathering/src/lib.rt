@@ -1,2 +1,2 @@
-// The gathered copy of an image: its rule, what is stated of it and the theorems are in specs/.
+// The gathered copy of an image: its rule and what is stated of it are in specs/, the theorems in proofs/.
 #![tactic(auto)]

@@ -1,2 +1,2 @@
-// That two edits of different files which are done in both orders leave the same files, attributes and bytes is proved in specs/.
+// That two edits of different files which are done in both orders leave the same files, attributes and bytes is stated in specs/ and proved in proofs/.
 #![tactic(auto)]

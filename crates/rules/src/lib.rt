@@ -1,4 +1,4 @@
-// The types that the rules speak of; the rules are in specs/.
+// The types that the rules speak of; the rules are in specs/, many of their theorems in proofs/.
 #![tactic(auto)]
 
 // A directory entry as it stands in its page.
