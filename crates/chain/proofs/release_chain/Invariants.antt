@@ -12,7 +12,9 @@ use Rattle.chain.proofs.Releasing.{Releasing}
 use Rattle.chain.proofs.release_chain.Given as goal
 
 abbrev pub invariant-loop-next : goal.invariant-loop-next
-invariant-loop-next l = (length l.table ≡ length l.initial.table) × ((ls : List Link) → ChainAt l.g (view_of l.g l.image) l.start ls → Releasing l.g (view_of l.g l.image) (length ls) (freed (pages ls) (records_of l.initial.table)) (records_of l.table) l.c)
+invariant-loop-next l =
+    (length l.table ≡ length l.initial.table)
+    × ((ls : List Link) → ChainAt l.g (view_of l.g l.image) l.start ls → Releasing l.g (view_of l.g l.image) (length ls) (freed (pages ls) (records_of l.initial.table)) (records_of l.table) l.c)
 
 abbrev pub decreases-loop-next : goal.decreases-loop-next
 decreases-loop-next l = l.g.pages - l.c.count

@@ -41,7 +41,10 @@ pub take_in-f-requires : goal.take_in-f-requires
 take_in-f-requires c =
     let s = c.requires in
     let i = c.loop-size.invariant in
-    let l = i.3 s.known_run.links s.known_run.chain in record { fit = record { valid = s.fit_2.valid; whole = i.0 ∙ s.fit_2.whole }; ready = ready _ _ s.fit _ _ _ _ _ _ _ l _ _ _ c.in-Page.is c.step.ensures _ c.page_of.ensures _ c.data_of-bytes.ensures _ c.data_capacity-capacity.ensures i.1 i.2 s.known_run.room }
+    let l = i.3 s.known_run.links s.known_run.chain in record {
+      fit = record { valid = s.fit_2.valid; whole = i.0 ∙ s.fit_2.whole };
+      ready = ready _ _ s.fit _ _ _ _ _ _ _ l _ _ _ c.in-Page.is c.step.ensures _ c.page_of.ensures _ c.data_of-bytes.ensures _ c.data_capacity-capacity.ensures i.1 i.2 s.known_run.room;
+    }
 
 pub slice_bounds-buffer-end : goal.slice_bounds-buffer-end
 slice_bounds-buffer-end c =

@@ -11,7 +11,8 @@ use Rattle.runs.proofs.copy_run.Given as goal
 
 abbrev pub invariant-loop-size : goal.invariant-loop-size
 invariant-loop-size l =
-    (length l.second ≡ length l.initial.second) × (length l.buffer ≡ 256) × (l.f.held ≤ l.capacity) × ((ls : List Link) → ChainAt l.g (view_of l.g l.image) l.start ls → Running l.g (view_of l.g l.image) l.to l.initial.second ls l.second l.buffer l.f l.c)
+    (length l.second ≡ length l.initial.second) × (length l.buffer ≡ 256) × (l.f.held ≤ l.capacity)
+    × ((ls : List Link) → ChainAt l.g (view_of l.g l.image) l.start ls → Running l.g (view_of l.g l.image) l.to l.initial.second ls l.second l.buffer l.f l.c)
 
 abbrev pub decreases-loop-size : goal.decreases-loop-size
 decreases-loop-size l = l.g.pages - l.c.count
