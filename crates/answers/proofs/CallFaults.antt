@@ -1,5 +1,4 @@
 -- What the refusals tell of a call that may change the image: a number from 1 to 22, and a page of the image, a bit of its bitmap or 0.
-use mathlib.Core.Path.{◌≡◌, sym}
 use mathlib.Core.Bool.{Bool}
 use mathlib.Core.List.{List}
 use Prim.Native.Nat.{ℕ, ◌+◌, ◌<◌}
@@ -7,7 +6,7 @@ use native.Mathlib.Omega.{arith}
 use Rattle.geometry.specs.declared.Geometry.{Geometry}
 use Rattle.geometry.specs.Geometry.{Fit}
 use Rattle.rules.specs.Result.{Res, ok, err}
-use Rattle.rules.proofs.ResultLaws.{clash, err_same}
+use Rattle.rules.proofs.ResultLaws.{err_same}
 use Rattle.rules.proofs.RefusalLaws.{Refuses, refuses_within, refuses_ok, format_faults}
 use Rattle.rules.proofs.CallLaws.{put_faults, delete_faults, make_faults, remove_faults}
 use Rattle.rules.proofs.CarefulLaws.{careful_put_faults, careful_delete_faults, mend_faults}

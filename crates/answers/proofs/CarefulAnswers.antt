@@ -1,5 +1,5 @@
 -- The careful calls and the mend as the caller sees them.
-use mathlib.Core.Path.{◌≡◌, refl, ap, sym, ◌∙◌, subst}
+use mathlib.Core.Path.{◌≡◌, refl, ap, sym, subst}
 use mathlib.Core.Logic.{◌↔◌}
 use mathlib.Core.Bool.{Bool, true, false}
 use mathlib.Core.List.{List}
@@ -11,7 +11,6 @@ use Rattle.geometry.specs.Number.{Bytes}
 use Rattle.rules.specs.declared.WriteCount.{WriteCount}
 use Rattle.rules.specs.Result.{Res, ok, err}
 use Rattle.rules.specs.PageSets.{bit}
-use Rattle.rules.specs.Calls.{Effect}
 use Rattle.rules.specs.Careful.{careful_put, careful_delete, mend, careful_put_call, careful_delete_call, mend_call, count_of, cleared_of}
 use Rattle.rules.specs.CarefulPromises.{Carefully, CarefullyPuts, CarefullyDeletes, Mends}
 use Rattle.rules.proofs.CarefulLaws.{careful_put_most, careful_delete_most, mend_most}

@@ -1,25 +1,17 @@
 -- A call that may change the image: its numbers are small, and the number told is 0 exactly when it is done.
-use mathlib.Core.Path.{◌≡◌, refl, ap, sym, ◌∙◌, subst}
+use Rattle.std.specs.Prelude.{Option, Some, None}
+use mathlib.Core.Path.{◌≡◌, refl, ap, sym, ◌∙◌}
 use mathlib.Core.Logic.{◌↔◌}
-use mathlib.Core.Bool.{Bool, true, false}
-use mathlib.Core.List.{List, ◌++◌}
-use Prim.Native.Nat.{ℕ, ◌+◌, ◌*◌, ◌/◌, ◌≤◌, ◌<◌, min}
+use mathlib.Core.List.{List}
+use Prim.Native.Nat.{ℕ, ◌≤◌}
 use native.Mathlib.Omega.{arith}
-use lib.Dec.{eqb}
-use lib.ListN.{length, take, drop, take-append-drop}
+use lib.ListN.{length}
 use Rattle.geometry.specs.declared.Geometry.{Geometry}
-use Rattle.geometry.specs.declared.Shape.{Shape}
-use Rattle.geometry.specs.declared.Shape.TheVariants.{Fits, Invalid}
 use Rattle.geometry.specs.Geometry.{geometry_of, Fit}
-use Rattle.geometry.specs.ShapeLaws.{sized_of, fit_of}
-use Rattle.rules.specs.declared.WriteCount.{WriteCount}
+use Rattle.geometry.specs.ShapeLaws.{fit_of}
 use Rattle.rules.specs.Result.{Res, ok, err}
 use Rattle.rules.proofs.ResultLaws.{clash}
-use Rattle.rules.specs.Chain.{views_of}
-use Rattle.rules.specs.PageSets.{bit}
-use Rattle.rules.specs.Check.{check}
 use Rattle.rules.specs.Calls.{in_geometry, Effect, effect, effective}
-use Rattle.rules.proofs.RefusalLaws.{Refuses}
 use Rattle.rules.specs.CarefulPromises.{IsDone}
 use Rattle.answers.specs.Small.{Small}
 use Rattle.answers.proofs.CallFaults.{CallFaults}
@@ -34,9 +26,9 @@ module _ {A : Type 0} (P N : ℕ) (image t : List ℕ) (few : A → Type 0) (cal
       one g f (ok x) q = small g f x q
       one g f (err n p) q = omega (arith, (faults g f).page n p q, f.valid.few)
 
-      go : (s : Shape) → geometry_of P N (length image) (length t) ≡ s → Small few (in_geometry s (err 1 0, image, t) (λ g. effect P N image t g (call g))).0
-      go Invalid e = omega arith
-      go (Fits g) e = let f = fit_of P N image t g e in one g f (call g) refl
+      go : (s : Option Geometry) → geometry_of P N (length image) (length t) ≡ s → Small few (in_geometry s (err 1 0, image, t) (λ g. effect P N image t g (call g))).0
+      go None e = omega arith
+      go (Some g) e = let f = fit_of P N image t g e in one g f (call g) refl
 
 -- ---- a refusal has a number above 0, so the number told is 0 exactly when a call is done
 module _ {A : Type 0} (P N : ℕ) (image t : List ℕ) (call : Geometry → Res (Effect A)) (faults : CallFaults image call) where
@@ -47,9 +39,9 @@ module _ {A : Type 0} (P N : ℕ) (image t : List ℕ) (call : Geometry → Res 
       one g f (ok x) q h = clash (sym h)
       one g f (err m o) q h = let i : m ≡ n = cc in omega (arith, ((faults g f).number m o q).0)
 
-      go : (s : Shape) → geometry_of P N (length image) (length t) ≡ s → (in_geometry s (err 1 0, image, t) (λ g. effect P N image t g (call g))).0 ≡ err n p → 1 ≤ n
-      go Invalid q h = let i : 1 ≡ n = cc in omega arith
-      go (Fits g) q h = one g (fit_of P N image t g q) (call g) refl h
+      go : (s : Option Geometry) → geometry_of P N (length image) (length t) ≡ s → (in_geometry s (err 1 0, image, t) (λ g. effect P N image t g (call g))).0 ≡ err n p → 1 ≤ n
+      go None q h = let i : 1 ≡ n = cc in omega arith
+      go (Some g) q h = one g (fit_of P N image t g q) (call g) refl h
 
   pub number_done : (number : Res A → ℕ) → ((x : A) → number (ok x) ≡ 0) → ((n p : ℕ) → number (err n p) ≡ n)
       → (number (effective P N image t call).0 ≡ 0) ↔ IsDone (effective P N image t call).0

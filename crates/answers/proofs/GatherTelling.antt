@@ -1,15 +1,14 @@
 -- The gathering as the caller sees it: its numbers are small, and the number told is 0 exactly when it is done.
-use mathlib.Core.Path.{◌≡◌, refl, ap, sym, ◌∙◌, subst}
+use Rattle.std.specs.Prelude.{Option, Some, None}
+use mathlib.Core.Path.{◌≡◌, refl, ap, sym, subst}
 use mathlib.Core.Logic.{◌↔◌}
 use mathlib.Core.Bool.{Bool, true, false}
 use mathlib.Core.List.{List}
-use Prim.Native.Nat.{ℕ, ◌+◌, ◌≤◌, ◌<◌}
+use Prim.Native.Nat.{ℕ}
 use native.Mathlib.Omega.{arith}
 use lib.Dec.{eqb}
 use lib.ListN.{length}
 use Rattle.geometry.specs.declared.Geometry.{Geometry}
-use Rattle.geometry.specs.declared.Shape.{Shape}
-use Rattle.geometry.specs.declared.Shape.TheVariants.{Fits, Invalid}
 use Rattle.geometry.specs.Geometry.{geometry_of}
 use Rattle.geometry.specs.Choose.{choose}
 use Rattle.geometry.specs.ChooseLaws.{choose_true, choose_false}
@@ -34,7 +33,7 @@ module _ (P N : ℕ) (image second t : List ℕ) where
   abbrev Told : Res (Unit {0}) → Type 0
   Told r = Refuses 1 13 131072 r
 
-  gather_faults : (g : Geometry) → geometry_of P N (length image) (length t) ≡ Fits g → Refuses 1 13 131072 (gather g image)
+  gather_faults : (g : Geometry) → geometry_of P N (length image) (length t) ≡ Some g → Refuses 1 13 131072 (gather g image)
   unfolding gather
   gather_faults g e =
       let f = fit_of P N image t g e in
@@ -44,9 +43,9 @@ module _ (P N : ℕ) (image second t : List ℕ) where
   gathered_told g (ok copy) h = refuses_ok
   gathered_told g (err n p) h = refuses_with (h.number n p refl) (h.page n p refl)
 
-  shape_told : (s : Shape) → geometry_of P N (length image) (length t) ≡ s → Told (in_geometry s (err 1 0, second, t) (λ g. gathered P N image second t g (gather g image))).0
-  shape_told Invalid e = refuses_with (omega arith, omega arith) (omega arith)
-  shape_told (Fits g) e = gathered_told g (gather g image) (gather_faults g e)
+  shape_told : (s : Option Geometry) → geometry_of P N (length image) (length t) ≡ s → Told (in_geometry s (err 1 0, second, t) (λ g. gathered P N image second t g (gather g image))).0
+  shape_told None e = refuses_with (omega arith, omega arith) (omega arith)
+  shape_told (Some g) e = gathered_told g (gather g image) (gather_faults g e)
 
   call_told : Told (gather_call P N image second t).0
   unfolding gather_call

@@ -3,6 +3,7 @@ use mathlib.Core.Path.{◌≡◌, refl, sym, ap, subst, ◌∙◌}
 use mathlib.Core.Bool.{Bool, true, false, not}
 use mathlib.Core.List.{List, []}
 use Prim.Native.Nat.{ℕ}
+use native.Mathlib.Omega.{arith}
 use borrow.Author.Tests.{eq-eqb, ne_eqb}
 use lib.Dec.{eqb}
 use lib.IntN.{ℤ}
@@ -13,9 +14,7 @@ use Rattle.rules.specs.PageSets.{bit}
 use Rattle.reports.specs.declared.Version.{Version}
 use Rattle.reports.specs.declared.Version.TheVariants.{None, One, Two, Unknown}
 use Rattle.reports.specs.declared.Report.{Report}
-use Rattle.reports.specs.declared.Added.{Added}
-use Rattle.reports.specs.declared.Added.TheVariants.{Done, Refused}
-use Rattle.reports.specs.Reports.{started_with, started, included, added, report_after}
+use Rattle.reports.specs.Reports.{Added, Done, Refused, started_with, started, included, added, report_after}
 use Rattle.reports.specs.ReportPromises.{TellsWith, Tells, Adds, AddsWeighted}
 use Rattle.reports.specs.ReportLaws.{start_tells, start_tells_weighted, adds, adds_weighted}
 use Rattle.answers.specs.declared.OwfsReport.{OwfsReport}
@@ -103,9 +102,9 @@ module _ (n k : ℕ) where
   unfolding asked_version
   asked_one e = simp (eq-eqb n 1 e, choose_true)
 
-  pub asked_two : (n ≡ 1 → ⊥) → n ≡ 2 → Two k ≡ asked_version n k
+  pub asked_two : n ≡ 2 → Two k ≡ asked_version n k
   unfolding asked_version
-  asked_two f e = simp (ne_eqb n 1 f, eq-eqb n 2 e, choose_true, choose_false)
+  asked_two e = simp (ne_eqb n 1 (λ f. let z : ◌≡◌ {A = ℕ} 2 1 = sym e ∙ f in omega arith), eq-eqb n 2 e, choose_true, choose_false)
 
   pub asked_none : (n ≡ 1 → ⊥) → (n ≡ 2 → ⊥) → Unknown ≡ asked_version n k
   unfolding asked_version

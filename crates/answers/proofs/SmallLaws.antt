@@ -1,4 +1,5 @@
 -- The numbers of the answers are small: totals and lines of an accepted image, the bytes of a file, the page of a refusal.
+use Rattle.std.specs.Prelude.{Option, Some, None}
 use mathlib.Core.Path.{◌≡◌, refl, ap, sym, subst}
 use mathlib.Core.Bool.{Bool}
 use mathlib.Core.List.{List, [], ◌∷◌, ◌++◌}
@@ -6,8 +7,6 @@ use Prim.Native.Nat.{ℕ, zero, suc, ◌+◌, ◌*◌, ◌≤◌, ◌<◌}
 use native.Mathlib.Omega.{arith}
 use lib.ListN.{length, length-append}
 use Rattle.geometry.specs.declared.Geometry.{Geometry}
-use Rattle.geometry.specs.declared.Shape.{Shape}
-use Rattle.geometry.specs.declared.Shape.TheVariants.{Fits, Invalid}
 use Rattle.geometry.specs.Geometry.{geometry_of, Fit}
 use Rattle.geometry.specs.ShapeLaws.{fit_of}
 use Rattle.packet.specs.Packet.{View, view_of}
@@ -25,7 +24,7 @@ use Rattle.rules.specs.Owners.{totals}
 use Rattle.rules.specs.Listing.{lines_of, line_at}
 use Rattle.rules.specs.Paths.{path_of, file_key, Found, nothing, a_file, a_directory, find, root_place}
 use Rattle.rules.proofs.TargetLaws.{reached}
-use Rattle.rules.specs.Calls.{bytes_of, file_at, read_bytes, length_of, asked, in_geometry, Effect, plainly, effective, check_call, list_call, read_call, format_call, put_call, delete_call}
+use Rattle.rules.specs.Calls.{bytes_of, file_at, read_bytes, length_of, asked, Effect, plainly, effective, check_call, list_call, read_call, format_call, put_call, delete_call}
 use Rattle.rules.proofs.RefusalLaws.{Refuses}
 use Rattle.rules.proofs.FuelLaws.{check_faults}
 use Rattle.rules.proofs.CallLaws.{asked_fits, asked_invalid, read_faults}
@@ -52,9 +51,9 @@ module _ {A : Type 0} (P N : ℕ) (image t : List ℕ) (few : A → Type 0) (que
       one g f (ok i) e = unfold and_then in h g f i e
       one g f (err n p) e = unfold and_then in omega (arith, (check_faults g (views_of g image) (some_pages f)).page n p e, f.valid.few)
 
-      go : (s : Shape) → geometry_of P N (length image) (length t) ≡ s → Small few (asked P N image t question).0
-      go Invalid e = subst (λ (x : Res A × List ℕ). Small few x.0) (sym (asked_invalid P N image t e question)) (omega arith)
-      go (Fits g) e = subst (λ (x : Res A × List ℕ). Small few x.0) (sym (asked_fits P N image t g e question)) (one g (fit_of P N image t g e) (check g (views_of g image)) refl)
+      go : (s : Option Geometry) → geometry_of P N (length image) (length t) ≡ s → Small few (asked P N image t question).0
+      go None e = subst (λ (x : Res A × List ℕ). Small few x.0) (sym (asked_invalid P N image t e question)) (omega arith)
+      go (Some g) e = subst (λ (x : Res A × List ℕ). Small few x.0) (sym (asked_fits P N image t g e question)) (one g (fit_of P N image t g e) (check g (views_of g image)) refl)
 
 -- ---- of an accepted image
 module _ (g : Geometry) (image : List ℕ) (fit : Fit g image) where

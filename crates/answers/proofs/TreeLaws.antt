@@ -1,4 +1,5 @@
 -- An answer has the number 0 exactly when the call is done, so what the calls state of the tree holds of the exported answers.
+use Rattle.std.specs.Prelude.{Option, Some, None}
 use mathlib.Core.Path.{◌≡◌, refl, ap, ap₂, sym, ◌∙◌}
 use mathlib.Core.Logic.{◌↔◌, inl, inr}
 use mathlib.Core.List.{List}
@@ -7,14 +8,12 @@ use native.Mathlib.Omega.{arith}
 use lib.ListN.{length}
 use Rattle.geometry.specs.Number.{Bytes}
 use Rattle.geometry.specs.declared.Geometry.{Geometry}
-use Rattle.geometry.specs.declared.Shape.{Shape}
-use Rattle.geometry.specs.declared.Shape.TheVariants.{Fits, Invalid}
-use Rattle.geometry.specs.Geometry.{geometry_of, Fit}
+use Rattle.geometry.specs.Geometry.{geometry_of}
 use Rattle.geometry.specs.ShapeLaws.{fit_of}
 use Rattle.rules.specs.declared.Totals.{Totals}
 use Rattle.rules.specs.declared.Line.{Line}
 use Rattle.rules.specs.Result.{Res, ok, err, and_then, IsOk}
-use Rattle.rules.proofs.ResultLaws.{clash, on_refused}
+use Rattle.rules.proofs.ResultLaws.{on_refused}
 use Rattle.rules.specs.Chain.{views_of}
 use Rattle.rules.proofs.RefusalLaws.{Refuses, refuses_ok, refuses_within, line_faults}
 use Rattle.rules.proofs.FuelLaws.{check_faults}
@@ -26,7 +25,7 @@ use Rattle.rules.specs.Format.{format}
 use Rattle.rules.specs.Put.{put}
 use Rattle.rules.specs.Delete.{delete}
 use Rattle.rules.specs.Directories.{make_directory, make_call, remove_directory, remove_call}
-use Rattle.rules.specs.Calls.{read_bytes, length_of, filled, in_geometry, asked, Effect, plainly, effective, check_call, list_call, read_call, format_call, put_call, delete_call}
+use Rattle.rules.specs.Calls.{read_bytes, length_of, filled, asked, Effect, plainly, effective, check_call, list_call, read_call, format_call, put_call, delete_call}
 use Rattle.rules.proofs.CallLaws.{asked_fits, asked_invalid, read_faults}
 use Rattle.rules.specs.Paths.{path_of, directory_path_of}
 use Rattle.rules.specs.Candidate.{NotReadOnly, Absent, PutFile, EmptyDirectory}
@@ -47,9 +46,9 @@ module _ {A : Type 0} (P N : ℕ) (image t : List ℕ) (question : Image → Res
   asked_number : (n p : ℕ) → (asked P N image t question).0 ≡ err n p → 1 ≤ n
   asked_number n p k = go (geometry_of P N (length image) (length t)) refl
     where
-      go : (s : Shape) → geometry_of P N (length image) (length t) ≡ s → 1 ≤ n
-      go Invalid e = let z : err 1 0 ≡ err n p = sym (ap (λ (x : Res A × List ℕ). x.0) (asked_invalid P N image t e question)) ∙ k in let i : 1 ≡ n = cc in omega arith
-      go (Fits g) e =
+      go : (s : Option Geometry) → geometry_of P N (length image) (length t) ≡ s → 1 ≤ n
+      go None e = let z : err 1 0 ≡ err n p = sym (ap (λ (x : Res A × List ℕ). x.0) (asked_invalid P N image t e question)) ∙ k in let i : 1 ≡ n = cc in omega arith
+      go (Some g) e =
           let z : and_then (check g (views_of g image)) question ≡ err n p = sym (ap (λ (x : Res A × List ℕ). x.0) (asked_fits P N image t g e question)) ∙ k in
           on_refused _ _ _ _ z (λ c. omega (arith, ((check_faults g (views_of g image) (some_pages (fit_of P N image t g e))).number n p c).0)) (λ i _ c. omega (arith, ((h i).number n p c).0))
 

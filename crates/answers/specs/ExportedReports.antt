@@ -5,9 +5,7 @@ use Rattle.rules.specs.PageSets.{bit}
 use Rattle.reports.specs.declared.Version.{Version}
 use Rattle.reports.specs.declared.Version.TheVariants.{None, One, Two, Unknown}
 use Rattle.reports.specs.declared.Report.{Report}
-use Rattle.reports.specs.declared.Added.{Added}
-use Rattle.reports.specs.declared.Added.TheVariants.{Done, Refused}
-use Rattle.reports.specs.Reports.{started_with, started, added}
+use Rattle.reports.specs.Reports.{Added, Done, Refused, started_with, started, added}
 use Rattle.answers.specs.declared.OwfsReport.{OwfsReport}
 use Rattle.answers.specs.declared.OwfsAdded.{OwfsAdded}
 

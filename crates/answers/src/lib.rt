@@ -2,14 +2,15 @@
 #![tactic(auto)]
 
 ghost use Rattle.std.specs.Prelude.{◌≡◌};
-ghost use Rattle.rules.specs.Answers.{check_result, edit_result, line_result, length_result, count_result, mend_result};
-ghost use Rattle.rules.specs.PageSets.{bit};
+ghost use Rattle.rules.specs.Answers.{answer_of};
+ghost use Rattle.reports.specs.Answers.{answer_of as addAnswer};
 ghost use Rattle.answers.specs.ExportedAnswers.{totals_for, entry_for, length_for, answer_for, writes_for, mended_for};
 ghost use Rattle.answers.specs.ExportedReports.{version_for, knee_for, asked_version, version_of, report_of, report_for, added_for};
 ghost use Rattle.answers.specs.Small.{Small, TotalsSmall, LineSmall, LengthSmall, DoneSmall, WritesSmall};
 
-use reports::{Added, Report, Version};
-use rules::{Checked, Edited, Halted, Length, Listed, Mended};
+use refusals::Refusal;
+use reports::{AddError, Report, Version};
+use rules::{Line, Totals, WriteCount};
 
 // What check answers: 0 and the totals, or the number of a refusal and its page.
 #[repr(C)]
@@ -101,20 +102,20 @@ pub struct OwfsAdded {
 }
 
 // An answer of the check as the caller sees it.
-pub fn tell(answer: Checked) -> OwfsTotals
-    requires { Small TotalsSmall (check_result answer) }
-    ensures { result ≡ totals_for (check_result answer) }
+pub fn tell(answer: Result<Totals, Refusal>) -> OwfsTotals
+    requires { Small TotalsSmall (answer_of answer) }
+    ensures { result ≡ totals_for (answer_of answer) }
 {
     match answer {
-        Checked::Done(totals) => OwfsTotals {
+        Ok(totals) => OwfsTotals {
             number: 0,
             page: 0,
             used: totals.used as u32,
             files: totals.files as u32,
             directories: totals.directories as u32,
         },
-        Checked::Refused(number, page) => OwfsTotals {
-            number: number as u32,
+        Err(Refusal(fault, page)) => OwfsTotals {
+            number: u32::from(fault.number()),
             page: page as u32,
             used: 0,
             files: 0,
@@ -124,24 +125,24 @@ pub fn tell(answer: Checked) -> OwfsTotals
 }
 
 // An answer of listing as the caller sees it.
-pub fn tell_entry(answer: Listed) -> OwfsEntry
-    requires { Small LineSmall (line_result answer) }
-    ensures { result ≡ entry_for (line_result answer) }
+pub fn tell_entry(answer: Result<Line, Refusal>) -> OwfsEntry
+    requires { Small LineSmall (answer_of answer) }
+    ensures { result ≡ entry_for (answer_of answer) }
 {
     match answer {
-        Listed::Entry(line) => OwfsEntry {
+        Ok(line) => OwfsEntry {
             number: 0,
             page: 0,
             level: line.level as u32,
             name: line.name,
-            extension: line.extension as u32,
-            attribute: line.attribute as u32,
+            extension: u32::from(line.extension),
+            attribute: u32::from(line.attribute),
             start: line.start as u32,
             pages: line.pages as u32,
             length: line.length as u32,
         },
-        Listed::Refused(number, page) => OwfsEntry {
-            number: number as u32,
+        Err(Refusal(fault, page)) => OwfsEntry {
+            number: u32::from(fault.number()),
             page: page as u32,
             level: 0,
             name: 0,
@@ -155,18 +156,18 @@ pub fn tell_entry(answer: Listed) -> OwfsEntry
 }
 
 // An answer of reading as the caller sees it.
-pub fn tell_length(answer: Length) -> OwfsLength
-    requires { Small LengthSmall (length_result answer) }
-    ensures { result ≡ length_for (length_result answer) }
+pub fn tell_length(answer: Result<usize, Refusal>) -> OwfsLength
+    requires { Small LengthSmall (answer_of answer) }
+    ensures { result ≡ length_for (answer_of answer) }
 {
     match answer {
-        Length::Done(length) => OwfsLength {
+        Ok(length) => OwfsLength {
             number: 0,
             page: 0,
             length: length as u32,
         },
-        Length::Refused(number, page) => OwfsLength {
-            number: number as u32,
+        Err(Refusal(fault, page)) => OwfsLength {
+            number: u32::from(fault.number()),
             page: page as u32,
             length: 0,
         },
@@ -174,43 +175,33 @@ pub fn tell_length(answer: Length) -> OwfsLength
 }
 
 // An answer of an edit as the caller sees it.
-pub fn tell_answer(answer: Edited) -> OwfsAnswer
-    requires { Small DoneSmall (edit_result answer) }
-    ensures { result ≡ answer_for (edit_result answer) }
+pub fn tell_answer(answer: Result<(), Refusal>) -> OwfsAnswer
+    requires { Small DoneSmall (answer_of answer) }
+    ensures { result ≡ answer_for (answer_of answer) }
 {
     match answer {
-        Edited::Done => OwfsAnswer { number: 0, page: 0 },
-        Edited::Refused(number, page) => OwfsAnswer {
-            number: number as u32,
+        Ok(()) => OwfsAnswer { number: 0, page: 0 },
+        Err(Refusal(fault, page)) => OwfsAnswer {
+            number: u32::from(fault.number()),
             page: page as u32,
         },
     }
 }
 
-// 1 for yes, 0 for no.
-fn one_if(yes: bool) -> u32
-    ensures { result ≡ bit yes }
-{
-    if yes {
-        return 1;
-    }
-    0
-}
-
 // An answer of a careful edit as the caller sees it.
-pub fn tell_writes(answer: Halted) -> OwfsWrites
-    requires { Small WritesSmall (count_result answer) }
-    ensures { result ≡ writes_for (count_result answer) }
+pub fn tell_writes(answer: Result<WriteCount, Refusal>) -> OwfsWrites
+    requires { Small WritesSmall (answer_of answer) }
+    ensures { result ≡ writes_for (answer_of answer) }
 {
     match answer {
-        Halted::Done(count) => OwfsWrites {
+        Ok(count) => OwfsWrites {
             number: 0,
             page: 0,
             made: count.made as u32,
-            left: one_if(count.left),
+            left: u32::from(count.left),
         },
-        Halted::Refused(number, page) => OwfsWrites {
-            number: number as u32,
+        Err(Refusal(fault, page)) => OwfsWrites {
+            number: u32::from(fault.number()),
             page: page as u32,
             made: 0,
             left: 0,
@@ -219,18 +210,18 @@ pub fn tell_writes(answer: Halted) -> OwfsWrites
 }
 
 // An answer of a mend as the caller sees it.
-pub fn tell_mended(answer: Mended) -> OwfsMended
-    requires { Small LengthSmall (mend_result answer) }
-    ensures { result ≡ mended_for (mend_result answer) }
+pub fn tell_mended(answer: Result<usize, Refusal>) -> OwfsMended
+    requires { Small LengthSmall (answer_of answer) }
+    ensures { result ≡ mended_for (answer_of answer) }
 {
     match answer {
-        Mended::Done(cleared) => OwfsMended {
+        Ok(cleared) => OwfsMended {
             number: 0,
             page: 0,
             cleared: cleared as u32,
         },
-        Mended::Refused(number, page) => OwfsMended {
-            number: number as u32,
+        Err(Refusal(fault, page)) => OwfsMended {
+            number: u32::from(fault.number()),
             page: page as u32,
             cleared: 0,
         },
@@ -258,8 +249,7 @@ fn tell_knee(version: Version) -> u32
 {
     match version {
         Version::None => 0,
-        Version::One(knee) => knee,
-        Version::Two(knee) => knee,
+        Version::One(knee) | Version::Two(knee) => knee,
         Version::Unknown => 0,
     }
 }
@@ -268,79 +258,76 @@ fn tell_knee(version: Version) -> u32
 pub fn asked_version(number: u32, knee: u32) -> Version
     ensures { result ≡ asked_version number knee }
 {
-    if number == 1 {
-        return Version::One(knee);
+    match number {
+        1 => Version::One(knee),
+        2 => Version::Two(knee),
+        _ => Version::Unknown,
     }
-    if number == 2 {
-        return Version::Two(knee);
-    }
-    Version::Unknown
 }
 
 // The version of a report that a caller hands over: 0 is one without weight.
 fn version_of(number: u32, knee: u32) -> Version
     ensures { result ≡ version_of number knee }
 {
-    if number == 0 {
-        return Version::None;
+    match number {
+        0 => Version::None,
+        _ => asked_version(number, knee),
     }
-    asked_version(number, knee)
 }
 
 // A report as the caller sees it.
-pub fn tell_report(report: Report) -> OwfsReport
-    ensures { result ≡ report_for report }
-{
-    let version = report.version;
-    let number = tell_version(version);
-    let knee = tell_knee(version);
-    OwfsReport {
-        cycles: report.cycles,
-        near: report.near,
-        weight: report.weight,
-        limit: report.limit,
-        greatest: report.greatest,
-        found: one_if(report.found),
-        margin: report.margin,
-        version: number,
-        knee: knee,
-        files: report.files,
+impl From<Report> for OwfsReport {
+    ghost from_gives = { λ report told. told ≡ report_for report };
+
+    fn from(report: Report) -> OwfsReport {
+        let number = tell_version(report.version);
+        let knee = tell_knee(report.version);
+        OwfsReport {
+            cycles: report.cycles,
+            near: report.near,
+            weight: report.weight,
+            limit: report.limit,
+            greatest: report.greatest,
+            found: u32::from(report.found),
+            margin: report.margin,
+            version: number,
+            knee,
+            files: report.files,
+        }
     }
 }
 
 // The report that a caller hands over, whoever made it.
-pub fn report_of(told: OwfsReport) -> Report
-    ensures { result ≡ report_of told }
-{
-    let version = version_of(told.version, told.knee);
-    Report {
-        cycles: told.cycles,
-        near: told.near,
-        weight: told.weight,
-        limit: told.limit,
-        greatest: told.greatest,
-        found: told.found != 0,
-        margin: told.margin,
-        version: version,
-        files: told.files,
+impl From<OwfsReport> for Report {
+    ghost from_gives = { λ told report. report ≡ report_of told };
+
+    fn from(told: OwfsReport) -> Report {
+        Report {
+            cycles: told.cycles,
+            near: told.near,
+            weight: told.weight,
+            limit: told.limit,
+            greatest: told.greatest,
+            found: told.found != 0,
+            margin: told.margin,
+            version: version_of(told.version, told.knee),
+            files: told.files,
+        }
     }
 }
 
 // An answer of adding a count file as the caller sees it; after a refusal with the report that was given.
-pub fn tell_added(answer: Added, given: OwfsReport) -> OwfsAdded
-    ensures { result ≡ added_for given answer }
+pub fn tell_added(answer: Result<Report, AddError>, given: OwfsReport) -> OwfsAdded
+    ensures { result ≡ added_for given (addAnswer answer) }
 {
     match answer {
-        Added::Done(report) => {
-            let told = tell_report(report);
-            OwfsAdded {
-                number: 0,
-                page: 0,
-                report: told,
-            }
-        }
-        Added::Refused(refusal) => OwfsAdded {
-            number: refusal as u32,
+        Ok(report) => OwfsAdded {
+            number: 0,
+            page: 0,
+            report: OwfsReport::from(report),
+        },
+        Err(refusal) => OwfsAdded {
+            number: u32::from(refusal.number()),
             page: 0,
             report: given,
         },

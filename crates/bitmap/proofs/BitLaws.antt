@@ -2,8 +2,7 @@
 use mathlib.Core.Path.{◌≡◌, refl, ap, sym, ◌∙◌}
 use mathlib.Core.Bool.{Bool}
 use mathlib.Core.List.{List}
-use Prim.Native.Nat.{ℕ, zero, suc, ◌+◌, ◌-◌, ◌*◌, ◌/◌, ◌%◌, ◌^◌, ◌≤◌, ◌<◌}
-use native.Mathlib.Nat.{div-div-eq-div-mul, pow-succ'}
+use Prim.Native.Nat.{ℕ, ◌+◌, ◌-◌, ◌*◌, ◌/◌, ◌%◌, ◌^◌, ◌≤◌, ◌<◌}
 use native.Mathlib.Omega.{arith}
 use native.Mathlib.Decide.{dec_lt}
 use lib.ListN.{length, get_or}
@@ -18,20 +17,8 @@ use Rattle.owners.specs.Owned.{Represents, page_bit}
 use Rattle.owners.specs.BitLaws.{marks_none, bit_is as marked}
 use Rattle.rules.specs.Check.{judge_bits}
 use Rattle.rules.specs.Owners.{OwnerRecord}
-use Rattle.bitmap.specs.declared.Bits.{Bits}
-use Rattle.bitmap.specs.declared.Bits.TheVariants as bits
+use Rattle.std.specs.Prelude.{Option, Some, None}
 use Rattle.bitmap.specs.Bits.{ComparesPart, ComparesAll}
-
--- half a number has its higher bits
-pub halved : (b value left k : ℕ) → value / 2 ^ left ≡ b / 2 ^ k → 0 < left → value / 2 / 2 ^ (left - 1) ≡ b / 2 ^ k
-halved b value zero k e h = absurd (omega arith)
-halved b value (suc left) k e h =
-    let i : suc left - 1 ≡ left = omega arith in
-    ap (λ (x : ℕ). value / 2 / 2 ^ x) i ∙ div-div-eq-div-mul value 2 (2 ^ left) ∙ ap (λ (x : ℕ). value / x) (sym (pow-succ' 2 left)) ∙ e
-
-pub halved_all : (b value left k : ℕ) → value / 2 ^ left ≡ b / 2 ^ k → left ≤ 0 → value % 2 ≡ b / 2 ^ k % 2
-halved_all b value zero k e h = let i : value / 2 ^ 0 ≡ value = omega arith in ap (λ (x : ℕ). x % 2) (sym i ∙ e)
-halved_all b value (suc left) k e h = absurd (omega arith)
 
 -- ---- some bytes of a bitmap, after `at` others
 module _ (bytes : List ℕ) (at : ℕ) (table : List OwnerRecord) where
@@ -59,7 +46,7 @@ module _ (bytes : List ℕ) (at : ℕ) (table : List OwnerRecord) where
         let e : 8 * at + (j - 8 * at) ≡ j = omega arith in
         rw e at (agrees (j - 8 * at) (omega arith) (h (j - 8 * at) (omega arith)))
 
-  pub part_same : (k : ℕ) → k ≤ 8 * length bytes → 8 * length bytes ≤ k → ((j : ℕ) → j < k → Right j) → ComparesPart bytes at table bits.Same
+  pub part_same : (k : ℕ) → k ≤ 8 * length bytes → 8 * length bytes ≤ k → ((j : ℕ) → j < k → Right j) → ComparesPart bytes at table None
   part_same k l m h raw used s r = record {
     low = omega arith;
     high = omega arith;
@@ -67,7 +54,7 @@ module _ (bytes : List ℕ) (at : ℕ) (table : List OwnerRecord) where
     differs = λ q e. omega arith;
   }
 
-  pub part_differ : (k : ℕ) → k < 8 * length bytes → ((j : ℕ) → j < k → Right j) → (Right k → ⊥) → ComparesPart bytes at table (bits.Differ (8 * at + k))
+  pub part_differ : (k : ℕ) → k < 8 * length bytes → ((j : ℕ) → j < k → Right j) → (Right k → ⊥) → ComparesPart bytes at table (Some (8 * at + k))
   part_differ k l h n raw used s r = (
     record {
       low = omega arith;
@@ -103,10 +90,10 @@ module _ (raw used : List ℕ) where
       ap (λ (t : Bool). refuse_unless t 13 x) (ne_eqb x (8 * length raw) (λ q. omega arith)) ∙ refuse_false 13 x ∙ ap (λ (y : ℕ). err 13 y) e
 
 -- the bytes are the whole bitmap
-pub judged_all : (bytes : List ℕ) (table : List OwnerRecord) (r : Bits) → ComparesPart bytes 0 table r → ComparesAll bytes table r
-judged_all bytes table bits.Same h used k =
+pub judged_all : (bytes : List ℕ) (table : List OwnerRecord) (r : Option ℕ) → ComparesPart bytes 0 table r → ComparesAll bytes table r
+judged_all bytes table None h used k =
     let l = h bytes used (λ i q. let e : 0 + i ≡ i = omega arith in rw e refl) k in
     judged_same bytes used (λ j p. l.agree j (omega arith) (omega arith))
-judged_all bytes table (bits.Differ d) h used k =
+judged_all bytes table (Some d) h used k =
     let l = h bytes used (λ i q. let e : 0 + i ≡ i = omega arith in rw e refl) k in
     judged_differ bytes used d (omega (arith, l.1)) (λ j p. l.0.agree j (omega arith) p) (λ e. l.0.differs l.1 e)

@@ -1,5 +1,5 @@
 -- A bitmap in a chain, compared page by page: the bits of the pages passed agree.
-use mathlib.Core.Path.{◌≡◌, ap, ◌∙◌, subst}
+use mathlib.Core.Path.{◌≡◌, refl, ap, ◌∙◌, subst}
 use mathlib.Core.List.{List}
 use Prim.Native.Nat.{ℕ, ◌+◌, ◌*◌, ◌≤◌, ◌<◌}
 use native.Mathlib.Omega.{arith}
@@ -18,16 +18,18 @@ use Rattle.owners.specs.Owned.{Represents}
 use Rattle.rules.specs.Check.{judge_bits}
 use Rattle.rules.specs.Owners.{OwnerRecord}
 use Rattle.chain.specs.declared.Cursor.{Cursor}
-use Rattle.chain.specs.declared.Step.{Step}
-use Rattle.chain.specs.declared.Step.TheVariants as step
 use Rattle.chain.specs.Steps.{first_step, step_of}
 use Rattle.chain.specs.KnownChain.{ChainAt}
 use Rattle.chain.proofs.Following.{Passed, ReadTo, read_first, bytes_up, read_end, read_on}
-use Rattle.bitmap.specs.declared.Bits.{Bits}
-use Rattle.bitmap.specs.declared.Bits.TheVariants as bits
+use Rattle.std.specs.Prelude.{Ok, Option, Some, None}
 use Rattle.bitmap.specs.Bits.{Part, ComparesPart}
 use Rattle.bitmap.proofs.BitLaws.{judged_same, judged_differ}
 use Rattle.bitmap.proofs.PagesRead.{stands, length_is, turned}
+
+-- an answer that names no bit
+no_bit : (r : Option ℕ) → ((n : ℕ) → r ≡ Some n → ⊥) → r ≡ None
+no_bit None h = refl
+no_bit (Some n) h = absurd (h n refl)
 
 -- what holds before a page of a chain of so many pages is compared
 pub record Comparing (g : Geometry) (v : View) (raw used : List ℕ) (total : ℕ) (c : Cursor) : Type 0 where
@@ -47,10 +49,10 @@ module _ (g : Geometry) (image : List ℕ) (fit : Fit g image) where
     agree_below : (n e : ℕ) → IsLowest raw used (8 * c.bytes) n e → (j : ℕ) → j < e → bit_at raw j ≡ bit (mem j used)
     agree_below n e l j h = elim (dec_lt j (8 * c.bytes)) [ yes q ↦ C.agree j q | no q ↦ l.agree j (omega arith) h ]
 
-    pub differs : (e : ℕ) → Part raw used (8 * c.bytes) (8 * length bytes) (bits.Differ e) → judge_bits raw used ≡ err 13 e
+    pub differs : (e : ℕ) → Part raw used (8 * c.bytes) (8 * length bytes) (Some e) → judge_bits raw used ≡ err 13 e
     differs e l = judged_differ raw used e (omega (arith, l.1, length_is g image fit raw total c d bytes C.read t)) (agree_below (8 * length bytes) e l.0) (λ q. l.0.differs l.1 q)
 
-    module _ (l : Part raw used (8 * c.bytes) (8 * length bytes) bits.Same) where
+    module _ (l : Part raw used (8 * c.bytes) (8 * length bytes) None) where
       pub same_all : d.page ≡ 0 → judge_bits raw used ≡ ok tt
       same_all z =
           let n : length raw ≡ length C.read.done + length bytes = ap length (read_end g image fit total raw c d C.read bytes t z) ∙ length-append C.read.done bytes in
@@ -62,17 +64,17 @@ module _ (g : Geometry) (image : List ℕ) (fit : Fit g image) where
           record { read = read_on g image fit total raw c d C.read bytes t z u; agree = λ j q. agree_below (8 * length bytes) (8 * c.bytes + 8 * length bytes) l j (omega arith) }
 
   -- one page of the chain compared, as the code reads it
-  module _ {raw used : List ℕ} {total : ℕ} {c : Cursor} (C : Comparing g v raw used total c) {size : ℕ} {d : Cursor} {s : Step} (m : s ≡ step.Page size d) (o : s ≡ step_of g v c)
+  module _ {raw used : List ℕ} {total : ℕ} {c : Cursor} (C : Comparing g v raw used total c) {size : ℕ} {d : Cursor} (o : Ok (size, d) ≡ step_of g v c)
       {page : List ℕ} (e : page ≡ page_of g c.page image) {bytes : List ℕ} (i : bytes ≡ take size (drop 1 page)) where
-    module _ (table : List OwnerRecord) (R : Represents table used) (r : Bits) (p : ComparesPart bytes c.bytes table r) where
-      part : (s : Bits) → r ≡ s → Part raw used (8 * c.bytes) (8 * length bytes) s
-      part s q = subst (Part raw used (8 * c.bytes) (8 * length bytes)) q (p raw used (stands g image fit raw total c d bytes C.read (turned g image fit C.read m o e i)) R)
+    module _ (table : List OwnerRecord) (R : Represents table used) (r : Option ℕ) (p : ComparesPart bytes c.bytes table r) where
+      part : (s : Option ℕ) → r ≡ s → Part raw used (8 * c.bytes) (8 * length bytes) s
+      part s q = subst (Part raw used (8 * c.bytes) (8 * length bytes)) q (p raw used (stands g image fit raw total c d bytes C.read (turned g image fit C.read o e i)) R)
 
-      pub answer_differ : (n : ℕ) → r ≡ bits.Differ n → judge_bits raw used ≡ err 13 n
-      answer_differ n q = differs raw used total c d bytes C (turned g image fit C.read m o e i) n (part (bits.Differ n) q)
+      pub answer_differ : (n : ℕ) → r ≡ Some n → judge_bits raw used ≡ err 13 n
+      answer_differ n q = differs raw used total c d bytes C (turned g image fit C.read o e i) n (part (Some n) q)
 
-      pub answer_same : r ≡ bits.Same → d.page ≡ 0 → judge_bits raw used ≡ ok tt
-      answer_same q z = same_all raw used total c d bytes C (turned g image fit C.read m o e i) (part bits.Same q) z
+      pub answer_same : ((n : ℕ) → r ≡ Some n → ⊥) → d.page ≡ 0 → judge_bits raw used ≡ ok tt
+      answer_same q z = same_all raw used total c d bytes C (turned g image fit C.read o e i) (part None (no_bit r q)) z
 
-      pub compare_on : r ≡ bits.Same → (d.page ≡ 0 → ⊥) → total ≤ g.pages → Comparing g v raw used total d
-      compare_on q z u = same_on raw used total c d bytes C (turned g image fit C.read m o e i) (part bits.Same q) z u
+      pub compare_on : ((n : ℕ) → r ≡ Some n → ⊥) → (d.page ≡ 0 → ⊥) → total ≤ g.pages → Comparing g v raw used total d
+      compare_on q z u = same_on raw used total c d bytes C (turned g image fit C.read o e i) (part None (no_bit r q)) z u

@@ -1,4 +1,5 @@
 -- One page of a bitmap's chain, as the code reads it: where its bytes stand in the bitmap.
+use Rattle.std.specs.Prelude.{Ok}
 use mathlib.Core.Path.{◌≡◌, ap, ap₂, sym, ◌∙◌}
 use mathlib.Core.List.{List, ◌++◌}
 use Prim.Native.Nat.{ℕ, ◌+◌, ◌≤◌, ◌<◌}
@@ -11,8 +12,6 @@ use Rattle.geometry.specs.Page.{page_of}
 use Rattle.packet.specs.Packet.{View, view_of}
 use Rattle.rules.specs.Chain.{content}
 use Rattle.chain.specs.declared.Cursor.{Cursor}
-use Rattle.chain.specs.declared.Step.{Step}
-use Rattle.chain.specs.declared.Step.TheVariants as step
 use Rattle.chain.specs.Steps.{step_of}
 use Rattle.chain.proofs.Following.{Passed, passes_data, ReadTo, split_whole}
 
@@ -32,10 +31,10 @@ module _ (g : Geometry) (image : List ℕ) (fit : Fit g image) where
     length_is = ap length whole ∙ length-append R.done (bytes ++ content t.others) ∙ ap₂ (λ (x y : ℕ). x + y) (sym R.passed) (length-append bytes (content t.others))
 
   -- as the code reads it
-  module _ {raw : List ℕ} {total : ℕ} {c : Cursor} (R : ReadTo g (view_of g image) total raw c) {size : ℕ} {d : Cursor} {s : Step} (m : s ≡ step.Page size d) (o : s ≡ step_of g (view_of g image) c)
+  module _ {raw : List ℕ} {total : ℕ} {c : Cursor} (R : ReadTo g (view_of g image) total raw c) {size : ℕ} {d : Cursor} (o : Ok (size, d) ≡ step_of g (view_of g image) c)
       {page : List ℕ} (e : page ≡ page_of g c.page image) {bytes : List ℕ} (i : bytes ≡ take size (drop 1 page)) where
     pub turned : Passed c d R.more bytes
-    turned = passes_data g image fit total c R.more R.following size d s m o page e bytes i
+    turned = passes_data g image fit total c R.more R.following size d o page e bytes i
 
     pub in_bounds : (c.bytes ≤ 16777216) × (length bytes ≤ 256)
     in_bounds = (omega (arith, R.following.counted.few, R.following.counted.small), omega (arith, turned.small))

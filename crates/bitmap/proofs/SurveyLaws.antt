@@ -17,8 +17,7 @@ use Rattle.rules.specs.Owners.{OwnerRecord}
 use Rattle.owners.specs.Owned.{Represents, nonzero, page_bit}
 use Rattle.owners.specs.OwnerLaws.{owner_past}
 use Rattle.owners.specs.BitLaws.{bit_from}
-use Rattle.bitmap.specs.declared.Survey.{Survey}
-use Rattle.bitmap.specs.declared.Survey.TheVariants as survey
+use Rattle.std.specs.Prelude.{Option, Some, None}
 use Rattle.bitmap.specs.Surveys.{SurveyIs, SurveysPart, SurveysAll}
 use Rattle.bitmap.proofs.BitLaws.{used_bit, bit_is}
 
@@ -107,7 +106,7 @@ module _ (N : ℕ) (raw used : List ℕ) where
 module _ (bytes : List ℕ) (at : ℕ) (table : List OwnerRecord) (passed : ℕ) where
   -- what is known of the first k bits
   abbrev pub Surveyed : ℕ → ℕ → Type 0
-  Surveyed k u = (raw used : List ℕ) → ((i : ℕ) → i < length bytes → get_or raw (at + i) 0 ≡ get_or bytes i 0) → Represents table used → SurveyIs (length table) raw used (8 * at) k passed (survey.Unowned u)
+  Surveyed k u = (raw used : List ℕ) → ((i : ℕ) → i < length bytes → get_or raw (at + i) 0 ≡ get_or bytes i 0) → Represents table used → SurveyIs (length table) raw used (8 * at) k passed (Some u)
 
   pub none : Surveyed 0 passed
   unfolding all_mendable unowned
@@ -130,11 +129,11 @@ module _ (bytes : List ℕ) (at : ℕ) (table : List OwnerRecord) (passed : ℕ)
           omega (arith, x.1, count_more (length table) raw used (8 * at) k, ap₂ (λ (p q : ℕ). p - q) e.0 e.1),
         )
 
-    pub fails : takes (length table) (8 * at + k) marked owned ≡ false → SurveysPart bytes at table passed survey.Uncovered
+    pub fails : takes (length table) (8 * at + k) marked owned ≡ false → SurveysPart bytes at table passed None
     fails b raw used s r = one_fails (length table) raw used (8 * at) k (8 * length bytes) h (is_mendable raw used s r ∙ b)
 
 -- bytes that are the whole bitmap
-pub surveyed_all : (raw : List ℕ) (table : List OwnerRecord) (r : Survey) → SurveysPart raw 0 table 0 r → SurveysAll raw table r
+pub surveyed_all : (raw : List ℕ) (table : List OwnerRecord) (r : Option ℕ) → SurveysPart raw 0 table 0 r → SurveysAll raw table r
 surveyed_all raw table r h used R =
     let z : 8 * 0 ≡ 0 = omega arith in
     subst (λ (k : ℕ). SurveyIs (length table) raw used k (8 * length raw) 0 r) z (h raw used (λ i l. let e : 0 + i ≡ i = omega arith in ap (λ (j : ℕ). get_or raw j 0) e) R)

@@ -14,13 +14,10 @@ use Rattle.rules.specs.Careful.{all_mendable, unowned}
 use Rattle.rules.specs.Owners.{OwnerRecord}
 use Rattle.owners.specs.Owned.{Represents}
 use Rattle.chain.specs.declared.Cursor.{Cursor}
-use Rattle.chain.specs.declared.Step.{Step}
-use Rattle.chain.specs.declared.Step.TheVariants as step
 use Rattle.chain.specs.Steps.{first_step, step_of}
 use Rattle.chain.specs.KnownChain.{ChainAt}
 use Rattle.chain.proofs.Following.{Passed, ReadTo, read_first, bytes_up, read_end, read_on}
-use Rattle.bitmap.specs.declared.Survey.{Survey}
-use Rattle.bitmap.specs.declared.Survey.TheVariants as survey
+use Rattle.std.specs.Prelude.{Ok, Option, Some, None}
 use Rattle.bitmap.specs.Surveys.{SurveyIs, SurveysPart}
 use Rattle.bitmap.proofs.PagesRead.{stands, length_is, turned}
 use Rattle.bitmap.proofs.SurveyLaws.{all_joined, count_joined}
@@ -53,13 +50,13 @@ module _ (g : Geometry) (image : List ℕ) (fit : Fit g image) where
       }
 
   -- one page of the chain surveyed, as the code reads it
-  module _ {N : ℕ} {raw used : List ℕ} {total : ℕ} {c : Cursor} {u : ℕ} (C : Surveying g (view_of g image) N raw used total c u) {size : ℕ} {d : Cursor} {s : Step} (m : s ≡ step.Page size d)
-      (o : s ≡ step_of g (view_of g image) c) {page : List ℕ} (e : page ≡ page_of g c.page image) {bytes : List ℕ} (i : bytes ≡ take size (drop 1 page))
-      (table : List OwnerRecord) (sized : length table ≡ N) (R : Represents table used) (r : Survey) (p : SurveysPart bytes c.bytes table u r) where
+  module _ {N : ℕ} {raw used : List ℕ} {total : ℕ} {c : Cursor} {u : ℕ} (C : Surveying g (view_of g image) N raw used total c u) {size : ℕ} {d : Cursor}
+      (o : Ok (size, d) ≡ step_of g (view_of g image) c) {page : List ℕ} (e : page ≡ page_of g c.page image) {bytes : List ℕ} (i : bytes ≡ take size (drop 1 page))
+      (table : List OwnerRecord) (sized : length table ≡ N) (R : Represents table used) (r : Option ℕ) (p : SurveysPart bytes c.bytes table u r) where
     passed : Passed c d C.read.more bytes
-    passed = turned g image fit C.read m o e i
+    passed = turned g image fit C.read o e i
 
-    part : (x : Survey) → r ≡ x → SurveyIs N raw used (8 * c.bytes) (8 * length bytes) u x
+    part : (x : Option ℕ) → r ≡ x → SurveyIs N raw used (8 * c.bytes) (8 * length bytes) u x
     part x q = subst (λ (n : ℕ). SurveyIs n raw used (8 * c.bytes) (8 * length bytes) u x) sized
         (subst (SurveyIs (length table) raw used (8 * c.bytes) (8 * length bytes) u) q (p raw used (stands g image fit raw total c d bytes C.read passed) R))
 
@@ -74,22 +71,22 @@ module _ (g : Geometry) (image : List ℕ) (fit : Fit g image) where
         let z : 0 + 8 * c.bytes ≡ 8 * c.bytes = omega arith in
         ap (unowned raw used 0) q ∙ count_joined N raw used 0 (8 * c.bytes) (8 * length bytes) ∙ rw z (omega (arith, C.counted))
 
-    pub answer_uncovered : r ≡ survey.Uncovered → all_mendable N raw used 0 (8 * length raw) ≡ false
+    pub answer_uncovered : r ≡ None → all_mendable N raw used 0 (8 * length raw) ≡ false
     answer_uncovered q =
         let rest = 8 * length (content passed.others) in
         let n : 8 * length raw ≡ (8 * c.bytes + 8 * length bytes) + rest = omega (arith, length_is g image fit raw total c d bytes C.read passed) in
-        ap (all_mendable N raw used 0) n ∙ all_joined N raw used 0 (8 * c.bytes + 8 * length bytes) rest ∙ rw (both (8 * c.bytes + 8 * length bytes) refl, part survey.Uncovered q) refl
+        ap (all_mendable N raw used 0) n ∙ all_joined N raw used 0 (8 * c.bytes + 8 * length bytes) rest ∙ rw (both (8 * c.bytes + 8 * length bytes) refl, part None q) refl
 
-    module _ (more : ℕ) (q : r ≡ survey.Unowned more) where
-      pub answer_end : d.page ≡ 0 → SurveyIs N raw used 0 (8 * length raw) 0 (survey.Unowned more)
+    module _ (more : ℕ) (q : r ≡ Some more) where
+      pub answer_end : d.page ≡ 0 → SurveyIs N raw used 0 (8 * length raw) 0 (Some more)
       answer_end z =
           let l : length raw ≡ length C.read.done + length bytes = ap length (read_end g image fit total raw c d C.read bytes passed z) ∙ length-append C.read.done bytes in
           let n : 8 * length raw ≡ 8 * c.bytes + 8 * length bytes = omega (arith, l, C.read.passed) in
-          let x = part (survey.Unowned more) q in
+          let x = part (Some more) q in
           (both (8 * length raw) n ∙ x.0, omega (arith, x.1, counts (8 * length raw) n))
 
       pub survey_on : (d.page ≡ 0 → ⊥) → total ≤ g.pages → Surveying g (view_of g image) N raw used total d more
       survey_on z w =
           let b : 8 * d.bytes ≡ 8 * c.bytes + 8 * length bytes = omega (arith, bytes_up g image fit total raw c d C.read bytes passed) in
-          let x = part (survey.Unowned more) q in
+          let x = part (Some more) q in
           record { read = read_on g image fit total raw c d C.read bytes passed z w; taken = both (8 * d.bytes) b ∙ x.0; counted = x.1 ∙ sym (counts (8 * d.bytes) b) }

@@ -10,49 +10,33 @@ ghost use Rattle.bitmap.specs.Bits.{ComparesPart, ComparesAll, ComparesChain};
 ghost use Rattle.bitmap.specs.Surveys.{SurveysPart, SurveysAll, SurveysChain};
 ghost use Rattle.chain.specs.KnownChain.{KnownChain};
 
-use chain::{Cursor, Step};
+use chain::Cursor;
 use geometry::Geometry;
-
-// A bitmap compared with the table: all bits right, or the lowest that is wrong.
-#[derive(Clone, Copy)]
-pub enum Bits {
-    Same,
-    Differ(usize),
-}
 
 // Bit k of a byte, low bit first.
 fn bit_of(b: u8, k: usize) -> usize
     requires { k < 8 }
     ensures { result ≡ b / 2 ^ k % 2 }
 {
-    let mut value = geometry::wide(b);
-    let mut left = k;
-    while 0 < left {
-        value = value / 2;
-        left -= 1;
-    }
-    value % 2
+    usize::from((b >> k) & 1)
 }
 
-// Compares some bytes of a bitmap with the table; `at` bytes of the bitmap stand before them.
-fn compare_bytes(bytes: &[u8], at: usize, table: &[u8]) -> Bits
+// Compares some bytes of a bitmap with the table, and finds the lowest bit that is wrong; `at` bytes of the bitmap stand before them.
+fn compare_bytes(bytes: &[u8], at: usize, table: &[u8]) -> Option<usize>
     requires { (at ≤ 16777216) × (length bytes.now ≤ 256) }
     ensures { ComparesPart bytes.now at (records_of table.now) result }
 {
-    let end = 8 * bytes.len();
-    let mut k = 0;
-    while k < end {
+    for k in 0..8 * bytes.len() {
         let page = 8 * at + k;
         if bit_of(bytes[k / 8], k % 8) != owners::bit(table, page, 0) {
-            return Bits::Differ(page);
+            return Some(page);
         }
-        k += 1;
     }
-    Bits::Same
+    None
 }
 
 // Compares a bitmap that stands in the root's control field.
-pub fn compare_local(bytes: &[u8], table: &[u8]) -> Bits
+pub fn compare_local(bytes: &[u8], table: &[u8]) -> Option<usize>
     requires { length bytes.now ≤ 256 }
     ensures { ComparesAll bytes.now (records_of table.now) result }
 {
@@ -60,7 +44,7 @@ pub fn compare_local(bytes: &[u8], table: &[u8]) -> Bits
 }
 
 // Compares a bitmap that stands in a chain which is known to stand, page by page.
-pub fn compare_chain(image: &[u8], g: Geometry, start: usize, table: &[u8]) -> Bits
+pub fn compare_chain(image: &[u8], g: Geometry, start: usize, table: &[u8]) -> Option<usize>
     requires fit { Fit g image.now }
     requires known_chain { KnownChain g (view_of g image.now) start }
     ensures { ComparesChain g (view_of g image.now) start (records_of table.now) result }
@@ -68,34 +52,16 @@ pub fn compare_chain(image: &[u8], g: Geometry, start: usize, table: &[u8]) -> B
     let mut c = Cursor::new(start, start);
     loop {
         let page = c.page;
-        match c.step(image, g, true) {
-            // the chain is known to stand
-            Step::Refused(_, _) => {
-                return Bits::Same;
-            }
-            Step::Page(size, next) => {
-                let bytes = packet::data_of(geometry::page_of(image, g, page), size);
-                match compare_bytes(bytes, c.bytes, table) {
-                    Bits::Differ(bit) => {
-                        return Bits::Differ(bit);
-                    }
-                    Bits::Same => {
-                        if next.page == 0 {
-                            return Bits::Same;
-                        }
-                        c = next;
-                    }
-                }
-            }
+        let (size, next) = c.follow(image, g);
+        let bytes = packet::data_of(geometry::page_of(image, g, page), size);
+        if let Some(bit) = compare_bytes(bytes, c.bytes, table) {
+            return Some(bit);
         }
+        if next.page == 0 {
+            return None;
+        }
+        c = next;
     }
-}
-
-// The marks of a bitmap against the owner table: how many pages are marked that have no owner; or a page with an owner is unmarked, or a bit past the last page is set.
-#[derive(Clone, Copy)]
-pub enum Survey {
-    Unowned(usize),
-    Uncovered,
 }
 
 // Whether a mend must refuse a bit: the page has an owner and is unmarked, or it is past the last page and marked.
@@ -108,30 +74,27 @@ fn is_uncovered(pages: usize, page: usize, marked: usize, owned: usize) -> bool
     marked != 0
 }
 
-// Surveys some bytes of a bitmap; `at` bytes of the bitmap stand before them, in which so many marks have no owner.
-fn survey_bytes(bytes: &[u8], at: usize, table: &[u8], passed: usize) -> Survey
+// Surveys some bytes of a bitmap, after `at` others in which `passed` marks have no owner: how many have none with these; `None` if a page with an owner is unmarked, or a bit past the last page is set.
+fn survey_bytes(bytes: &[u8], at: usize, table: &[u8], passed: usize) -> Option<usize>
     requires { (at ≤ 16777216) × (length bytes.now ≤ 256) × (passed ≤ 8 * at) }
     ensures { SurveysPart bytes.now at (records_of table.now) passed result }
 {
     let pages = owners::pages_of(table);
-    let end = 8 * bytes.len();
     let mut unowned = passed;
-    let mut k = 0;
-    while k < end {
+    for k in 0..8 * bytes.len() {
         let page = 8 * at + k;
         let marked = bit_of(bytes[k / 8], k % 8);
         let owned = owners::bit(table, page, 0);
         if is_uncovered(pages, page, marked, owned) {
-            return Survey::Uncovered;
+            return None;
         }
         unowned += marked - owned;
-        k += 1;
     }
-    Survey::Unowned(unowned)
+    Some(unowned)
 }
 
 // Surveys a bitmap that stands in the root's control field.
-pub fn survey_local(bytes: &[u8], table: &[u8]) -> Survey
+pub fn survey_local(bytes: &[u8], table: &[u8]) -> Option<usize>
     requires { length bytes.now ≤ 256 }
     ensures { SurveysAll bytes.now (records_of table.now) result }
 {
@@ -139,7 +102,7 @@ pub fn survey_local(bytes: &[u8], table: &[u8]) -> Survey
 }
 
 // Surveys a bitmap that stands in a chain which is known to stand, page by page.
-pub fn survey_chain(image: &[u8], g: Geometry, start: usize, table: &[u8]) -> Survey
+pub fn survey_chain(image: &[u8], g: Geometry, start: usize, table: &[u8]) -> Option<usize>
     requires fit { Fit g image.now }
     requires known_chain { KnownChain g (view_of g image.now) start }
     ensures { SurveysChain g (view_of g image.now) start (records_of table.now) result }
@@ -148,26 +111,12 @@ pub fn survey_chain(image: &[u8], g: Geometry, start: usize, table: &[u8]) -> Su
     let mut unowned = 0;
     loop {
         let page = c.page;
-        match c.step(image, g, true) {
-            // the chain is known to stand
-            Step::Refused(_, _) => {
-                return Survey::Uncovered;
-            }
-            Step::Page(size, next) => {
-                let bytes = packet::data_of(geometry::page_of(image, g, page), size);
-                match survey_bytes(bytes, c.bytes, table, unowned) {
-                    Survey::Uncovered => {
-                        return Survey::Uncovered;
-                    }
-                    Survey::Unowned(more) => {
-                        if next.page == 0 {
-                            return Survey::Unowned(more);
-                        }
-                        unowned = more;
-                        c = next;
-                    }
-                }
-            }
+        let (size, next) = c.follow(image, g);
+        let bytes = packet::data_of(geometry::page_of(image, g, page), size);
+        unowned = survey_bytes(bytes, c.bytes, table, unowned)?;
+        if next.page == 0 {
+            return Some(unowned);
         }
+        c = next;
     }
 }

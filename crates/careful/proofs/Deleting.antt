@@ -1,35 +1,32 @@
 -- The careful delete: it takes no page, so its marks are the bitmap as it stands, and its page writes are the plain delete's.
-use mathlib.Core.Path.{◌≡◌, refl, ap, sym, ◌∙◌}
+use Rattle.refusals.specs.declared.Refusal.{Refusal}
+use Rattle.std.specs.Prelude.{Result, Some}
+use mathlib.Core.Path.{◌≡◌, ap, sym, ◌∙◌}
 use mathlib.Core.List.{List, ◌++◌}
-use Prim.Native.Nat.{ℕ, ◌≤◌, ◌<◌, ◌*◌}
+use Prim.Native.Nat.{ℕ, ◌<◌, ◌*◌}
 use native.Mathlib.Omega.{arith}
 use lib.ListN.{length, get_or, drop}
 use Rattle.rules.specs.Owners.{OwnerRecord}
 use Rattle.owners.specs.Records.{records_of}
 use Rattle.geometry.specs.declared.Geometry.{Geometry}
-use Rattle.geometry.specs.declared.Shape.TheVariants.{Fits}
 use Rattle.geometry.specs.Geometry.{geometry_of, Fit}
 use Rattle.geometry.specs.NumberLaws.{bytes_from}
 use Rattle.packet.specs.declared.Budget.{Budget}
 use Rattle.packet.specs.Budgets.{with_limit}
 use Rattle.rules.specs.declared.WriteCount.{WriteCount}
-use Rattle.rules.specs.declared.Halted.{Halted}
 use Rattle.rules.specs.Result.{Res, ok, err, and_then}
 use Rattle.rules.proofs.ResultLaws.{then_ok, then_err, then_assoc, then_cong}
-use Rattle.rules.specs.PageSets.{count}
 use Rattle.rules.specs.Chain.{views_of}
-use Rattle.rules.specs.Tree.{Image, used}
 use Rattle.rules.specs.Check.{check}
-use Rattle.rules.specs.Paths.{Path, Place, Target}
+use Rattle.rules.specs.Paths.{Target}
 use Rattle.rules.specs.Writes.{edited, edit_writes}
 use Rattle.rules.specs.Delete.{delete_target, delete_edit}
-use Rattle.rules.specs.Answers.{count_result}
+use Rattle.rules.specs.Answers.{answer_of}
 use Rattle.rules.specs.Careful.{halted_at, careful_writes, careful_delete, careful_delete_call, count_of}
 use Rattle.rules.specs.CarefulPromises.{IsDone, CarefullyDeletes}
 use Rattle.editing_theorems.specs.DeleteLaws.{stands_in, delete_shows, a_delete_lem}
 use Rattle.careful_theorems.proofs.MarkedPages.{marks_stand}
 use Rattle.careful_theorems.proofs.CarefulCalls.{careful_delete_stated}
-use Rattle.edit.specs.declared.Outcome.{Outcome}
 use Rattle.delete.specs.Deletes.{delete_writes, PathDeleted}
 use Rattle.volume.specs.Edits.{effect_of, TableOf, EffectLeaves}
 use Rattle.volume.proofs.EditLaws.{effective_leaves}
@@ -53,7 +50,7 @@ same_writes g path image fit table T x t =
     ap (λ (m : List ℕ). edit_writes g m e i j) (marks_stand g i j (λ y h. omega (arith, s.total y, h)))
 
 -- ---- an accepted image
-module _ (g : Geometry) (image : List ℕ) (table : List OwnerRecord) (path : List ℕ) (fit : Fit g image) (T : TableOf g image table) (k : ℕ) (budget : Budget) (b : budget ≡ with_limit k) (after : List ℕ) (o : Outcome)
+module _ (g : Geometry) (image : List ℕ) (table : List OwnerRecord) (path : List ℕ) (fit : Fit g image) (T : TableOf g image table) (k : ℕ) (budget : Budget) (b : budget ≡ with_limit k) (after : List ℕ) (o : Result Budget Refusal)
     (h : PathDeleted g image path budget after o) where
   rule_is : careful_delete g k path image ≡ and_then (and_then (delete_target path T.tree.tree) (λ x. ok (delete_writes g T.tree x))) (λ ws. ok (halted_at g k ws image))
   unfolding careful_delete
@@ -66,21 +63,21 @@ module _ (g : Geometry) (image : List ℕ) (table : List OwnerRecord) (path : Li
   pub delete_spent : HasSpent o k
   delete_spent = has_spent g (and_then (delete_target path T.tree.tree) (λ x. ok (delete_writes g T.tree x))) image k budget b after o (h T.tree T.accepted)
 
-  pub delete_answers : (r : Halted) → r ≡ halt_of o k → ◌≡◌ {A = Res WriteCount × List ℕ} (count_result r, after) (effect_of image (careful_delete g k path image))
-  delete_answers r e = ap (λ (x : Halted). (count_result x, after)) e
+  pub delete_answers : (r : Result WriteCount Refusal) → r ≡ halt_of o k → ◌≡◌ {A = Res WriteCount × List ℕ} (answer_of r, after) (effect_of image (careful_delete g k path image))
+  delete_answers r e = ap (λ (x : Result WriteCount Refusal). (answer_of x, after)) e
       ∙ halts_as g (and_then (delete_target path T.tree.tree) (λ x. ok (delete_writes g T.tree x))) image k budget b after o (h T.tree T.accepted) ∙ sym (ap (effect_of image) rule_is)
 
 -- ---- any image
 module _ (P N : ℕ) (image table path : List ℕ) (k : ℕ) where
-  pub deleted : (g : Geometry) → geometry_of P N (length image) (length table) ≡ Fits g → (part : List ℕ) → length part ≡ 4 * g.pages → ((i : ℕ) → get_or (part ++ drop (4 * g.pages) table) i 0 < 256)
-      → (r : Halted) (after : List ℕ) → EffectLeaves g image (careful_delete g k path image) (count_result r) after (records_of part)
-      → (count_result r, after, part ++ drop (4 * g.pages) table) ≡ careful_delete_call P N image table k path
+  pub deleted : (g : Geometry) → geometry_of P N (length image) (length table) ≡ Some g → (part : List ℕ) → length part ≡ 4 * g.pages → ((i : ℕ) → get_or (part ++ drop (4 * g.pages) table) i 0 < 256)
+      → (r : Result WriteCount Refusal) (after : List ℕ) → EffectLeaves g image (careful_delete g k path image) (answer_of r) after (records_of part)
+      → (answer_of r, after, part ++ drop (4 * g.pages) table) ≡ careful_delete_call P N image table k path
   unfolding careful_delete_call
-  deleted g e part l h r after x = effective_leaves P N image table g e part l h (λ g. careful_delete g k path image) (count_result r) after x
+  deleted g e part l h r after x = effective_leaves P N image table g e part l h (λ g. careful_delete g k path image) (answer_of r) after x
 
-  pub delete_is : (h : (i : ℕ) → get_or image i 0 < 256) (r : Halted) (after t : List ℕ)
-      → (count_result r, after, t) ≡ careful_delete_call P N image table k path → CarefullyDeletes P N image table k path (IsDone (count_result r)) (count_of (count_result r)) after
+  pub delete_is : (h : (i : ℕ) → get_or image i 0 < 256) (r : Result WriteCount Refusal) (after t : List ℕ)
+      → (answer_of r, after, t) ≡ careful_delete_call P N image table k path → CarefullyDeletes P N image table k path (IsDone (answer_of r)) (count_of (answer_of r)) after
   delete_is h r after t e =
-      let q : count_result r ≡ (careful_delete_call P N image table k path).0 = ap (λ (x : Res WriteCount × List ℕ × List ℕ). x.0) e in
+      let q : answer_of r ≡ (careful_delete_call P N image table k path).0 = ap (λ (x : Res WriteCount × List ℕ × List ℕ). x.0) e in
       let a : after ≡ (careful_delete_call P N image table k path).1 = ap (λ (x : Res WriteCount × List ℕ × List ℕ). x.1) e in
       rw (q, a) (careful_delete_stated P N image table (bytes_from image h) k path)

@@ -1,10 +1,11 @@
 -- A careful put of a file: the marks, then the edit over the marked image, are the rule's list of page writes; the chain that is replaced stands to the end.
+use Rattle.refusals.specs.declared.Fault.TheVariants as fault
 use mathlib.Core.Path.{◌≡◌, refl, ap, sym, ◌∙◌, subst}
 use mathlib.Core.Bool.{true, false}
 use mathlib.Core.List.{List, ◌++◌}
 use Prim.Native.Nat.{ℕ, ◌+◌, ◌≤◌}
 use native.Mathlib.Omega.{arith}
-use lib.ListN.{length, take}
+use lib.ListN.{length}
 use Rattle.geometry.specs.declared.Geometry.{Geometry}
 use Rattle.geometry.specs.Geometry.{data_capacity, Fit}
 use Rattle.packet.specs.Packet.{View, view_of, Write}
@@ -16,7 +17,7 @@ use Rattle.rules.proofs.ResultLaws.{then_ok, then_err}
 use Rattle.rules.specs.PageSets.{count, free_pages}
 use Rattle.rules.proofs.PageSetLaws.{count_append, range_le}
 use Rattle.rules.specs.Chain.{one_view, views_of, Link, pages, linked, pages_for}
-use Rattle.rules.specs.Tree.{Items, own_pages, all_pages, map_pages, Image, used}
+use Rattle.rules.specs.Tree.{own_pages, all_pages, map_pages, Image, used}
 use Rattle.rules.specs.Bitmap.{bitmap_of}
 use Rattle.rules.proofs.BitmapLaws.{pages_remap}
 use Rattle.rules.specs.WellFormed.{HasPackets}
@@ -42,14 +43,12 @@ use Rattle.marks.specs.MapPages.{HasRoot, WritesMap}
 use Rattle.marks.specs.RootLaws.{root_held}
 use Rattle.edit.specs.declared.Pages.{Pages}
 use Rattle.edit.specs.declared.NewFile.{NewFile}
-use Rattle.edit.specs.declared.Taken.{Taken}
-use Rattle.edit.specs.declared.Taken.TheVariants as took
-use Rattle.edit.specs.declared.Outcome.TheVariants as outcome
+use Rattle.std.specs.Prelude.{Ok, Err, Option, Some}
 use Rattle.edit.specs.Pages.{Takes}
 use Rattle.edit.specs.OldChains.{links_of, OldChain}
-use Rattle.edit.specs.Plans.{change_of, entry_of, Plan, Putting, Outcomes}
+use Rattle.edit.specs.Plans.{Putting, Outcomes}
 use Rattle.edit.specs.StepLaws.{step₃}
-use Rattle.edit.specs.FilePlans.{full, T', room, edit_is, SameEdit, plan_of, plan_image, plan_left, plan_steps, taken_below, left_then}
+use Rattle.edit.specs.FilePlans.{full, T', room, edit_is, SameEdit, plan_of, plan_image, plan_left, plan_steps, left_then}
 use Rattle.careful.specs.MarkedPuts.{MarkedPut, PutsMarked, CarefulPutting, careful_put_writes}
 
 -- a file that was found has its chain
@@ -75,15 +74,15 @@ module _ {g : Geometry} {image : List ℕ} {table : List OwnerRecord} {bytes : L
   abbrev pub writes : Res (List Write)
   writes = careful_put_writes g bytes Q.putting.asked.tree (record { to = Q.putting.asked.to; place = Q.putting.asked.place })
 
-  pub careful_full : (n : ℕ) → n ≡ pages_for (data_capacity g) (length bytes) → (r : Taken) → Takes table f.extra n r → r ≡ took.Full → (budget : Budget)
-      → Outcomes g writes image budget image (outcome.Refused 17 0)
+  pub careful_full : (n : ℕ) → n ≡ pages_for (data_capacity g) (length bytes) → (r : Option Pages) → Takes table f.extra n r → ((p : Pages) → r ≡ Some p → ⊥) → (budget : Budget)
+      → Outcomes g writes image budget image (Err (record { 0 = fault.NoRoom; 1 = 0 }))
   careful_full n e r T m budget = (simp (full sized P n e r T m, then_err), refl)
 
   -- the bitmap stands where the root places it
   pub root_there : HasRoot g (view_of g image)
   root_there = record { bits = bitmap_of g (used tree) tree.map; tree = tree.tree; map = tree.map; held = root_held g image (bitmap_of g (used tree) tree.map) tree a.well.holds }
 
-  module _ {n : ℕ} (n_is : n ≡ pages_for (data_capacity g) (length bytes)) {r : Taken} (T : Takes table f.extra n r) {p : Pages} (m : r ≡ took.At p) where
+  module _ {n : ℕ} (n_is : n ≡ pages_for (data_capacity g) (length bytes)) {r : Option Pages} (T : Takes table f.extra n r) {p : Pages} (m : r ≡ Some p) where
     abbrev C : CarefulEdit g image
     C = careful.careful_edit g image bytes P.stands a (room sized P n_is T m)
 
@@ -120,13 +119,13 @@ module _ {g : Geometry} {image : List ℕ} {table : List OwnerRecord} {bytes : L
       list_from now e = e ∙ ap (write_all g rest) h ∙ sym (all_joined g (A C) rest (record { image = image; budget = budget }))
           ∙ sym (ap (λ (ws : List Write). write_all g ws (record { image = image; budget = budget })) (four_parts C))
 
-      done : (now : Progress) → now ≡ write_all g rest (record { image = mid; budget = marked }) → Outcomes g writes image budget now.image (outcome.Done now.budget)
+      done : (now : Progress) → now ≡ write_all g rest (record { image = mid; budget = marked }) → Outcomes g writes image budget now.image (Ok now.budget)
       done now e =
           let x = laws.the_edit g image bytes P.stands a (free_pages (used tree) g.pages) in
           (careful_writes g a.to.directories x tree, simp (edit_is sized P n_is T m, then_ok), list_from now e)
 
       -- a write was held back
-      pub marking_stop : marked.stopped ≡ true → Outcomes g writes image budget mid (outcome.Done marked)
+      pub marking_stop : marked.stopped ≡ true → Outcomes g writes image budget mid (Ok marked)
       marking_stop z =
           let q : (write_all g (A C) (record { image = image; budget = budget })).budget.stopped ≡ true = ap (λ (x : Progress). x.budget.stopped) (sym h) ∙ z in
           let s = all_stopped g (A C) (record { image = image; budget = budget }) o q in
@@ -197,7 +196,7 @@ module _ {g : Geometry} {image : List ℕ} {table : List OwnerRecord} {bytes : L
         to_put = subst (λ (i : List ℕ). MarkedPut g i table bytes f p n) (sym image_is) marked_image
 
         -- ---- the whole
-        pub careful_done : (after : List ℕ) (left : Budget) → PutsMarked g mid table bytes f p n marked after left → Outcomes g writes image budget after (outcome.Done left)
+        pub careful_done : (after : List ℕ) (left : Budget) → PutsMarked g mid table bytes f p n marked after left → Outcomes g writes image budget after (Ok left)
         unfolding marked_image
         careful_done after left k =
             let now : Progress = record { image = after; budget = left } in

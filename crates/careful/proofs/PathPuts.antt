@@ -1,4 +1,6 @@
 -- A careful put by path: the file put where it goes, over the table of all pages in use.
+use Rattle.std.specs.Prelude.{Result, Ok, Err}
+use Rattle.refusals.specs.declared.Refusal.{Refusal}
 use mathlib.Core.Path.{◌≡◌, refl, sym, ◌∙◌, subst}
 use mathlib.Core.List.{List}
 use Prim.Native.Nat.{ℕ, ◌<◌}
@@ -7,35 +9,30 @@ use Rattle.geometry.specs.declared.Geometry.{Geometry}
 use Rattle.geometry.specs.Geometry.{Fit}
 use Rattle.packet.specs.Packet.{Write}
 use Rattle.packet.specs.declared.Budget.{Budget}
-use Rattle.rules.specs.Result.{Res, ok, err, and_then}
+use Rattle.rules.specs.Result.{Res, and_then}
 use Rattle.rules.proofs.ResultLaws.{ok_inj, then_ok, then_err}
-use Rattle.rules.specs.Chain.{views_of}
+use Rattle.rules.specs.Answers.{refused}
 use Rattle.rules.specs.Tree.{Image}
-use Rattle.rules.specs.Check.{check}
 use Rattle.rules.specs.Paths.{Target, a_file}
 use Rattle.rules.specs.Put.{put_target}
 use Rattle.rules.specs.Owners.{OwnerRecord}
 use Rattle.careful_theorems.proofs.CarefulPuts as careful
 use Rattle.edit.specs.declared.NewFile.{NewFile}
-use Rattle.edit.specs.declared.Outcome.{Outcome}
-use Rattle.edit.specs.declared.Outcome.TheVariants as outcome
 use Rattle.edit.specs.Plans.{Outcomes}
 use Rattle.volume.specs.Edits.{TableOf}
-use Rattle.put.specs.declared.Placed.{Placed}
-use Rattle.put.specs.declared.Placed.TheVariants as placed
 use Rattle.put.specs.Places.{ItemPlace, IsPlaced, Places}
 use Rattle.put.proofs.PathPuts.{asked, table_used}
 use Rattle.careful.specs.MarkedPuts.{CarefulPutting, careful_put_writes, CarefullyPutsFile, CarefulPathPut}
 
 module _ (g : Geometry) (image : List ℕ) (table : List OwnerRecord) (path bytes : List ℕ) (fit : Fit g image) (T : TableOf g image table) (path_fits : (i : ℕ) → get_or path i 0 < 256) (bytes_fit : (i : ℕ) → get_or bytes i 0 < 256)
-    (r : Placed) (h : Places g image path r) (budget : Budget) where
+    (r : Result NewFile Refusal) (h : Places g image path r) (budget : Budget) where
   abbrev tree : Image
   tree = T.tree
 
-  pub refused : (n p : ℕ) → r ≡ placed.Refused n p → CarefulPathPut g image path bytes budget image (outcome.Refused n p)
-  refused n p e i c = let z : put_target path i.tree ≡ err n p = subst (λ (x : Placed). IsPlaced g image (put_target path) i x) e (h i c) in (simp (z, then_err), refl)
+  pub refuses : (z : Refusal) → r ≡ Err z → CarefulPathPut g image path bytes budget image (Err z)
+  refuses z e i c = let z : put_target path i.tree ≡ refused z = subst (λ (x : Result NewFile Refusal). IsPlaced g image (put_target path) i x) e (h i c) in (simp (z, then_err), refl)
 
-  module _ (f : NewFile) (e : r ≡ placed.At f) where
+  module _ (f : NewFile) (e : r ≡ Ok f) where
     place : ItemPlace g image (put_target path) tree f
     place = subst (IsPlaced g image (put_target path) tree) e (h tree T.accepted)
 
@@ -54,7 +51,7 @@ module _ (g : Geometry) (image : List ℕ) (table : List OwnerRecord) (path byte
           pages_are = place.pages_are;
         }
 
-    pub put_at_lem : (after : List ℕ) (o : Outcome) → CarefullyPutsFile g image table bytes f budget after o → CarefulPathPut g image path bytes budget after o
+    pub put_at_lem : (after : List ℕ) (o : Result Budget Refusal) → CarefullyPutsFile g image table bytes f budget after o → CarefulPathPut g image path bytes budget after o
     unfolding to_put
     put_at_lem after o k i c =
         let x = place.goal in

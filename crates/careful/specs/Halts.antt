@@ -1,18 +1,15 @@
 -- For contracts: the answer of a careful edit from what its steps leave of their budget.
-use Rattle.std.specs.Prelude.{◌≡◌, ℕ, ◌-◌, ◌≤◌}
+use Rattle.std.specs.Prelude.{Result, Ok, Err, ℕ, ◌-◌, ◌≤◌}
+use Rattle.refusals.specs.declared.Refusal.{Refusal}
 use Rattle.packet.specs.declared.Budget.{Budget}
 use Rattle.rules.specs.declared.WriteCount.{WriteCount}
-use Rattle.rules.specs.declared.Halted.{Halted}
-use Rattle.rules.specs.declared.Halted.TheVariants as halted
-use Rattle.edit.specs.declared.Outcome.{Outcome}
-use Rattle.edit.specs.declared.Outcome.TheVariants as outcome
 
 -- no more is left than was allowed
-abbrev pub HasSpent : Outcome → ℕ → Type 0
-HasSpent (outcome.Done left) allowed = left.left ≤ allowed
-HasSpent (outcome.Refused n p) allowed = Unit {0}
+abbrev pub HasSpent : Result Budget Refusal → ℕ → Type 0
+HasSpent (Ok left) allowed = left.left ≤ allowed
+HasSpent (Err r) allowed = Unit {0}
 
 -- the writes made, and whether any are left
-abbrev pub halt_of : Outcome → ℕ → Halted
-halt_of (outcome.Done left) allowed = halted.Done (record { made = allowed - left.left; left = left.stopped })
-halt_of (outcome.Refused n p) allowed = halted.Refused n p
+abbrev pub halt_of : Result Budget Refusal → ℕ → Result WriteCount Refusal
+halt_of (Ok left) allowed = Ok (record { made = allowed - left.left; left = left.stopped })
+halt_of (Err r) allowed = Err r

@@ -1,5 +1,6 @@
 -- For contracts: a careful put within a budget.
-use Rattle.std.specs.Prelude.{◌≡◌, List, ℕ, ◌+◌, ◌≤◌, length}
+use Rattle.refusals.specs.declared.Refusal.{Refusal}
+use Rattle.std.specs.Prelude.{Result, ◌≡◌, List, ℕ, ◌+◌, ◌≤◌, length}
 use Rattle.geometry.specs.declared.Geometry.{Geometry}
 use Rattle.packet.specs.Packet.{view_of, Write}
 use Rattle.packet.specs.declared.Budget.{Budget}
@@ -18,7 +19,6 @@ use Rattle.owners.specs.Owned.{Marks}
 use Rattle.editing_theorems.specs.EditedImage.{left, image₂}
 use Rattle.edit.specs.declared.Pages.{Pages}
 use Rattle.edit.specs.declared.NewFile.{NewFile}
-use Rattle.edit.specs.declared.Outcome.{Outcome}
 use Rattle.edit.specs.OldChains.{links_of, OldChain}
 use Rattle.edit.specs.Plans.{change_of, entry_of, Plan, Putting, Outcomes}
 use Rattle.edit.specs.StepLaws.{step₃}
@@ -46,10 +46,10 @@ pub record CarefulPutting (g : Geometry) (image : List ℕ) (table : List OwnerR
 abbrev pub careful_put_writes : Geometry → List ℕ → Image → Target → Res (List Write)
 careful_put_writes g bytes i x = and_then (put_edit g (free_pages (used i) g.pages) x.to bytes x.place) (λ e. ok (careful_writes g x.to.directories e i))
 
-abbrev pub CarefullyPutsFile : Geometry → List ℕ → List OwnerRecord → List ℕ → NewFile → Budget → List ℕ → Outcome → Type 0
+abbrev pub CarefullyPutsFile : Geometry → List ℕ → List OwnerRecord → List ℕ → NewFile → Budget → List ℕ → Result Budget Refusal → Type 0
 CarefullyPutsFile g image table bytes f budget after r = (p : CarefulPutting g image table bytes f)
     → Outcomes g (careful_put_writes g bytes p.putting.asked.tree (record { to = p.putting.asked.to; place = p.putting.asked.place })) image budget after r
 
 -- by path: the page writes are the rule's
-abbrev pub CarefulPathPut : Geometry → List ℕ → List ℕ → List ℕ → Budget → List ℕ → Outcome → Type 0
+abbrev pub CarefulPathPut : Geometry → List ℕ → List ℕ → List ℕ → Budget → List ℕ → Result Budget Refusal → Type 0
 CarefulPathPut g image path bytes budget after r = (i : Image) → check g (views_of g image) ≡ ok i → Outcomes g (and_then (put_target path i.tree) (careful_put_writes g bytes i)) image budget after r

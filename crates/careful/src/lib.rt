@@ -5,18 +5,18 @@ ghost use Rattle.std.specs.Prelude.{◌*◌, ◌≡◌, length};
 ghost use Rattle.owners.specs.Records.{records_of};
 ghost use Rattle.geometry.specs.Geometry.{Fit};
 ghost use Rattle.packet.specs.Budgets.{Open};
-ghost use Rattle.rules.specs.Answers.{count_result};
+ghost use Rattle.rules.specs.Answers.{answer_of};
 ghost use Rattle.rules.specs.Careful.{careful_put, careful_put_call, careful_delete, careful_delete_call, count_of};
 ghost use Rattle.rules.specs.CarefulPromises.{IsDone, CarefullyPuts, CarefullyDeletes};
 ghost use Rattle.volume.specs.Edits.{TableOf, EffectLeaves};
 ghost use Rattle.careful.specs.MarkedPuts.{MarkedPut, PutsMarked, CarefulPutting, CarefullyPutsFile, CarefulPathPut};
 ghost use Rattle.careful.specs.Halts.{HasSpent, halt_of};
 
-use edit::{NewFile, Outcome, Pages, Taken};
-use geometry::{Geometry, RECORD_BYTES, Shape};
+use edit::{NewFile, Pages};
+use geometry::{Geometry, RECORD_BYTES};
 use packet::Budget;
-use put::Placed;
-use rules::{Checked, Halted, WriteCount};
+use refusals::{Fault, Refusal};
+use rules::WriteCount;
 
 // Stores a file whose pages are marked in the bitmap and writes its entry, then the bitmap without the chain that it replaces.
 fn put_marked(
@@ -50,22 +50,20 @@ fn put_file(
     bytes: &[u8],
     table: &mut [u8],
     budget: Budget,
-) -> Outcome
+) -> Result<Budget, Refusal>
     requires fit { Fit g image.old }
     requires table_len { (length table.old ≡ 4 * g.pages) × CarefulPutting g image.old (records_of table.old) bytes.now file × Open budget }
     ensures { CarefullyPutsFile g image.old (records_of table.old) bytes.now file budget image.new result }
 {
     let pages = writes::pages_for(bytes.len(), g.data_capacity());
-    match edit::find_pages(table, file.extra, pages) {
-        Taken::Full => Outcome::Refused(17, 0),
-        Taken::At(taken) => {
-            let marked = marks::write_map(image, g, table, taken.below, budget);
-            if marked.stopped {
-                return Outcome::Done(marked);
-            }
-            Outcome::Done(put_marked(image, g, file, taken, pages, bytes, table, marked))
-        }
+    let Some(taken) = edit::find_pages(table, file.extra, pages) else {
+        return Err(Refusal(Fault::NoRoom, 0));
+    };
+    let marked = marks::write_map(image, g, table, taken.below, budget);
+    if marked.stopped {
+        return Ok(marked);
     }
+    Ok(put_marked(image, g, file, taken, pages, bytes, table, marked))
 }
 
 // Puts bytes at a path within a budget. The table has the owners of the image's pages. 14, 15, 22, 16, 17.
@@ -76,32 +74,25 @@ fn put_path(
     bytes: &[u8],
     table: &mut [u8],
     budget: Budget,
-) -> Outcome
+) -> Result<Budget, Refusal>
     requires fit { Fit g image.old }
     requires table_len { (length table.old ≡ 4 * g.pages) × TableOf g image.old (records_of table.old) × Open budget }
     ensures { CarefulPathPut g image.old path.now bytes.now budget image.new result }
 {
-    match put::place_file(image, g, path) {
-        Placed::Refused(number, page) => Outcome::Refused(number, page),
-        Placed::At(file) => put_file(image, g, file, bytes, table, budget),
-    }
+    let file = put::place_file(image, g, path)?;
+    put_file(image, g, file, bytes, table, budget)
 }
 
 // What a careful edit answers that may make so many writes.
-fn halted(outcome: Outcome, allowed: usize) -> Halted
+fn halted(outcome: Result<Budget, Refusal>, allowed: usize) -> Result<WriteCount, Refusal>
     requires { HasSpent outcome allowed }
     ensures { result ≡ halt_of outcome allowed }
 {
-    match outcome {
-        Outcome::Refused(number, page) => Halted::Refused(number, page),
-        Outcome::Done(left) => {
-            let made = allowed - left.left;
-            Halted::Done(WriteCount {
-                made,
-                left: left.stopped,
-            })
-        }
-    }
+    let left = outcome?;
+    Ok(WriteCount {
+        made: allowed - left.left,
+        left: left.stopped,
+    })
 }
 
 // Puts into an image whose geometry is known: the check, the put, then the table of the image as it then stands.
@@ -112,19 +103,15 @@ fn put_in(
     bytes: &[u8],
     table: &mut [u8],
     allowed: usize,
-) -> Halted
+) -> Result<WriteCount, Refusal>
     requires fit { Fit g image.old }
     requires table_len { length table.old ≡ 4 * g.pages }
-    ensures { EffectLeaves g image.old (careful_put g allowed path.now bytes.now image.old) (count_result result) image.new (records_of table.new) }
+    ensures { EffectLeaves g image.old (careful_put g allowed path.now bytes.now image.old) (answer_of result) image.new (records_of table.new) }
 {
-    match volume::check_table(image, g, table) {
-        Checked::Refused(number, page) => Halted::Refused(number, page),
-        Checked::Done(_) => {
-            let outcome = put_path(image, g, path, bytes, table, Budget::limited(allowed));
-            volume::check_table(image, g, table);
-            halted(outcome, allowed)
-        }
-    }
+    volume::check_table(image, g, table)?;
+    let outcome = put_path(image, g, path, bytes, table, Budget::limited(allowed));
+    let _ = volume::check_table(image, g, table);
+    halted(outcome, allowed)
 }
 
 // Puts bytes at a path with at most so many page writes, such that the image can be mended whatever write is the last. Fills the owner table as a check of the image as it then stands.
@@ -136,33 +123,31 @@ pub fn put(
     bytes: &[u8],
     table: &mut [u8],
     allowed: usize,
-) -> Halted
-    ensures table_after { (count_result result, image.new, table.new) ≡ careful_put_call size pages image.old table.old allowed path.now bytes.now }
-    ensures carefully_puts { CarefullyPuts size pages image.old table.old allowed path.now bytes.now (IsDone (count_result result)) (count_of (count_result result)) image.new }
+) -> Result<WriteCount, Refusal>
+    ensures table_after { (answer_of result, image.new, table.new) ≡ careful_put_call size pages image.old table.old allowed path.now bytes.now }
+    ensures carefully_puts { CarefullyPuts size pages image.old table.old allowed path.now bytes.now (IsDone (answer_of result)) (count_of (answer_of result)) image.new }
 {
-    match Geometry::new(size, pages, image.len(), table.len()) {
-        Shape::Invalid => Halted::Refused(1, 0),
-        Shape::Fits(g) => {
-            let end = RECORD_BYTES * g.pages;
-            put_in(image, g, path, bytes, &mut table[..end], allowed)
-        }
-    }
+    let g = Geometry::new(size, pages, image.len(), table.len())?;
+    let end = RECORD_BYTES * g.pages;
+    put_in(image, g, path, bytes, &mut table[..end], allowed)
 }
 
 // Deletes in an image whose geometry is known: the check, the delete, then the table of the image as it then stands.
-fn delete_in(image: &mut [u8], g: Geometry, path: &[u8], table: &mut [u8], allowed: usize) -> Halted
+fn delete_in(
+    image: &mut [u8],
+    g: Geometry,
+    path: &[u8],
+    table: &mut [u8],
+    allowed: usize,
+) -> Result<WriteCount, Refusal>
     requires fit { Fit g image.old }
     requires table_len { length table.old ≡ 4 * g.pages }
-    ensures { EffectLeaves g image.old (careful_delete g allowed path.now image.old) (count_result result) image.new (records_of table.new) }
+    ensures { EffectLeaves g image.old (careful_delete g allowed path.now image.old) (answer_of result) image.new (records_of table.new) }
 {
-    match volume::check_table(image, g, table) {
-        Checked::Refused(number, page) => Halted::Refused(number, page),
-        Checked::Done(_) => {
-            let deleted = delete::delete_path(image, g, path, table, Budget::limited(allowed));
-            volume::check_table(image, g, table);
-            halted(deleted, allowed)
-        }
-    }
+    volume::check_table(image, g, table)?;
+    let deleted = delete::delete_path(image, g, path, table, Budget::limited(allowed));
+    let _ = volume::check_table(image, g, table);
+    halted(deleted, allowed)
 }
 
 // Deletes the file at a path with at most so many page writes: a delete takes no page, so its entry goes first, then its marks. Fills the owner table as a check of the image as it then stands.
@@ -173,15 +158,11 @@ pub fn delete(
     path: &[u8],
     table: &mut [u8],
     allowed: usize,
-) -> Halted
-    ensures table_after { (count_result result, image.new, table.new) ≡ careful_delete_call size pages image.old table.old allowed path.now }
-    ensures carefully_deletes { CarefullyDeletes size pages image.old table.old allowed path.now (IsDone (count_result result)) (count_of (count_result result)) image.new }
+) -> Result<WriteCount, Refusal>
+    ensures table_after { (answer_of result, image.new, table.new) ≡ careful_delete_call size pages image.old table.old allowed path.now }
+    ensures carefully_deletes { CarefullyDeletes size pages image.old table.old allowed path.now (IsDone (answer_of result)) (count_of (answer_of result)) image.new }
 {
-    match Geometry::new(size, pages, image.len(), table.len()) {
-        Shape::Invalid => Halted::Refused(1, 0),
-        Shape::Fits(g) => {
-            let end = RECORD_BYTES * g.pages;
-            delete_in(image, g, path, &mut table[..end], allowed)
-        }
-    }
+    let g = Geometry::new(size, pages, image.len(), table.len())?;
+    let end = RECORD_BYTES * g.pages;
+    delete_in(image, g, path, &mut table[..end], allowed)
 }

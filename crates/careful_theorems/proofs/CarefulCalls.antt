@@ -1,7 +1,7 @@
 -- What the careful calls and the mend state, of the rules' calls.
 use Rattle.std.proofs.Math.Path.{◌≡◌, refl, ap}
 use Rattle.std.proofs.Common.{sym, ◌∙◌, arith, lt-ltb, le-ltb, le-leb, eq-eqb, eqb-true}
-use Rattle.std.specs.Prelude.{Bool, length}
+use Rattle.std.specs.Prelude.{None, Bool, length}
 use Rattle.std.proofs.Math.Bool.{true, false}
 use Rattle.std.proofs.lemmas.Bool.{false≢true}
 use mathlib.Core.List.{List}
@@ -9,7 +9,6 @@ use Prim.Native.Nat.{ℕ, ◌+◌, ◌*◌}
 use Rattle.std.proofs.Math.Decide.{dec_lt}
 use Rattle.std.proofs.Math.Dec.{eqb}
 use Rattle.geometry.specs.declared.Geometry.{Geometry}
-use Rattle.geometry.specs.declared.Shape.TheVariants.{Invalid}
 use Rattle.geometry.specs.ChooseLaws.{choose_true, choose_false}
 use Rattle.geometry.specs.Geometry.{Fit}
 use Rattle.geometry.specs.ShapeLaws.{fit_of}
@@ -118,7 +117,7 @@ module _ (P N : ℕ) (image table : List ℕ) where
   cleared_none (err n p) h = refl
 
   -- refusal 1 leaves image and table
-  module _ (wrong : shape P N image table ≡ Invalid) where
+  module _ (wrong : shape P N image table ≡ None) where
     pub careful_put_invalid : (k : ℕ) (path bytes : List ℕ) → careful_put_call P N image table k path bytes ≡ (err 1 0, image, table)
     unfolding careful_put_call
     careful_put_invalid k path bytes = rw wrong refl

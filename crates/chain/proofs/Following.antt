@@ -5,6 +5,7 @@ use Prim.Native.Nat.{ℕ, suc, ◌+◌, ◌*◌, ◌≤◌, ◌<◌}
 use native.Mathlib.Omega.{arith}
 use lib.ListN.{length, take, drop, length-take, length-append}
 use borrow.Author.Tests.{lt-ltb}
+use Rattle.std.specs.Prelude.{Ok}
 use Rattle.geometry.specs.declared.Geometry.{Geometry}
 use Rattle.geometry.specs.ChooseLaws.{choose_true}
 use Rattle.geometry.specs.Geometry.{Fit}
@@ -17,8 +18,6 @@ use Rattle.rules.specs.Chain.{Link, link, pages, first, content, Test}
 use Rattle.rules.proofs.ChainLaws.{IsChain, length_pages, first_nonzero}
 use Rattle.rules.specs.ChainLaws.{rest}
 use Rattle.chain.specs.declared.Cursor.{Cursor}
-use Rattle.chain.specs.declared.Step.{Step}
-use Rattle.chain.specs.declared.Step.TheVariants as step
 use Rattle.chain.specs.Steps.{first_step, after, passed, step_of}
 use Rattle.chain.specs.Claims.{IsGood, Counted}
 use Rattle.chain.specs.KnownChain.{ChainAt}
@@ -68,25 +67,18 @@ small_view g image f p b n e =
 
 -- ---- a step over a right packet
 module _ (g : Geometry) (v : View) (c : Cursor) (h : c.page < g.pages) where
-  pub never_refused : IsGood (v c.page) → (n p : ℕ) → step.Refused n p ≡ step_of g v c → ⊥
-  unfolding step_of
-  never_refused k n p e = go (v c.page) k (e ∙ simp (lt-ltb c.page g.pages h, choose_true))
-    where
-      go : (x : Packet) → IsGood x → step.Refused n p ≡ passed c x → ⊥
-      go bad k e = k
-      go (good b m) k e = let z : ◌≡◌ {A = ℕ} 0 1 = cc in omega arith
-
   -- what it passes
-  pub stepped : (size : ℕ) (d : Cursor) → step.Page size d ≡ step_of g v c → (b : List ℕ) × (v c.page ≡ good b d.page) × (length b ≡ size) × (d ≡ after c size d.page)
+  pub stepped : (size : ℕ) (d : Cursor) → Ok (size, d) ≡ step_of g v c → (b : List ℕ) × (v c.page ≡ good b d.page) × (length b ≡ size) × (d ≡ after c size d.page)
   unfolding step_of
   stepped size d e = go (v c.page) refl (e ∙ simp (lt-ltb c.page g.pages h, choose_true))
     where
-      go : (x : Packet) → v c.page ≡ x → step.Page size d ≡ passed c x → (b : List ℕ) × (v c.page ≡ good b d.page) × (length b ≡ size) × (d ≡ after c size d.page)
+      go : (x : Packet) → v c.page ≡ x → Ok (size, d) ≡ passed c x → (b : List ℕ) × (v c.page ≡ good b d.page) × (length b ≡ size) × (d ≡ after c size d.page)
       go bad q e = absurd (let z : ◌≡◌ {A = ℕ} 0 1 = cc in omega arith)
       go (good b m) q e =
-          let i : d ≡ after c (length b) m = cc in
+          let p : (size, d) ≡ (length b, after c (length b) m) = cc in
+          let i : d ≡ after c (length b) m = ap (λ (x : ℕ × Cursor). x.1) p in
           let j : m ≡ d.page = ap (λ (x : Cursor). x.page) (sym i) in
-          let l : length b ≡ size = cc in
+          let l : length b ≡ size = ap (λ (x : ℕ × Cursor). x.0) (sym p) in
           (b, q ∙ ap (good b) j, l, i ∙ ap₂ (after c) l j)
 
 -- ---- a position before these pages, in a chain of so many
@@ -114,16 +106,16 @@ module _ (g : Geometry) (image : List ℕ) (fit : Fit g image) (total : ℕ) (c 
   pub page_known : (c.page < g.pages) × IsGood (v c.page)
   page_known = first_stands g v c.page more F.chain
 
-  module _ (size : ℕ) (d : Cursor) (s : Step) (m : s ≡ step.Page size d) (o : s ≡ step_of g v c) where
+  module _ (size : ℕ) (d : Cursor) (o : Ok (size, d) ≡ step_of g v c) where
     pub counts_up : d.count ≡ c.count + 1
-    counts_up = ap (λ (x : Cursor). x.count) (stepped g v c page_known.0 size d (sym m ∙ o)).3
+    counts_up = ap (λ (x : Cursor). x.count) (stepped g v c page_known.0 size d o).3
 
     -- the data of the page lie in it
     module _ (page : List ℕ) (e : page ≡ page_of g c.page image) where
       pub data_inside : size + 1 ≤ length page
       unfolding view_of
       data_inside =
-          let k = stepped g v c page_known.0 size d (sym m ∙ o) in
+          let k = stepped g v c page_known.0 size d o in
           let r = right_packet g.width c.page (page_of g c.page image) k.0 d.page k.1 in
           omega (arith, r.room, k.2, ap length e)
 
@@ -137,14 +129,14 @@ module _ (g : Geometry) (image : List ℕ) (fit : Fit g image) (total : ℕ) (c 
 
     pub passes : (b : List ℕ) × Passed c d more b × (length b ≡ size)
     passes =
-        let k = stepped g v c page_known.0 size d (sym m ∙ o) in
+        let k = stepped g v c page_known.0 size d o in
         (k.0, passed_page more F.chain k.0 k.1 (k.3 ∙ ap (λ (n : ℕ). after c n d.page) (sym k.2)), k.2)
 
     -- its bytes as the code cuts them from the page
     pub passes_data : (page : List ℕ) → page ≡ page_of g c.page image → (b : List ℕ) → b ≡ take size (drop 1 page) → Passed c d more b
     unfolding view_of
     passes_data page e b i =
-        let k = stepped g v c page_known.0 size d (sym m ∙ o) in
+        let k = stepped g v c page_known.0 size d o in
         let r = right_packet g.width c.page (page_of g c.page image) k.0 d.page k.1 in
         let j : k.0 ≡ b = r.bytes_are ∙ ap₂ (λ (n : ℕ) (l : List ℕ). take n (drop 1 l)) k.2 (sym e) ∙ sym i in
         subst (Passed c d more) j (passed_page more F.chain k.0 k.1 (k.3 ∙ ap (λ (n : ℕ). after c n d.page) (sym k.2)))

@@ -5,14 +5,13 @@ use Prim.Native.Nat.{ℕ, ◌+◌, ◌-◌, ◌≤◌}
 use native.Mathlib.Omega.{arith}
 use lib.ListN.{length, take, drop, length-append, length-drop}
 use lib.Seq.{drop-drop, take_at, drop_at}
+use Rattle.std.specs.Prelude.{Ok}
 use Rattle.geometry.specs.declared.Geometry.{Geometry}
 use Rattle.geometry.specs.Geometry.{Fit}
 use Rattle.geometry.specs.Page.{page_of, overwritten}
 use Rattle.packet.specs.Packet.{View, view_of}
 use Rattle.rules.specs.Chain.{Link, content}
 use Rattle.chain.specs.declared.Cursor.{Cursor}
-use Rattle.chain.specs.declared.Step.{Step}
-use Rattle.chain.specs.declared.Step.TheVariants as step
 use Rattle.chain.specs.Steps.{first_step, step_of}
 use Rattle.chain.specs.KnownChain.{ChainAt}
 use Rattle.chain.proofs.Following.{Passed, passes, passes_data, ReadTo, read_first, bytes_up, split_whole, read_end, read_on}
@@ -27,21 +26,21 @@ unfolding read_first
 copy_first g v start c ls out e d = record { read = read_first g v start c ls e d; laid = refl }
 
 module _ {g : Geometry} {image : List ℕ} (fit : Fit g image) {total : ℕ} {all : List ℕ} {c : Cursor} (R : ReadTo g (view_of g image) total all c)
-    {size : ℕ} {d : Cursor} {s : Step} (m : s ≡ step.Page size d) (o : s ≡ step_of g (view_of g image) c) where
+    {size : ℕ} {d : Cursor} (o : Ok (size, d) ≡ step_of g (view_of g image) c) where
   -- ---- counted
   pub counted_all : d.page ≡ 0 → d.bytes ≡ length all
   counted_all z =
-      let k = passes g image fit total c R.more R.following size d s m o in
+      let k = passes g image fit total c R.more R.following size d o in
       let e : length all ≡ length R.done + length k.0 = ap length (read_end g image fit total all c d R k.0 k.1 z) ∙ length-append R.done k.0 in
       omega (arith, bytes_up g image fit total all c d R k.0 k.1, R.passed)
 
   pub count_on : (d.page ≡ 0 → ⊥) → total ≤ g.pages → ReadTo g (view_of g image) total all d
-  count_on z u = let k = passes g image fit total c R.more R.following size d s m o in read_on g image fit total all c d R k.0 k.1 z u
+  count_on z u = let k = passes g image fit total c R.more R.following size d o in read_on g image fit total all c d R k.0 k.1 z u
 
   -- ---- copied
   module _ (page : List ℕ) (e : page ≡ page_of g c.page image) (bytes : List ℕ) (i : bytes ≡ take size (drop 1 page)) where
     page_passed : Passed c d R.more bytes
-    page_passed = passes_data g image fit total c R.more R.following size d s m o page e bytes i
+    page_passed = passes_data g image fit total c R.more R.following size d o page e bytes i
 
     -- the page's bytes have their place in the output
     pub has_place : (before out : List ℕ) → out ≡ R.done ++ drop (length R.done) before → length all ≤ length before → c.bytes + length bytes ≤ length out

@@ -3,6 +3,7 @@ use mathlib.Core.Path.{◌≡◌, refl, ap, sym, ◌∙◌}
 use mathlib.Core.List.{List}
 use Prim.Native.Nat.{ℕ, ◌≤◌}
 use lib.ListN.{length, set}
+use Rattle.std.specs.Prelude.{Ok}
 use Rattle.geometry.specs.declared.Geometry.{Geometry}
 use Rattle.geometry.specs.Geometry.{Fit}
 use Rattle.packet.specs.Packet.{View, view_of}
@@ -10,8 +11,6 @@ use Rattle.rules.specs.Chain.{Link, pages, first}
 use Rattle.rules.specs.Owners.{OwnerRecord, free}
 use Rattle.owners.specs.Owned.{freed}
 use Rattle.chain.specs.declared.Cursor.{Cursor}
-use Rattle.chain.specs.declared.Step.{Step}
-use Rattle.chain.specs.declared.Step.TheVariants as step
 use Rattle.chain.specs.Steps.{first_step, step_of}
 use Rattle.chain.specs.KnownChain.{ChainAt}
 use Rattle.chain.proofs.Following.{Following, follow, Passed, passes, all_passed, follow_on}
@@ -26,13 +25,13 @@ pub release_first : (g : Geometry) (v : View) (start : ℕ) (c : Cursor) (ls : L
     → Releasing g v (length ls) (freed (pages ls) table) table c
 release_first g v start c ls table e d = record { more = ls; following = follow g v start c ls e d; whole = refl }
 
-module _ {g : Geometry} {image : List ℕ} (fit : Fit g image) {total : ℕ} {target table : List OwnerRecord} {c : Cursor} (R : Releasing g (view_of g image) total target table c) {size : ℕ} {d : Cursor} {s : Step}
-    (m : s ≡ step.Page size d) (o : s ≡ step_of g (view_of g image) c) where
+module _ {g : Geometry} {image : List ℕ} (fit : Fit g image) {total : ℕ} {target table : List OwnerRecord} {c : Cursor} (R : Releasing g (view_of g image) total target table c)
+    {size : ℕ} {d : Cursor} (o : Ok (size, d) ≡ step_of g (view_of g image) c) where
   abbrev b : List ℕ
-  b = (passes g image fit total c R.more R.following size d s m o).0
+  b = (passes g image fit total c R.more R.following size d o).0
 
   abbrev P : Passed c d R.more b
-  P = (passes g image fit total c R.more R.following size d s m o).1
+  P = (passes g image fit total c R.more R.following size d o).1
 
   left : target ≡ freed (pages P.others) (set table c.page free)
   left =

@@ -1,21 +1,22 @@
 // Chains: a position that steps from page to page and carries its count; a chain's pages claimed for an owner, and made free again.
 #![tactic(auto)]
 
-ghost use Rattle.std.specs.Prelude.{◌≡◌, true, ◌+◌, ◌*◌, ◌<◌, length};
+ghost use Rattle.std.specs.Prelude.{◌≡◌, Ok, ◌*◌, ◌<◌, length};
 ghost use Rattle.geometry.specs.Geometry.{Fit};
 ghost use Rattle.packet.specs.Packet.{view_of};
-ghost use Rattle.packet.specs.Judged.{judged};
 ghost use Rattle.owners.specs.Records.{records_of};
 ghost use Rattle.owners.specs.OwnerLaws.{in_use};
+ghost use Rattle.rules.specs.Answers.{answer_of};
 ghost use Rattle.directory.specs.Faults.{test_of};
-ghost use Rattle.chain.specs.Steps.{first_step, step_of};
+ghost use Rattle.chain.specs.Steps.{first_step, after, step_of};
 ghost use Rattle.chain.specs.Claims.{IsGood, Counted, entered, enter_of, Claims, Releases};
 ghost use Rattle.chain.specs.KnownChain.{KnownChain};
 ghost use Rattle.chain.specs.Contents.{Counts, Fits, Copies};
 
-use directory::control::Kind;
+use directory::control::{Kind, judge_page};
 use geometry::Geometry;
-use packet::Judged;
+use packet::Whole;
+use refusals::{Fault, Refusal};
 
 // A position in a chain: the page to come, the page that holds its number, and how many pages and data bytes were passed.
 #[derive(Clone, Copy)]
@@ -26,39 +27,11 @@ pub struct Cursor {
     pub bytes: usize,
 }
 
-// One step: the page that was passed has so many data bytes, and the next position. The chain ends where the next page is 0.
-#[derive(Clone, Copy)]
-pub enum Step {
-    Page(usize, Cursor),
-    // the number of a refusal of document 01, and its page
-    Refused(u8, usize),
-}
-
-// A page that a chain may have: the next position.
-#[derive(Clone, Copy)]
-pub enum Entered {
-    On(Cursor),
-    Refused(u8, usize),
-}
-
 // A chain claimed: its pages and its data bytes.
 #[derive(Clone, Copy)]
-pub enum Claim {
-    Chain(usize, usize),
-    Refused(u8, usize),
-}
-
-// The packet of a page. Of a page that is known to hold a right one the check is not computed again.
-fn packet_at(image: &[u8], g: Geometry, page: usize, known: bool) -> Judged
-    requires fit { Fit g image.now }
-    requires page_lt_pages { (page < g.pages) × (known ≡ true → IsGood (view_of g image.now page)) }
-    ensures { result ≡ judged (view_of g image.now page) }
-{
-    let b = geometry::page_of(image, g, page);
-    if known {
-        return packet::frame(b, g.width);
-    }
-    packet::judge(b, page, g.width)
+pub struct Claim {
+    pub pages: usize,
+    pub bytes: usize,
 }
 
 impl Cursor {
@@ -74,48 +47,56 @@ impl Cursor {
         }
     }
 
-    // Passes the page to come: its number (6), then its packet (2).
-    pub fn step(self, image: &[u8], g: Geometry, known: bool) -> Step
+    // Past the page to come, which holds this packet. The chain ends where the next page is 0.
+    fn past(self, packet: Whole) -> Cursor
+        requires { Counted self × (packet.length < 256) }
+        ensures { result ≡ after self packet.length packet.next }
+    {
+        Cursor {
+            page: packet.next,
+            from: self.page,
+            count: self.count + 1,
+            bytes: self.bytes + packet.length,
+        }
+    }
+
+    // Passes the page to come: its number (6), then its packet (2). How many data bytes it has, and the next position.
+    pub fn step(self, image: &[u8], g: Geometry) -> Result<(usize, Cursor), Refusal>
         requires fit { Fit g image.now }
-        requires counted { Counted self × (known ≡ true → IsGood (view_of g image.now self.page)) }
+        requires counted { Counted self }
         ensures { result ≡ step_of g (view_of g image.now) self }
     {
         let page = self.page;
         if g.pages <= page {
-            return Step::Refused(6, self.from);
+            return Err(Refusal(Fault::PageNumber, self.from));
         }
-        match packet_at(image, g, page, known) {
-            Judged::Bad => Step::Refused(2, page),
-            Judged::Whole { length, next } => Step::Page(
-                length,
-                Cursor {
-                    page: next,
-                    from: page,
-                    count: self.count + 1,
-                    bytes: self.bytes + length,
-                },
-            ),
-        }
+        let Some(packet) = packet::judge(geometry::page_of(image, g, page), page, g.width) else {
+            return Err(Refusal(Fault::Packet, page));
+        };
+        Ok((packet.length, self.past(packet)))
+    }
+
+    // Passes the page to come, which is known to hold a right packet: its check is not computed again.
+    pub fn follow(self, image: &[u8], g: Geometry) -> (usize, Cursor)
+        requires fit { Fit g image.now }
+        requires counted { Counted self × (self.page < g.pages) × IsGood (view_of g image.now self.page) }
+        ensures { Ok result ≡ step_of g (view_of g image.now) self }
+    {
+        let packet = packet::frame(geometry::page_of(image, g, self.page), g.width).unwrap();
+        (packet.length, self.past(packet))
     }
 
     // Passes the page to come and judges it by the kind of its chain.
-    pub fn enter(self, image: &[u8], g: Geometry, kind: Kind) -> Entered
+    pub fn enter(self, image: &[u8], g: Geometry, kind: Kind) -> Result<Cursor, Refusal>
         requires fit { Fit g image.now }
         requires counted { Counted self }
-        ensures { result ≡ entered self (enter_of g (view_of g image.now) (test_of g kind) self) }
+        ensures { answer_of result ≡ entered self (enter_of g (view_of g image.now) (test_of g kind) self) }
     {
         let page = self.page;
-        match self.step(image, g, false) {
-            Step::Refused(number, at) => Entered::Refused(number, at),
-            Step::Page(size, next) => {
-                let bytes = packet::data_of(geometry::page_of(image, g, page), size);
-                let fault = directory::control::page_fault(kind, self.count, bytes, g);
-                if fault != 0 {
-                    return Entered::Refused(fault, page);
-                }
-                Entered::On(next)
-            }
-        }
+        let (size, next) = self.step(image, g)?;
+        let bytes = packet::data_of(geometry::page_of(image, g, page), size);
+        judge_page(kind, self.count, page, bytes, g)?;
+        Ok(next)
     }
 }
 
@@ -128,7 +109,7 @@ pub fn claim_chain(
     from: usize,
     start: usize,
     table: &mut [u8],
-) -> Claim
+) -> Result<Claim, Refusal>
     requires fit { Fit g image.now }
     requires table_len { (length table.old ≡ 4 * g.pages) × (0 < owner) × (in_use (records_of table.old) < g.pages → owner < 65536) }
     ensures { Claims g (view_of g image.now) (test_of g kind) owner from start (records_of table.old) result (records_of table.new) }
@@ -137,20 +118,17 @@ pub fn claim_chain(
     loop {
         let page = c.page;
         if owners::is_owned(table, page) {
-            return Claim::Refused(7, page);
+            return Err(Refusal(Fault::Crossed, page));
         }
-        match c.enter(image, g, kind) {
-            Entered::Refused(number, at) => {
-                return Claim::Refused(number, at);
-            }
-            Entered::On(next) => {
-                owners::claim(table, page, owner, c.count);
-                if next.page == 0 {
-                    return Claim::Chain(next.count, next.bytes);
-                }
-                c = next;
-            }
+        let next = c.enter(image, g, kind)?;
+        owners::claim(table, page, owner, c.count);
+        if next.page == 0 {
+            return Ok(Claim {
+                pages: next.count,
+                bytes: next.bytes,
+            });
         }
+        c = next;
     }
 }
 
@@ -163,19 +141,12 @@ pub fn release_chain(image: &[u8], g: Geometry, start: usize, table: &mut [u8])
     let mut c = Cursor::new(start, start);
     loop {
         let page = c.page;
-        match c.step(image, g, true) {
-            // the chain is known to stand
-            Step::Refused(_, _) => {
-                return;
-            }
-            Step::Page(_, next) => {
-                owners::release(table, page);
-                if next.page == 0 {
-                    return;
-                }
-                c = next;
-            }
+        let (_, next) = c.follow(image, g);
+        owners::release(table, page);
+        if next.page == 0 {
+            return;
         }
+        c = next;
     }
 }
 
@@ -187,18 +158,11 @@ pub fn chain_bytes(image: &[u8], g: Geometry, start: usize) -> usize
 {
     let mut c = Cursor::new(start, start);
     loop {
-        match c.step(image, g, true) {
-            // the chain is known to stand
-            Step::Refused(_, _) => {
-                return c.bytes;
-            }
-            Step::Page(_, next) => {
-                if next.page == 0 {
-                    return next.bytes;
-                }
-                c = next;
-            }
+        let (_, next) = c.follow(image, g);
+        if next.page == 0 {
+            return next.bytes;
         }
+        c = next;
     }
 }
 
@@ -212,19 +176,12 @@ pub fn copy_chain(image: &[u8], g: Geometry, start: usize, out: &mut [u8])
     let mut c = Cursor::new(start, start);
     loop {
         let page = c.page;
-        match c.step(image, g, true) {
-            // the chain is known to stand
-            Step::Refused(_, _) => {
-                return;
-            }
-            Step::Page(size, next) => {
-                let bytes = packet::data_of(geometry::page_of(image, g, page), size);
-                geometry::put_bytes(out, c.bytes, bytes);
-                if next.page == 0 {
-                    return;
-                }
-                c = next;
-            }
+        let (size, next) = c.follow(image, g);
+        let bytes = packet::data_of(geometry::page_of(image, g, page), size);
+        geometry::put_bytes(out, c.bytes, bytes);
+        if next.page == 0 {
+            return;
         }
+        c = next;
     }
 }

@@ -12,15 +12,13 @@ const POLYNOMIAL: u16 = 0xA001;
 fn byte_step(register: u16, byte: u8) -> u16
     ensures { result ≡ byte_step register byte }
 {
-    let mut r = (byte as u16) ^ register;
-    let mut k = 0usize;
-    while k < 8 {
+    let mut r = u16::from(byte) ^ register;
+    for _ in 0..8u32 {
         if r % 2 == 1 {
             r = (r >> 1) ^ POLYNOMIAL;
         } else {
             r = r >> 1;
         }
-        k += 1;
     }
     r
 }
@@ -30,10 +28,8 @@ pub fn crc_of(start: u16, bytes: &[u8]) -> u16
     ensures { result ≡ crc16 start bytes.now }
 {
     let mut register = start;
-    let mut i = 0;
-    while i < bytes.len() {
-        register = byte_step(register, bytes[i]);
-        i += 1;
+    for byte in bytes {
+        register = byte_step(register, *byte);
     }
     register
 }

@@ -1,4 +1,7 @@
 -- A delete by path: each refusal in its place, and the file that can be deleted.
+use Rattle.refusals.specs.declared.Refusal.{Refusal}
+use Rattle.std.specs.Prelude.{Result, Ok, Err}
+use Rattle.refusals.specs.declared.Fault.TheVariants as fault
 use mathlib.Core.Path.{◌≡◌, refl, ap, ◌∙◌}
 use mathlib.Core.Bool.{true, false}
 use mathlib.Core.List.{List}
@@ -16,15 +19,15 @@ use Rattle.rules.specs.Put.{writable}
 use Rattle.rules.specs.Delete.{present, delete_target}
 use Rattle.entries.specs.declared.Slot.{Slot}
 use Rattle.lookup.specs.declared.Reached.{Reached}
+use Rattle.lookup.specs.declared.Spot.{Spot}
 use Rattle.lookup.specs.declared.PathLookup.{PathLookup}
 use Rattle.lookup.specs.declared.PathLookup.TheVariants as lookup
 use Rattle.lookup.specs.Targets.{PathAbsent, FileAt, Looks}
 use Rattle.lookup.specs.TargetLaws.{looks_as, is_writable, not_writable}
-use Rattle.edit.specs.declared.Outcome.TheVariants as outcome
 use Rattle.rules.specs.Owners.{OwnerRecord}
 use Rattle.volume.specs.Edits.{TableOf}
 use Rattle.delete.specs.Deletes.{CanDelete, Unlinks, PathDeleted}
-use Rattle.delete.proofs.Removing.{refused, removed}
+use Rattle.delete.proofs.Removing.{refuses, removed}
 
 no_file : present nothing ≡ err 15 0
 unfolding present
@@ -40,32 +43,38 @@ module _ (g : Geometry) (image : List ℕ) (table : List OwnerRecord) (path : Li
   abbrev vs : Views
   vs = views_of g image
 
-  module _ (r : PathLookup) (h : Looks g (views_of g image) path r) (budget : Budget) where
-    pub malformed : r ≡ lookup.Malformed → PathDeleted g image path budget image (outcome.Refused 14 0)
-    malformed e = refused g image (delete_target path) budget 14 0 (λ i c. delete_target_none path i.tree 14 0 (looks_as g vs path i r h c lookup.Malformed e))
+  module _ (r : Result PathLookup Refusal) (h : Looks g (views_of g image) path r) (budget : Budget) where
+    pub not_there : (z : Refusal) → r ≡ Err z → PathDeleted g image path budget image (Err z)
+    not_there z e = refuses g image (delete_target path) budget z (λ i c. delete_target_none path i.tree _ _ (looks_as g vs path i r h c (Err z) e))
 
-    pub nowhere : r ≡ lookup.Nowhere → PathDeleted g image path budget image (outcome.Refused 15 0)
-    nowhere e = refused g image (delete_target path) budget 15 0 (λ i c. delete_target_none path i.tree 15 0 (looks_as g vs path i r h c lookup.Nowhere e))
-
-    pub absent : (d : Reached) (name extension : ℕ) → r ≡ lookup.Absent d name extension → PathDeleted g image path budget image (outcome.Refused 15 0)
-    absent d name extension e = refused g image (delete_target path) budget 15 0 λ i c.
-        let m : PathAbsent g vs (path_of path) i d name extension = looks_as g vs path i r h c (lookup.Absent d name extension) e in
+    pub absent : (d : Reached) (name extension : ℕ) → r ≡ Ok (lookup.Absent d name extension) → PathDeleted g image path budget image (Err (record { 0 = fault.Absent; 1 = 0 }))
+    absent d name extension e = refuses g image (delete_target path) budget (record { 0 = fault.Absent; 1 = 0 }) λ i c.
+        let m : PathAbsent g vs (path_of path) i d name extension = looks_as g vs path i r h c (Ok (lookup.Absent d name extension)) e in
         delete_target_absent path i.tree m.target m.reached 15 0 (ap present m.absent ∙ no_file)
 
-    module _ (d : Reached) (s : Slot) (stamps : ℕ) (e : Entry) (q : r ≡ lookup.At d s stamps e) where
+    module _ (d : Reached) (x : Spot) (q : r ≡ Ok (lookup.At d x)) where
+      abbrev s : Slot
+      s = x.slot
+
+      abbrev stamps : ℕ
+      stamps = x.stamps
+
+      abbrev e : Entry
+      e = x.entry
+
       at_file : (i : Image) → check g (views_of g image) ≡ ok i → FileAt g vs (path_of path) i d s stamps e
-      at_file i c = looks_as g vs path i r h c (lookup.At d s stamps e) q
+      at_file i c = looks_as g vs path i r h c (Ok (lookup.At d x)) q
 
       is_there : (i : Image) (c : check g (views_of g image) ≡ ok i) → present (find (file_key (at_file i c).target.to) (at_file i c).target.place.items) ≡ ok tt
       is_there i c = let m = at_file i c in ap present m.found ∙ a_file_lem m.label m.links
 
-      pub hidden : d.hidden ≡ true → PathDeleted g image path budget image (outcome.Refused 22 0)
-      hidden k = refused g image (delete_target path) budget 22 0 λ i c.
+      pub hidden : d.hidden ≡ true → PathDeleted g image path budget image (Err (record { 0 = fault.Hidden; 1 = 0 }))
+      hidden k = refuses g image (delete_target path) budget (record { 0 = fault.Hidden; 1 = 0 }) λ i c.
           let m = at_file i c in
           delete_target_hidden path i.tree m.target m.reached (is_there i c) (m.directory.hidden_is ∙ k)
 
-      pub read_only : d.hidden ≡ false → 127 < e.extension → PathDeleted g image path budget image (outcome.Refused 16 0)
-      read_only z k = refused g image (delete_target path) budget 16 0 λ i c.
+      pub read_only : d.hidden ≡ false → 127 < e.extension → PathDeleted g image path budget image (Err (record { 0 = fault.ReadOnly; 1 = 0 }))
+      read_only z k = refuses g image (delete_target path) budget (record { 0 = fault.ReadOnly; 1 = 0 }) λ i c.
           let m = at_file i c in
           delete_target_kept path i.tree m.target m.reached (m.directory.hidden_is ∙ z) 16 0 (is_there i c) (ap writable m.found ∙ not_writable m k)
 
@@ -87,6 +96,6 @@ module _ (g : Geometry) (image : List ℕ) (table : List OwnerRecord) (path : Li
       to_delete z k = let f = there.found in
           delete_target_is path tree.tree there.target there.reached (there.directory.hidden_is ∙ z) (is_there tree accepted) (ap writable f ∙ is_writable there k)
 
-      pub done : d.hidden ≡ false → e.extension ≤ 127 → (after : List ℕ) (left : Budget) → Unlinks g image table s stamps e budget after left → PathDeleted g image path budget after (outcome.Done left)
+      pub done : d.hidden ≡ false → e.extension ≤ 127 → (after : List ℕ) (left : Budget) → Unlinks g image table s stamps e budget after left → PathDeleted g image path budget after (Ok left)
       unfolding can_delete
       done z k after left u = removed g image table T (delete_target path) budget can_delete refl (to_delete z k) after left u

@@ -1,5 +1,6 @@
 -- For contracts: what can be deleted, a file or a directory without entries, and a delete within a budget.
-use Rattle.std.specs.Prelude.{◌≡◌, List, ℕ}
+use Rattle.refusals.specs.declared.Refusal.{Refusal}
+use Rattle.std.specs.Prelude.{Result, ◌≡◌, List, ℕ}
 use Rattle.geometry.specs.declared.Geometry.{Geometry}
 use Rattle.packet.specs.Packet.{view_of, Write}
 use Rattle.packet.specs.declared.Budget.{Budget}
@@ -19,7 +20,6 @@ use Rattle.rules.specs.Owners.{OwnerRecord}
 use Rattle.chain.specs.KnownChain.{ChainAt}
 use Rattle.entries.specs.declared.Slot.{Slot}
 use Rattle.lookup.specs.Searches.{PlaceOf}
-use Rattle.edit.specs.declared.Outcome.{Outcome}
 use Rattle.edit.specs.Plans.{Outcomes}
 use Rattle.volume.specs.Edits.{TableOf}
 
@@ -43,9 +43,9 @@ Unlinks g image table s stamps e budget after left = (h : CanDelete g image tabl
     → ◌≡◌ {A = Progress} (record { image = after; budget = left }) (write_all g (delete_writes g h.known.tree h.target) (record { image = image; budget = budget }))
 
 -- the page writes of a call that removes something are the rule's
-abbrev pub Removes : Geometry → List ℕ → (Items → Res Target) → Budget → List ℕ → Outcome → Type 0
+abbrev pub Removes : Geometry → List ℕ → (Items → Res Target) → Budget → List ℕ → Result Budget Refusal → Type 0
 Removes g image target budget after r = (i : Image) → check g (views_of g image) ≡ ok i → Outcomes g (and_then (target i.tree) (λ x. ok (delete_writes g i x))) image budget after r
 
 -- a delete's
-abbrev pub PathDeleted : Geometry → List ℕ → List ℕ → Budget → List ℕ → Outcome → Type 0
+abbrev pub PathDeleted : Geometry → List ℕ → List ℕ → Budget → List ℕ → Result Budget Refusal → Type 0
 PathDeleted g image path budget after r = Removes g image (delete_target path) budget after r

@@ -8,6 +8,9 @@ use lib.Dec.{eqb}
 use lib.ListN.{length, get_or, take, drop, length-drop, length-append}
 use lib.Seq.{take-take, drop-drop}
 use borrow.Author.Tests.{le-leb, lt-leb, eq-eqb, ne_eqb}
+use Rattle.std.specs.Prelude.{Result, Ok, Err}
+use Rattle.refusals.specs.declared.Refusal.{Refusal}
+use Rattle.refusals.specs.declared.Fault.TheVariants.{Control, Marker, InProgress}
 use Rattle.geometry.specs.declared.Geometry.{Geometry}
 use Rattle.geometry.specs.ChooseLaws.{choose_true, choose_false}
 use Rattle.geometry.specs.Geometry.{control_size}
@@ -16,14 +19,15 @@ use Rattle.geometry.specs.Number.{number, number_bytes}
 use Rattle.geometry.specs.NumberLaws.{length_number}
 use Rattle.geometry.specs.Page.{overwritten}
 use Rattle.packet.proofs.Fronts.{front, front_more, front_whole}
-use Rattle.rules.specs.Result.{and_then, refuse_unless}
+use Rattle.rules.specs.Result.{ok, and_then, refuse_unless}
+use Rattle.rules.specs.Answers.{answer_of}
 use Rattle.rules.specs.Chain.{any_page}
 use Rattle.rules.specs.Control.{marker, Parent, control_at, field_at, most_local, place_zeros, head_of, sub_control, root_page, sub_page}
 use Rattle.directory.specs.declared.control.Root.{Root}
-use Rattle.directory.specs.declared.control.Root.TheVariants.{Local, Remote, Refused}
+use Rattle.directory.specs.declared.control.Root.TheVariants.{Local, Remote}
 use Rattle.directory.specs.declared.control.Kind.{Kind}
 use Rattle.directory.specs.declared.control.Kind.TheVariants as kind
-use Rattle.directory.specs.Faults.{fault_at, place, control, test_of, WholeFault, PageFault, SubFault}
+use Rattle.directory.specs.Faults.{place, control, test_of, AreWhole}
 
 -- a part of the four bitmap bytes, read from the page
 pub in_field : (n k j : ℕ) (b : List ℕ) → k + j ≤ 4 → take j (drop k (field_at n b)) ≡ take j (drop (n + 2 + k) b)
@@ -39,11 +43,11 @@ module _ (n : ℕ) (b : List ℕ) (h : 1 ≤ n) (k : n ≤ 2) (x : ℕ) (e : x �
   zeros : number (take (4 - 2 * n) (field_at n b)) ≡ x
   zeros = ap number (take-take (4 - 2 * n) 4 (drop (n + 2) b) (omega arith)) ∙ sym e
 
-  pub no_place : (x ≡ 0 → ⊥) → Refused 4 ≡ place n (field_at n b)
+  pub no_place : (x ≡ 0 → ⊥) → Err (record { 0 = Control; 1 = 0 }) ≡ place n (field_at n b)
   unfolding place
   no_place z = simp (place, zeros, ne_eqb x 0 z, choose_false)
 
-  pub a_place : x ≡ 0 → (s c : ℕ) → s ≡ number (take n (drop (6 - n) b)) → c ≡ number (take n (drop 6 b)) → Remote s c ≡ place n (field_at n b)
+  pub a_place : x ≡ 0 → (s c : ℕ) → s ≡ number (take n (drop (6 - n) b)) → c ≡ number (take n (drop 6 b)) → Ok (Remote s c) ≡ place n (field_at n b)
   unfolding place
   a_place z s c p q =
       let i : n + 2 + (4 - 2 * n) ≡ 6 - n = omega arith in
@@ -54,12 +58,12 @@ module _ (n : ℕ) (b : List ℕ) (h : 1 ≤ n) (k : n ≤ 2) (x : ℕ) (e : x �
 
 -- the root's control field, test after test
 module _ (g : Geometry) (b : List ℕ) (k : ℕ) (q : k ≡ control_size g) where
-  pub root_short : length b < k → Refused 4 ≡ control g.width (head_of g b)
+  pub root_short : length b < k → answer_of (Err (record { 0 = Control; 1 = 0 })) ≡ control g.width (head_of g b)
   unfolding head_of and_then refuse_unless
   root_short h = simp (head_of, ← q, lt-leb k (length b) h)
 
   module _ (h : k ≤ length b) (m : ℕ) (e : m ≡ get_or b 0 0) where
-    pub root_marker : (m ≡ 169 + g.width → ⊥) → Refused 3 ≡ control g.width (head_of g b)
+    pub root_marker : (m ≡ 169 + g.width → ⊥) → answer_of (Err (record { 0 = Marker; 1 = 0 })) ≡ control g.width (head_of g b)
     unfolding head_of and_then refuse_unless marker
     root_marker z = simp (head_of, ← q, le-leb k (length b) h, ← e, marker, ne_eqb m (169 + g.width) z)
 
@@ -67,7 +71,7 @@ module _ (g : Geometry) (b : List ℕ) (k : ℕ) (q : k ≡ control_size g) wher
       marked : eqb m (169 + g.width) ≡ true
       marked = eq-eqb m (169 + g.width) z
 
-      pub root_progress : (control_at g.width b % 2 ≡ 0 → ⊥) → Refused 5 ≡ control g.width (head_of g b)
+      pub root_progress : (control_at g.width b % 2 ≡ 0 → ⊥) → answer_of (Err (record { 0 = InProgress; 1 = 0 })) ≡ control g.width (head_of g b)
       unfolding head_of and_then refuse_unless marker
       root_progress y = simp (head_of, ← q, le-leb k (length b) h, ← e, marker, marked, ne_eqb (control_at g.width b % 2) 0 y)
 
@@ -75,7 +79,7 @@ module _ (g : Geometry) (b : List ℕ) (k : ℕ) (q : k ≡ control_size g) wher
         idle : eqb (control_at g.width b % 2) 0 ≡ true
         idle = eq-eqb (control_at g.width b % 2) 0 y
 
-        pub root_address : (a ≡ 0 → ⊥) → Refused 4 ≡ control g.width (head_of g b)
+        pub root_address : (a ≡ 0 → ⊥) → answer_of (Err (record { 0 = Control; 1 = 0 })) ≡ control g.width (head_of g b)
         unfolding head_of and_then refuse_unless marker
         root_address w = simp (head_of, ← q, le-leb k (length b) h, ← e, marker, marked, idle, ← d, ne_eqb a 0 w)
 
@@ -83,7 +87,7 @@ module _ (g : Geometry) (b : List ℕ) (k : ℕ) (q : k ≡ control_size g) wher
           no_address : eqb a 0 ≡ true
           no_address = eq-eqb a 0 w
 
-          pub root_bits : (control_at g.width b % 128 ≡ 0 → ⊥) → Refused 4 ≡ control g.width (head_of g b)
+          pub root_bits : (control_at g.width b % 128 ≡ 0 → ⊥) → answer_of (Err (record { 0 = Control; 1 = 0 })) ≡ control g.width (head_of g b)
           unfolding head_of and_then refuse_unless marker
           root_bits v = simp (head_of, ← q, le-leb k (length b) h, ← e, marker, marked, idle, ← d, no_address, ne_eqb (control_at g.width b % 128) 0 v)
 
@@ -91,83 +95,86 @@ module _ (g : Geometry) (b : List ℕ) (k : ℕ) (q : k ≡ control_size g) wher
             no_bits : eqb (control_at g.width b % 128) 0 ≡ true
             no_bits = eq-eqb (control_at g.width b % 128) 0 v
 
-            remote : control_at g.width b < 128 → (t : Bool) → place_zeros g.width (field_at g.width b) ≡ t → place g.width (field_at g.width b) ≡ control g.width (head_of g b)
+            remote : control_at g.width b < 128 → (t : Bool) → place_zeros g.width (field_at g.width b) ≡ t → answer_of (place g.width (field_at g.width b)) ≡ control g.width (head_of g b)
             unfolding head_of and_then refuse_unless marker place
             remote u true s = simp (place, head_of, ← q, le-leb k (length b) h, ← e, marker, marked, idle, ← d, no_address, no_bits, lt-leb 128 (control_at g.width b) u, choose_false, s, choose_true)
             remote u false s = simp (place, head_of, ← q, le-leb k (length b) h, ← e, marker, marked, idle, ← d, no_address, no_bits, lt-leb 128 (control_at g.width b) u, choose_false, s)
 
-            pub root_remote : control_at g.width b < 128 → (r : Root) → r ≡ place g.width (field_at g.width b) → r ≡ control g.width (head_of g b)
-            root_remote u r f = f ∙ remote u (place_zeros g.width (field_at g.width b)) refl
+            pub root_remote : control_at g.width b < 128 → (r : Result Root Refusal) → r ≡ place g.width (field_at g.width b) → answer_of r ≡ control g.width (head_of g b)
+            root_remote u r f = ap answer_of f ∙ remote u (place_zeros g.width (field_at g.width b)) refl
 
-            pub root_local : 128 ≤ control_at g.width b → g.pages ≤ most_local → Local ≡ control g.width (head_of g b)
+            pub root_local : 128 ≤ control_at g.width b → g.pages ≤ most_local → ok Local ≡ control g.width (head_of g b)
             unfolding head_of and_then refuse_unless marker
             root_local u l = simp (head_of, ← q, le-leb k (length b) h, ← e, marker, marked, idle, ← d, no_address, no_bits, le-leb 128 (control_at g.width b) u, choose_true, le-leb g.pages most_local l)
 
-            pub root_large : 128 ≤ control_at g.width b → most_local < g.pages → Refused 4 ≡ control g.width (head_of g b)
+            pub root_large : 128 ≤ control_at g.width b → most_local < g.pages → answer_of (Err (record { 0 = Control; 1 = 0 })) ≡ control g.width (head_of g b)
             unfolding head_of and_then refuse_unless marker
             root_large u l = simp (head_of, ← q, le-leb k (length b) h, ← e, marker, marked, idle, ← d, no_address, no_bits, le-leb 128 (control_at g.width b) u, choose_true, lt-leb g.pages most_local l)
 
 -- a subdirectory's first page, test after test
-module _ (g : Geometry) (up : Parent) (b : List ℕ) (k : ℕ) (q : k ≡ control_size g) where
-  pub sub_short : length b < k → SubFault g up b 4
-  unfolding sub_page and_then refuse_unless fault_at
-  sub_short h p = simp (sub_page, ← q, lt-leb k (length b) h)
+module _ (g : Geometry) (up : Parent) (p : ℕ) (b : List ℕ) (k : ℕ) (q : k ≡ control_size g) where
+  pub sub_short : length b < k → answer_of (Err (record { 0 = Control; 1 = p })) ≡ sub_page g up 0 p b
+  unfolding sub_page and_then refuse_unless
+  sub_short h = simp (sub_page, ← q, lt-leb k (length b) h)
 
   module _ (h : k ≤ length b) (m : ℕ) (e : m ≡ get_or b 0 0) where
-    pub sub_marker : (m ≡ 169 + g.width → ⊥) → SubFault g up b 3
-    unfolding sub_page and_then refuse_unless fault_at marker
-    sub_marker z p = simp (sub_page, ← q, le-leb k (length b) h, ← e, marker, ne_eqb m (169 + g.width) z)
+    pub sub_marker : (m ≡ 169 + g.width → ⊥) → answer_of (Err (record { 0 = Marker; 1 = p })) ≡ sub_page g up 0 p b
+    unfolding sub_page and_then refuse_unless marker
+    sub_marker z = simp (sub_page, ← q, le-leb k (length b) h, ← e, marker, ne_eqb m (169 + g.width) z)
 
     module _ (z : m ≡ 169 + g.width) (a : ℕ) (d : a ≡ number (take 4 (drop 1 b))) where
-      pub sub_name : (a ≡ up.name → ⊥) → SubFault g up b 4
-      unfolding sub_page and_then refuse_unless fault_at marker
-      sub_name w p = simp (sub_page, ← q, le-leb k (length b) h, ← e, marker, eq-eqb m (169 + g.width) z, ← d, ne_eqb a up.name w)
+      pub sub_name : (a ≡ up.name → ⊥) → answer_of (Err (record { 0 = Control; 1 = p })) ≡ sub_page g up 0 p b
+      unfolding sub_page and_then refuse_unless marker
+      sub_name w = simp (sub_page, ← q, le-leb k (length b) h, ← e, marker, eq-eqb m (169 + g.width) z, ← d, ne_eqb a up.name w)
 
       module _ (w : a ≡ up.name) where
-        pub sub_zero : (get_or b 5 0 ≡ 0 → ⊥) → SubFault g up b 4
-        unfolding sub_page and_then refuse_unless fault_at marker
-        sub_zero y p = simp (sub_page, ← q, le-leb k (length b) h, ← e, marker, eq-eqb m (169 + g.width) z, ← d, eq-eqb a up.name w, ne_eqb (get_or b 5 0) 0 y)
+        pub sub_zero : (get_or b 5 0 ≡ 0 → ⊥) → answer_of (Err (record { 0 = Control; 1 = p })) ≡ sub_page g up 0 p b
+        unfolding sub_page and_then refuse_unless marker
+        sub_zero y = simp (sub_page, ← q, le-leb k (length b) h, ← e, marker, eq-eqb m (169 + g.width) z, ← d, eq-eqb a up.name w, ne_eqb (get_or b 5 0) 0 y)
 
         module _ (y : get_or b 5 0 ≡ 0) (s : ℕ) (f : s ≡ number (take g.width (drop 6 b))) where
-          pub sub_start : (s ≡ up.start → ⊥) → SubFault g up b 4
-          unfolding sub_page and_then refuse_unless fault_at marker
-          sub_start v p = simp (sub_page, ← q, le-leb k (length b) h, ← e, marker, eq-eqb m (169 + g.width) z, ← d, eq-eqb a up.name w, eq-eqb (get_or b 5 0) 0 y, ← f, ne_eqb s up.start v)
+          pub sub_start : (s ≡ up.start → ⊥) → answer_of (Err (record { 0 = Control; 1 = p })) ≡ sub_page g up 0 p b
+          unfolding sub_page and_then refuse_unless marker
+          sub_start v = simp (sub_page, ← q, le-leb k (length b) h, ← e, marker, eq-eqb m (169 + g.width) z, ← d, eq-eqb a up.name w, eq-eqb (get_or b 5 0) 0 y, ← f, ne_eqb s up.start v)
 
-          pub sub_whole : s ≡ up.start → (r : ℕ) → WholeFault g (length b - k) r → SubFault g up b r
-          unfolding sub_page and_then refuse_unless fault_at marker
-          sub_whole v r u p =
+          pub sub_whole : s ≡ up.start → (r : Result (Unit {0}) Refusal) → AreWhole g p (length b - k) r → answer_of r ≡ sub_page g up 0 p b
+          unfolding sub_page and_then refuse_unless marker
+          sub_whole v r u =
               simp (sub_page, ← q, le-leb k (length b) h, ← e, marker, eq-eqb m (169 + g.width) z, ← d, eq-eqb a up.name w, eq-eqb (get_or b 5 0) 0 y, ← f, eq-eqb s up.start v)
-              (u (drop k b) p (length-drop k b))
+              (u (drop k b) (length-drop k b))
 
 -- the test by the kind of chain
-pub of_kind : (g : Geometry) (d e : Kind) (i : ℕ) (b : List ℕ) (r : ℕ) → d ≡ e → PageFault g e i b r → PageFault g d i b r
-of_kind g d e i b r q f p = rw q (f p)
+abbrev Judged : Type 0
+Judged = Result (Unit {0}) Refusal
 
-pub file_page : (g : Geometry) (i : ℕ) (b : List ℕ) → PageFault g kind.File i b 0
-unfolding test_of any_page fault_at
-file_page g i b p = refl
+pub of_kind : (g : Geometry) (d e : Kind) (i p : ℕ) (b : List ℕ) (r : Judged) → d ≡ e → answer_of r ≡ test_of g e i p b → answer_of r ≡ test_of g d i p b
+of_kind g d e i p b r q f = rw q f
 
-module _ (g : Geometry) (b : List ℕ) (r : ℕ) where
-  pub root_later : (i : ℕ) → (i ≡ 0 → ⊥) → WholeFault g (length b) r → PageFault g kind.Root i b r
+pub file_page : (g : Geometry) (i p : ℕ) (b : List ℕ) → ok tt ≡ test_of g kind.File i p b
+unfolding test_of any_page
+file_page g i p b = refl
+
+module _ (g : Geometry) (p : ℕ) (b : List ℕ) (r : Judged) where
+  pub root_later : (i : ℕ) → (i ≡ 0 → ⊥) → AreWhole g p (length b) r → answer_of r ≡ test_of g kind.Root i p b
   unfolding test_of root_page
-  root_later zero z u p = absurd (z refl)
-  root_later (suc i) z u p = u b p refl
+  root_later zero z u = absurd (z refl)
+  root_later (suc i) z u = u b refl
 
-  pub sub_later : (name start i : ℕ) → (i ≡ 0 → ⊥) → WholeFault g (length b) r → PageFault g (kind.Sub name start) i b r
+  pub sub_later : (name start i : ℕ) → (i ≡ 0 → ⊥) → AreWhole g p (length b) r → answer_of r ≡ test_of g (kind.Sub name start) i p b
   unfolding test_of sub_page
-  sub_later name start zero z u p = absurd (z refl)
-  sub_later name start (suc i) z u p = u b p refl
+  sub_later name start zero z u = absurd (z refl)
+  sub_later name start (suc i) z u = u b refl
 
-  pub sub_first : (name start i : ℕ) → i ≡ 0 → SubFault g (record { name = name; start = start }) b r → PageFault g (kind.Sub name start) i b r
+  pub sub_first : (name start i : ℕ) → i ≡ 0 → answer_of r ≡ sub_page g (record { name = name; start = start }) 0 p b → answer_of r ≡ test_of g (kind.Sub name start) i p b
   unfolding test_of
-  sub_first name start i z u p = rw z (u p)
+  sub_first name start i z u = rw z u
 
   module _ (k : ℕ) (q : k ≡ control_size g) where
-    pub root_first : (i : ℕ) → i ≡ 0 → WholeFault g (length b - k) r → PageFault g kind.Root i b r
+    pub root_first : (i : ℕ) → i ≡ 0 → AreWhole g p (length b - k) r → answer_of r ≡ test_of g kind.Root i p b
     unfolding test_of root_page
-    root_first i z u p = rw (z, ← q) (u (drop k b) p (length-drop k b))
+    root_first i z u = rw (z, ← q) (u (drop k b) (length-drop k b))
 
-    pub root_first_short : (i : ℕ) → i ≡ 0 → length b < k → WholeFault g 0 r → PageFault g kind.Root i b r
+    pub root_first_short : (i : ℕ) → i ≡ 0 → length b < k → AreWhole g p 0 r → answer_of r ≡ test_of g kind.Root i p b
     root_first_short i z h u = let e : length b - k ≡ 0 = omega arith in root_first i z (rw e u)
 
 -- ---- a subdirectory's control field, written in four parts as the code does it

@@ -8,6 +8,8 @@ use native.Mathlib.Omega.{arith}
 use lib.ListN.{length, get_or, take, drop, length-append}
 use lib.Seq.{drop-drop, get_or-drop}
 use borrow.Author.Tests.{le-ltb, lt-ltb, eq-eqb, ne_eqb, not-true, not-false}
+use Rattle.std.specs.Prelude.{Ok, Err}
+use Rattle.refusals.specs.declared.Fault.TheVariants.{Name, Extension, Count}
 use Rattle.geometry.specs.declared.Geometry.{Geometry}
 use Rattle.geometry.specs.Geometry.{entry_size}
 use Rattle.geometry.specs.Number.{number, number_bytes}
@@ -15,13 +17,14 @@ use Rattle.geometry.specs.NumberLaws.{length_number}
 use Rattle.geometry.specs.Page.{overwritten}
 use Rattle.packet.proofs.Fronts.{front, front_more, front_whole}
 use Rattle.rules.specs.declared.Entry.{Entry}
-use Rattle.rules.specs.Result.{and_then, refuse_unless}
+use Rattle.rules.specs.Result.{ok, and_then, refuse_unless}
+use Rattle.rules.specs.Answers.{answer_of}
 use Rattle.rules.specs.Names.{valid_name, extended, entry_of, entry_bytes}
 use Rattle.rules.specs.Control.{whole_entries}
 use Rattle.rules.specs.Check.{judge_label}
 use Rattle.directory.specs.declared.extensions.EntryKind.TheVariants as kind
 use Rattle.directory.specs.Extensions.{IsKind}
-use Rattle.directory.specs.Faults.{fault_at, LabelFault, WholeFault}
+use Rattle.directory.specs.Faults.{AreWhole}
 
 -- a page number fits 16 bits
 pub narrow : (x n : ℕ) → n ≤ 2 → x < 256 ^ n → x < 65536
@@ -76,32 +79,32 @@ module _ (e : Entry) where
   low_byte h = le-ltb 127 (e.name % 256) h
 
 -- a plain entry's tests, one after the other
-module _ (e : Entry) (t : Bool) (q : t ≡ valid_name e.name) where
-  pub bad_name : not t ≡ true → LabelFault e 9
-  unfolding judge_label and_then refuse_unless fault_at
-  bad_name k p = simp (judge_label, ← q, not-true t k)
+module _ (p : ℕ) (e : Entry) (t : Bool) (q : t ≡ valid_name e.name) where
+  pub bad_name : not t ≡ true → answer_of (Err (record { 0 = Name; 1 = p })) ≡ judge_label p e
+  unfolding judge_label and_then refuse_unless
+  bad_name k = simp (judge_label, ← q, not-true t k)
 
   module _ (k : not t ≡ false) where
     named : valid_name e.name ≡ true
     named = sym q ∙ not-false t k
 
-    pub file_label_lem : IsKind e.extension kind.File → LabelFault e 0
-    unfolding judge_label and_then refuse_unless fault_at
-    file_label_lem l p = simp (judge_label, named, l.0)
+    pub file_label_lem : IsKind e.extension kind.File → ok tt ≡ judge_label p e
+    unfolding judge_label and_then refuse_unless
+    file_label_lem l = simp (judge_label, named, l.0)
 
-    pub directory_label : IsKind e.extension kind.Directory → LabelFault e 0
-    unfolding judge_label and_then refuse_unless fault_at
-    directory_label l p = simp (judge_label, named, l.0, l.1)
+    pub directory_label : IsKind e.extension kind.Directory → ok tt ≡ judge_label p e
+    unfolding judge_label and_then refuse_unless
+    directory_label l = simp (judge_label, named, l.0, l.1)
 
-    pub unknown_label : IsKind e.extension kind.Unknown → LabelFault e 10
-    unfolding judge_label and_then refuse_unless fault_at
-    unknown_label l p = simp (judge_label, named, l.0, l.1)
+    pub unknown_label : IsKind e.extension kind.Unknown → answer_of (Err (record { 0 = Extension; 1 = p })) ≡ judge_label p e
+    unfolding judge_label and_then refuse_unless
+    unknown_label l = simp (judge_label, named, l.0, l.1)
 
-module _ (g : Geometry) (size k : ℕ) (q : k ≡ entry_size g) where
-  pub are_whole : size % k ≡ 0 → WholeFault g size 0
-  unfolding whole_entries refuse_unless fault_at
-  are_whole e b p l = simp (whole_entries, l, ← q, eq-eqb (size % k) 0 e)
+module _ (g : Geometry) (p size k : ℕ) (q : k ≡ entry_size g) where
+  pub are_whole : size % k ≡ 0 → AreWhole g p size (Ok tt)
+  unfolding whole_entries refuse_unless
+  are_whole e b l = simp (whole_entries, l, ← q, eq-eqb (size % k) 0 e)
 
-  pub not_whole : (size % k ≡ 0 → ⊥) → WholeFault g size 8
-  unfolding whole_entries refuse_unless fault_at
-  not_whole e b p l = simp (whole_entries, l, ← q, ne_eqb (size % k) 0 e)
+  pub not_whole : (size % k ≡ 0 → ⊥) → AreWhole g p size (Err (record { 0 = Count; 1 = p }))
+  unfolding whole_entries refuse_unless
+  not_whole e b l = simp (whole_entries, l, ← q, ne_eqb (size % k) 0 e)

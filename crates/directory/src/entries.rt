@@ -3,11 +3,14 @@ ghost use Rattle.std.specs.Prelude.{◌≡◌, ◌+◌, ◌*◌, ◌≤◌, leng
 ghost use Rattle.geometry.specs.Geometry.{Valid};
 ghost use Rattle.rules.specs.Names.{entry_bytes};
 ghost use Rattle.directory.specs.EntryPlaces.{HasEntry, IsEntry, IsItem};
-ghost use Rattle.directory.specs.Faults.{LabelFault, WholeFault};
+ghost use Rattle.rules.specs.Answers.{answer_of};
+ghost use Rattle.rules.specs.Check.{judge_label};
+ghost use Rattle.directory.specs.Faults.{AreWhole};
 
 use crate::extensions::EntryKind;
 use crate::{extensions, names};
 use geometry::{EXTENSION_AT, EXTENSION_BYTES, Geometry, NAME_BYTES, START_AT};
+use refusals::{Fault, Refusal};
 use rules::Entry;
 
 // The greatest first byte of a plain entry; an extended entry has a greater one.
@@ -17,6 +20,7 @@ const MOST_FIRST_BYTE: u32 = 127;
 #[derive(Clone, Copy)]
 pub enum Item {
     Plain(Entry),
+    // no Option: a stamp stands here, and not nothing
     Extended,
 }
 
@@ -111,34 +115,39 @@ pub fn put_entry(bytes: &mut [u8], e: Entry, n: usize)
     ensures { bytes.new ≡ entry_bytes n e }
 {
     geometry::put_number(bytes, 0, NAME_BYTES, e.name as usize);
-    geometry::put_number(bytes, EXTENSION_AT, EXTENSION_BYTES, e.extension as usize);
+    geometry::put_number(
+        bytes,
+        EXTENSION_AT,
+        EXTENSION_BYTES,
+        usize::from(e.extension),
+    );
     geometry::put_number(bytes, START_AT, n, e.start);
     geometry::put_number(bytes, START_AT + n, n, e.pages);
 }
 
-// The fault of a plain entry's name or extension number, 0 if there is none.
-pub fn label_fault(e: Entry) -> u8
-    ensures { LabelFault e result }
+// Judges a plain entry's name, then its extension number; a refusal tells its page.
+pub fn judge_label(e: Entry, page: usize) -> Result<(), Refusal>
+    ensures { answer_of result ≡ judge_label page e }
 {
     let named = names::valid_name(e.name);
     if !named {
-        return 9;
+        return Err(Refusal(Fault::Name, page));
     }
     let kind = extensions::extension_of(e.extension).kind;
     match kind {
-        EntryKind::File => 0,
-        EntryKind::Directory => 0,
-        EntryKind::Unknown => 10,
+        EntryKind::File => Ok(()),
+        EntryKind::Directory => Ok(()),
+        EntryKind::Unknown => Err(Refusal(Fault::Extension, page)),
     }
 }
 
-// The fault of a directory page whose entries have so many bytes: not whole.
-pub fn whole_fault(size: usize, g: Geometry) -> u8
+// Judges the entries of a directory's page, which have so many bytes: they must be whole.
+pub fn judge_whole(size: usize, page: usize, g: Geometry) -> Result<(), Refusal>
     requires { Valid g }
-    ensures { WholeFault g size result }
+    ensures { AreWhole g page size result }
 {
     if size % g.entry_size() != 0 {
-        return 8;
+        return Err(Refusal(Fault::Count, page));
     }
-    0
+    Ok(())
 }

@@ -6,7 +6,7 @@ ghost use Rattle.directory.specs.Extensions.{Means};
 use geometry::{ATTRIBUTE, DIRECTORY, MOST_FILE};
 
 // What an entry stands for.
-#[derive(Clone, Copy)]
+#[derive(Clone, Copy, PartialEq, Eq)]
 pub enum EntryKind {
     File,
     Directory,
@@ -27,25 +27,14 @@ pub fn extension_of(byte: u8) -> Extension
     ensures { Means byte result }
 {
     let number = byte % ATTRIBUTE;
-    let attribute = byte / ATTRIBUTE;
-    if number <= MOST_FILE {
-        return Extension {
-            kind: EntryKind::File,
-            number,
-            attribute,
-        };
-    }
-    if number == DIRECTORY {
-        return Extension {
-            kind: EntryKind::Directory,
-            number,
-            attribute,
-        };
-    }
     Extension {
-        kind: EntryKind::Unknown,
+        kind: match number {
+            0..=MOST_FILE => EntryKind::File,
+            DIRECTORY => EntryKind::Directory,
+            _ => EntryKind::Unknown,
+        },
         number,
-        attribute,
+        attribute: byte / ATTRIBUTE,
     }
 }
 
@@ -53,10 +42,5 @@ pub fn extension_of(byte: u8) -> Extension
 pub fn is_directory(byte: u8) -> bool
     ensures { result ≡ directory_number byte }
 {
-    let kind = extension_of(byte).kind;
-    match kind {
-        EntryKind::File => false,
-        EntryKind::Directory => true,
-        EntryKind::Unknown => false,
-    }
+    extension_of(byte).kind == EntryKind::Directory
 }

@@ -1,10 +1,8 @@
 -- The text of a dump is at most 102,600 bytes long, since its image has at most 1,024 pages; and 65,537 bytes of a dump decide its text.
-use Rattle.std.specs.Prelude.{◌≡◌, refl, Bool, true, false, List, ◌++◌, ℕ, ◌*◌, ◌≤◌, length, take, drop}
+use Rattle.std.specs.Prelude.{Option, Some, None, ◌≡◌, refl, Bool, true, false, List, ◌++◌, ℕ, ◌*◌, ◌≤◌, length, take, drop}
 use Rattle.std.proofs.Common.{ap, sym, ◌∙◌, arith, mul-le-mul_right, length-append, length-take, length-drop, take_all, le-leb}
 use Rattle.std.proofs.Math.Decide.{dec_lt}
 use Rattle.geometry.specs.declared.Geometry.{Geometry}
-use Rattle.geometry.specs.declared.Shape.{Shape}
-use Rattle.geometry.specs.declared.Shape.TheVariants.{Fits, Invalid}
 use Rattle.geometry.specs.Geometry.{geometry_of}
 use Rattle.geometry.specs.ShapeLaws.{sized_of}
 use Rattle.rules.specs.Result.{Res, ok, err, and_then, refuse_unless}
@@ -37,9 +35,9 @@ dump_fits : (dump image : List ℕ) → length image ≤ 32768 → length (refus
 unfolding dump_text
 dump_fits dump image h = go (geometry_of (dump_size dump) (dump_pages dump) (length image) 262140) refl
   where
-    go : (s : Shape) → geometry_of (dump_size dump) (dump_pages dump) (length image) 262140 ≡ s → length (refusal_text (dump_text dump image)) ≤ 102600
-    go Invalid e = unfold dump_text in rw e (omega (arith, refusal_short 1 0))
-    go (Fits g) e =
+    go : (s : Option Geometry) → geometry_of (dump_size dump) (dump_pages dump) (length image) 262140 ≡ s → length (refusal_text (dump_text dump image)) ≤ 102600
+    go None e = unfold dump_text in rw e (omega (arith, refusal_short 1 0))
+    go (Some g) e =
         let z = sized_of (dump_size dump) (dump_pages dump) (length image) 262140 g e in
         unfold dump_text in rw e (image_fits g image (few_pages g.size g.pages z.valid.least (omega (arith, z.whole, h))))
 

@@ -1,4 +1,5 @@
 -- A plain put of a file: the three steps are the rule's list of page writes.
+use Rattle.refusals.specs.declared.Fault.TheVariants as fault
 use mathlib.Core.Path.{◌≡◌, refl, ap, sym, ◌∙◌}
 use mathlib.Core.Bool.{true, false}
 use mathlib.Core.List.{List}
@@ -28,9 +29,7 @@ use Rattle.editing_theorems.specs.EditedImage.{DirectoryOf, OneEdit}
 use Rattle.marks.specs.MapPages.{HasRoot, WritesMap}
 use Rattle.edit.specs.declared.Pages.{Pages}
 use Rattle.edit.specs.declared.NewFile.{NewFile}
-use Rattle.edit.specs.declared.Taken.{Taken}
-use Rattle.edit.specs.declared.Taken.TheVariants as took
-use Rattle.edit.specs.declared.Outcome.TheVariants as outcome
+use Rattle.std.specs.Prelude.{Ok, Err, Option, Some}
 use Rattle.edit.specs.Pages.{Takes}
 use Rattle.edit.specs.FilePlans.{full, T', the_edit, edit_is, plan_of, carried_is, left_then}
 use Rattle.edit.specs.StepLaws.{step₂, step₃, whole_is, two_stopped, two_open, fit_then, has_root, map_is}
@@ -43,11 +42,11 @@ module _ (g : Geometry) (image : List ℕ) (table : List OwnerRecord) (bytes : L
   abbrev writes : Res (List Write)
   writes = put_writes g bytes P.asked.tree (record { to = P.asked.to; place = P.asked.place })
 
-  pub put_full : (n : ℕ) → n ≡ pages_for (data_capacity g) (length bytes) → (r : Taken) → Takes table f.extra n r → r ≡ took.Full → (budget : Budget)
-      → Outcomes g (put_writes g bytes P.asked.tree (record { to = P.asked.to; place = P.asked.place })) image budget image (outcome.Refused 17 0)
+  pub put_full : (n : ℕ) → n ≡ pages_for (data_capacity g) (length bytes) → (r : Option Pages) → Takes table f.extra n r → ((p : Pages) → r ≡ Some p → ⊥) → (budget : Budget)
+      → Outcomes g (put_writes g bytes P.asked.tree (record { to = P.asked.to; place = P.asked.place })) image budget image (Err (record { 0 = fault.NoRoom; 1 = 0 }))
   put_full n e r T m budget = (simp (full sized P n e r T m, then_err), refl)
 
-  module _ {n : ℕ} (n_is : n ≡ pages_for (data_capacity g) (length bytes)) {r : Taken} (T : Takes table f.extra n r) {p : Pages} (m : r ≡ took.At p) where
+  module _ {n : ℕ} (n_is : n ≡ pages_for (data_capacity g) (length bytes)) {r : Option Pages} (T : Takes table f.extra n r) {p : Pages} (m : r ≡ Some p) where
     abbrev E : OneEdit (laws.directory g image bytes P.stands P.asked)
     E = the_edit sized P n_is T m
 
@@ -60,7 +59,7 @@ module _ (g : Geometry) (image : List ℕ) (table : List OwnerRecord) (bytes : L
 
     module _ (budget : Budget) (o : Open budget) where
       -- what the three steps give is what the rule's list gives
-      done : (now : Progress) → now ≡ step₃ E budget → Outcomes g writes image budget now.image (outcome.Done now.budget)
+      done : (now : Progress) → now ≡ step₃ E budget → Outcomes g writes image budget now.image (Ok now.budget)
       done now q =
           let i = a.tree in
           let x = laws.the_edit g image bytes P.stands a (free_pages (kept_pages a.to i) g.pages) in
@@ -72,7 +71,7 @@ module _ (g : Geometry) (image : List ℕ) (table : List OwnerRecord) (bytes : L
         h = carried_is sized P n_is T m E (record { items_are = refl; after_is = refl; chain_same = refl }) budget _ carried
 
         -- a write was held back
-        pub put_stop : rest.stopped ≡ true → Outcomes g writes image budget mid (outcome.Done rest)
+        pub put_stop : rest.stopped ≡ true → Outcomes g writes image budget mid (Ok rest)
         put_stop z = done (record { image = mid; budget = rest }) (two_stopped E budget o mid rest h z)
 
         module _ (z : rest.stopped ≡ false) where
@@ -82,5 +81,5 @@ module _ (g : Geometry) (image : List ℕ) (table : List OwnerRecord) (bytes : L
           pub put_fit : Fit g mid × HasRoot g (view_of g mid)
           put_fit = (fit_then E mid image_is, has_root E mid image_is)
 
-          pub put_done : (after : List ℕ) (left : Budget) → WritesMap g table p.below mid rest after left → Outcomes g writes image budget after (outcome.Done left)
+          pub put_done : (after : List ℕ) (left : Budget) → WritesMap g table p.below mid rest after left → Outcomes g writes image budget after (Ok left)
           put_done after left w = done (record { image = after; budget = left }) (map_is E mid image_is table p.below marks_then rest after left w ∙ ap (write_all g (es.ws₃ E)) h)

@@ -11,9 +11,7 @@ use Rattle.owners.specs.Owned.{Represents}
 use Rattle.owners.specs.OwnerLaws.{taken, represents_taken}
 use Rattle.owners.specs.Free.{free_from, Next, found, none, NextFree, RoomBelow, RoomIs, Rooms}
 use Rattle.owners.specs.FreeLaws.{from_free, from_unused, from_all}
-use Rattle.owners.specs.declared.Room.{Room}
-use Rattle.owners.specs.declared.Room.TheVariants as room
-use Rattle.edit.specs.declared.Taken.TheVariants as took
+use Rattle.std.specs.Prelude.{Option, Some, None}
 use Rattle.edit.specs.Pages.{Takes}
 
 -- the next free page, where there is one
@@ -26,12 +24,12 @@ ahead : (used : List ℕ) (k N r : ℕ) → Next used k N r → 1 ≤ length (fr
 ahead used k N r (found h e) n = record { below = h; head = e; from = from_free used r N h (from_unused used r k N (omega (arith, ap (count r) e, hit_same r))) }
 ahead used k N r (none h e) n = absurd (omega (arith, ap length e))
 
-module _ (table : List OwnerRecord) (extra pages : ℕ) (some : 1 ≤ pages) (r : Room) (R : Rooms table (extra + pages) r) where
-  pub too_few : r ≡ room.Full → Takes table extra pages took.Full
+module _ (table : List OwnerRecord) (extra pages : ℕ) (some : 1 ≤ pages) (r : Option ℕ) (R : Rooms table (extra + pages) r) where
+  pub too_few : r ≡ None → Takes table extra pages None
   unfolding Rooms Takes
   too_few e used h = subst (RoomIs used (length table) (extra + pages)) e (R used h)
 
-  module _ (below : ℕ) (m : r ≡ room.Below below) (first : ℕ) (F : NextFree table 0 first) where
+  module _ (below : ℕ) (m : r ≡ Some below) (first : ℕ) (F : NextFree table 0 first) where
     module _ (used : List ℕ) (h : Represents table used) where
       abbrev N : ℕ
       N = length table
@@ -51,7 +49,7 @@ module _ (table : List OwnerRecord) (extra pages : ℕ) (some : 1 ≤ pages) (r 
     pub first_inside : first < length table
     first_inside = (lowest (taken table) (represents_taken table)).below
 
-    pub none_joins : extra ≡ 0 → Takes table extra pages (took.At (record { joins = 0; start = first; below = below }))
+    pub none_joins : extra ≡ 0 → Takes table extra pages (Some (record { joins = 0; start = first; below = below }))
     unfolding Takes
     none_joins z used h =
         let l = lowest used h in
@@ -66,7 +64,7 @@ module _ (table : List OwnerRecord) (extra pages : ℕ) (some : 1 ≤ pages) (r 
           starts = l.from;
         }
 
-    pub one_joins : extra ≡ 1 → (start : ℕ) → NextFree table (first + 1) start → Takes table extra pages (took.At (record { joins = first; start = start; below = below }))
+    pub one_joins : extra ≡ 1 → (start : ℕ) → NextFree table (first + 1) start → Takes table extra pages (Some (record { joins = first; start = start; below = below }))
     unfolding Takes NextFree
     one_joins z start S used h =
         let e = enough used h in

@@ -1,5 +1,5 @@
 -- The plan of a file put: the pages found, its entry, the change of its directory, and the pages then in use; for any pages that must not be taken.
-use Rattle.std.specs.Prelude.{◌≡◌, List, [], ◌∷◌, ◌++◌, ℕ, ◌+◌, ◌-◌, ◌/◌, ◌≤◌, ◌<◌, take, drop, get_or}
+use Rattle.std.specs.Prelude.{◌≡◌, List, [], ◌∷◌, ◌++◌, ℕ, ◌+◌, ◌-◌, ◌/◌, ◌≤◌, ◌<◌, take, drop, get_or, Option, Some, None}
 use Rattle.std.proofs.Math.Path.{refl, ap, subst}
 use Rattle.std.proofs.Common.{sym, ◌∙◌, inl, inr, eq-zero-or-pos, div-mul-le_self, mul-le-mul_right, arith, length-drop, take-add, le-leb}
 use Rattle.std.proofs.lemmas.Bool.{lt-leb}
@@ -34,8 +34,6 @@ use Rattle.marks.specs.RootLaws.{zero_taken}
 use Rattle.writes.specs.declared.Change.{Change}
 use Rattle.edit.specs.declared.Pages.{Pages}
 use Rattle.edit.specs.declared.NewFile.{NewFile}
-use Rattle.edit.specs.declared.Taken.{Taken}
-use Rattle.edit.specs.declared.Taken.TheVariants as took
 use Rattle.edit.specs.Pages.{PagesTaken, TakenIs, Takes}
 use Rattle.edit.specs.Entering.{Exchanges, Joins, Entering}
 use Rattle.edit.specs.ExchangeLaws.{pointer_is}
@@ -75,17 +73,18 @@ module _ {in_use : Path → Image → List ℕ} {g : Geometry} {image : List ℕ
   one_extra = omega (arith, P.at.extra_is, extra_one g label a.place.items)
 
   -- too few free pages
-  pub full : (n : ℕ) → n ≡ pages_for (data_capacity g) (length bytes) → (r : Taken) → Takes table f.extra n r → r ≡ took.Full
+  pub full : (n : ℕ) → n ≡ pages_for (data_capacity g) (length bytes) → (r : Option Pages) → Takes table f.extra n r → ((p : Pages) → r ≡ Some p → ⊥)
       → put_edit g (free_pages (in_use P.asked.to P.asked.tree) g.pages) P.asked.to bytes P.asked.place ≡ err 17 0
   unfolding Takes
-  full n e r T m =
+  full n e (Some p) T m = absurd (m p refl)
+  full n e None T m =
       let us = in_use P.asked.to P.asked.tree in
-      let k = subst (TakenIs us (length table) f.extra n) m (T us P.represents) in
+      let k = T us P.represents in
       let h : length free < laws.extra g image bytes P.stands a + wanted = omega (arith, k, ap (λ (N : ℕ). length (free_pages us N)) sized, P.at.extra_is) in
       laws.edit_is g image bytes P.stands a free ∙ simp (lt-leb _ _ h, refuse_false, then_err)
 
   -- enough: the edit
-  module _ {n : ℕ} (n_is : n ≡ pages_for (data_capacity g) (length bytes)) {r : Taken} (T : Takes table f.extra n r) {p : Pages} (m : r ≡ took.At p) where
+  module _ {n : ℕ} (n_is : n ≡ pages_for (data_capacity g) (length bytes)) {r : Option Pages} (T : Takes table f.extra n r) {p : Pages} (m : r ≡ Some p) where
     pub T' : PagesTaken (in_use P.asked.to P.asked.tree) g.pages f.extra n p
     unfolding Takes
     T' =

@@ -1,5 +1,7 @@
 -- For contracts: an edit that puts a chain with its entry, and a put within a budget.
-use Rattle.std.specs.Prelude.{◌≡◌, List, [], ◌∷◌, ◌++◌, ℕ, ◌+◌, ◌-◌, ◌≤◌, length}
+use Rattle.rules.specs.Answers.{refused}
+use Rattle.refusals.specs.declared.Refusal.{Refusal}
+use Rattle.std.specs.Prelude.{Err, Result, Ok, ◌≡◌, List, [], ◌∷◌, ◌++◌, ℕ, ◌+◌, ◌-◌, ◌≤◌, length}
 use Rattle.geometry.specs.declared.Geometry.{Geometry}
 use Rattle.geometry.specs.Choose.{choose}
 use Rattle.geometry.specs.Geometry.{control_size, data_capacity}
@@ -7,7 +9,7 @@ use Rattle.packet.specs.Packet.{good, view_of, Write}
 use Rattle.packet.specs.declared.Budget.{Budget}
 use Rattle.packet.specs.Budgets.{Progress, write_all}
 use Rattle.rules.specs.declared.Entry.{Entry}
-use Rattle.rules.specs.Result.{Res, ok, err, and_then}
+use Rattle.rules.specs.Result.{Res, ok, and_then}
 use Rattle.rules.specs.PageSets.{count, range, free_pages}
 use Rattle.rules.specs.Chain.{Link, chain_of, pages_for}
 use Rattle.rules.specs.Tree.{Label, Items, Token, new_page, entry, entry_tokens, tokens, Image, used}
@@ -28,8 +30,6 @@ use Rattle.writes.specs.declared.Change.{Change}
 use Rattle.writes.specs.Stores.{chosen}
 use Rattle.edit.specs.declared.Pages.{Pages}
 use Rattle.edit.specs.declared.NewFile.{NewFile}
-use Rattle.edit.specs.declared.Outcome.{Outcome}
-use Rattle.edit.specs.declared.Outcome.TheVariants as outcome
 use Rattle.edit.specs.Entering.{Entering}
 use Rattle.edit.specs.StepLaws.{step₂, step₃}
 
@@ -115,16 +115,16 @@ abbrev pub PlainPutting : Geometry → List ℕ → List OwnerRecord → List �
 PlainPutting = Putting kept_pages
 
 -- the page writes that a rule gives, carried out; or its refusal
-abbrev pub Outcomes : Geometry → Res (List Write) → List ℕ → Budget → List ℕ → Outcome → Type 0
-Outcomes g rule image budget after (outcome.Done left) =
+abbrev pub Outcomes : Geometry → Res (List Write) → List ℕ → Budget → List ℕ → Result Budget Refusal → Type 0
+Outcomes g rule image budget after (Ok left) =
     (ws : List Write) × (rule ≡ ok ws) × (◌≡◌ {A = Progress} (record { image = after; budget = left }) (write_all g ws (record { image = image; budget = budget })))
-Outcomes g rule image budget after (outcome.Refused n p) = (rule ≡ err n p) × (after ≡ image)
+Outcomes g rule image budget after (Err z) = (rule ≡ refused z) × (after ≡ image)
 
 -- the page writes of a put that has its target
 abbrev pub put_writes : Geometry → List ℕ → Image → Target → Res (List Write)
 put_writes g bytes i x = and_then (put_edit g (free_pages (kept_pages x.to i) g.pages) x.to bytes x.place)
     (λ e. ok (edit_writes g (bitmap_of g (used i) i.map) e i (edited g x.to.directories e i)))
 
-abbrev pub PutsFile : Geometry → List ℕ → List OwnerRecord → List ℕ → NewFile → Budget → List ℕ → Outcome → Type 0
+abbrev pub PutsFile : Geometry → List ℕ → List OwnerRecord → List ℕ → NewFile → Budget → List ℕ → Result Budget Refusal → Type 0
 PutsFile g image table bytes f budget after r = (p : PlainPutting g image table bytes f)
     → Outcomes g (put_writes g bytes p.asked.tree (record { to = p.asked.to; place = p.asked.place })) image budget after r

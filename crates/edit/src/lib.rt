@@ -13,8 +13,8 @@ ghost use Rattle.edit.specs.Plans.{change_of, count_told, entry_of, Plan, Carrie
 use directory::extensions::is_directory;
 use entries::Slot;
 use geometry::{Geometry, WIDE_ENTRY_BYTES};
-use owners::Room;
 use packet::Budget;
+use refusals::{Fault, Refusal};
 use rules::Entry;
 use writes::Change;
 
@@ -24,20 +24,6 @@ pub struct Pages {
     pub joins: usize,
     pub start: usize,
     pub below: usize,
-}
-
-// Pages found, or too few are free.
-#[derive(Clone, Copy)]
-pub enum Taken {
-    At(Pages),
-    Full,
-}
-
-// What an edit within a budget answers: what is left of the budget, or the number of a refusal of document 01 and its page.
-#[derive(Clone, Copy)]
-pub enum Outcome {
-    Done(Budget),
-    Refused(u8, usize),
 }
 
 // A file to be put, or a directory to be made: name and extension, the chain that it replaces, and where its entry goes. On the page of `slot` it replaces the entries `first` to `last`, `last` not among them;
@@ -65,29 +51,25 @@ pub fn release_old(image: &[u8], g: Geometry, start: usize, table: &mut [u8])
     }
 }
 
-// Finds the lowest free pages for a page that joins, if `extra` is 1, and then for a chain of so many pages.
-pub fn find_pages(table: &[u8], extra: usize, pages: usize) -> Taken
+// Finds the lowest free pages for a page that joins, if `extra` is 1, and then for a chain of so many pages; none if too few are free.
+pub fn find_pages(table: &[u8], extra: usize, pages: usize) -> Option<Pages>
     requires { (extra ≤ 1) × (1 ≤ pages) × (extra + pages ≤ 18446744073709551615) }
     ensures { Takes (records_of table.now) extra pages result }
 {
-    match owners::find_room(table, extra + pages) {
-        Room::Full => Taken::Full,
-        Room::Below(below) => {
-            let first = owners::next_free(table, 0);
-            if extra == 0 {
-                return Taken::At(Pages {
-                    joins: 0,
-                    start: first,
-                    below,
-                });
-            }
-            Taken::At(Pages {
-                joins: first,
-                start: owners::next_free(table, first + 1),
-                below,
-            })
-        }
+    let below = owners::find_room(table, extra + pages)?;
+    let first = owners::next_free(table, 0);
+    if extra == 0 {
+        return Some(Pages {
+            joins: 0,
+            start: first,
+            below,
+        });
     }
+    Some(Pages {
+        joins: first,
+        start: owners::next_free(table, first + 1),
+        below,
+    })
 }
 
 // Stores bytes in free pages from the entry's start page on, then writes the entry in its directory's pages.
@@ -164,22 +146,20 @@ pub fn put_file(
     bytes: &[u8],
     table: &[u8],
     budget: Budget,
-) -> Outcome
+) -> Result<Budget, Refusal>
     requires fit { Fit g image.old }
     requires table_len { (length table.now ≡ 4 * g.pages) × PlainPutting g image.old (records_of table.now) bytes.now file × Open budget }
     ensures { PutsFile g image.old (records_of table.now) bytes.now file budget image.new result }
 {
     let pages = writes::pages_for(bytes.len(), g.data_capacity());
-    match find_pages(table, file.extra, pages) {
-        Taken::Full => Outcome::Refused(17, 0),
-        Taken::At(taken) => {
-            let changed = put_entry(image, g, file, taken, pages, bytes, table, budget);
-            if changed.stopped {
-                return Outcome::Done(changed);
-            }
-            Outcome::Done(marks::write_map(image, g, table, taken.below, changed))
-        }
+    let Some(taken) = find_pages(table, file.extra, pages) else {
+        return Err(Refusal(Fault::NoRoom, 0));
+    };
+    let changed = put_entry(image, g, file, taken, pages, bytes, table, budget);
+    if changed.stopped {
+        return Ok(changed);
     }
+    Ok(marks::write_map(image, g, table, taken.below, changed))
 }
 
 // Takes an entry with the stamps before it out of its directory: its page is written without them, then the bitmap. The table has the pages that stay in use.

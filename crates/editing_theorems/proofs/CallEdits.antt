@@ -1,8 +1,7 @@
 -- The calls: an edit that answers 0 leaves what is shown of the edit, in the image that the call leaves.
-use Rattle.std.specs.Prelude.{◌≡◌, Bool, List, ℕ}
+use Rattle.std.specs.Prelude.{Some, ◌≡◌, Bool, List, ℕ}
 use Rattle.std.proofs.Math.Path.{refl}
 use Rattle.geometry.specs.declared.Geometry.{Geometry}
-use Rattle.geometry.specs.declared.Shape.TheVariants.{Fits}
 use Rattle.geometry.specs.ShapeLaws.{fit_of}
 use Rattle.geometry.specs.Number.{Bytes}
 use Rattle.rules.specs.Result.{Res, ok, err}
@@ -24,7 +23,7 @@ pub done_ok : (P N : ℕ) (image table : List ℕ) (g : Geometry) (r : Res (List
 done_ok P N image table g (ok after) e = refl
 done_ok P N image table g (err n p) e = clash e
 
-module _ (P N : ℕ) (image table : List ℕ) (g : Geometry) (fits : shape P N image table ≡ Fits g) where
+module _ (P N : ℕ) (image table : List ℕ) (g : Geometry) (fits : shape P N image table ≡ Some g) where
   module _ (image_bytes : Bytes image) where
     pub format_call_lem : (local : Bool) → (format_call P N image table local).0 ≡ ok tt → Formatted g local image (format_call P N image table local).1
     unfolding format_call

@@ -1,10 +1,8 @@
 -- Demand 3: where nothing but room could refuse a put, or a making, it is done exactly when there is a candidate, else 17; and no candidate has fewer pages in use than its result.
-use Rattle.std.specs.Prelude.{◌≡◌, refl, ◌↔◌, ◌⊎◌, List, ◌++◌, ℕ, ◌+◌, ◌≤◌, ◌<◌, length}
+use Rattle.std.specs.Prelude.{Option, Some, None, ◌≡◌, refl, ◌↔◌, ◌⊎◌, List, ◌++◌, ℕ, ◌+◌, ◌≤◌, ◌<◌, length}
 use Rattle.std.proofs.Common.{ap, sym, ◌∙◌, subst, inl, inr, arith, length-append}
 use Rattle.std.proofs.Math.Decide.{dec_lt}
 use Rattle.geometry.specs.declared.Geometry.{Geometry}
-use Rattle.geometry.specs.declared.Shape.{Shape}
-use Rattle.geometry.specs.declared.Shape.TheVariants.{Fits, Invalid}
 use Rattle.geometry.specs.Geometry.{Fit}
 use Rattle.geometry.specs.Number.{Bytes}
 use Rattle.rules.specs.Result.{Res, ok, err}
@@ -154,7 +152,7 @@ module _ {asked : Res Path} {Allowed Wanted : Found → Type 0} {target : Items 
 
   -- ---- nothing but room could refuse it exactly when it is done or refused for room
   -- what it has met when it comes to the room
-  room_met : (g : Geometry) → shape P N image table ≡ Fits g → (i : Image) → check g (views_of g image) ≡ ok i → (x : Target) → target i.tree ≡ ok x → OnlyRoom P N image table asked Allowed
+  room_met : (g : Geometry) → shape P N image table ≡ Some g → (i : Image) → check g (views_of g image) ≡ ok i → (x : Target) → target i.tree ≡ ok x → OnlyRoom P N image table asked Allowed
   room_met g s i c x t =
       let m = C.met i.tree x t in
       record { geometry = g; right = s; tree = i; accepted = c; to = x.to; formed = m.formed; place = x.place; there = m.there; shown = m.seen; allowed = m.allowed }
@@ -163,7 +161,7 @@ module _ {asked : Res Path} {Allowed Wanted : Found → Type 0} {target : Items 
   not_17 : {A D : Type 0} (low high most : ℕ) (r : Res A) → Refuses low high most r → high < 17 → r ≡ err 17 0 → D
   not_17 low high most r h k e = absurd (omega (arith, (h.number 17 0 e).1))
 
-  rule_met : (g : Geometry) → shape P N image table ≡ Fits g → (r : Res (List ℕ)) → put_at g target (bytes_at g) image ≡ r
+  rule_met : (g : Geometry) → shape P N image table ≡ Some g → (r : Res (List ℕ)) → put_at g target (bytes_at g) image ≡ r
       → ((effect P N image table g (plainly r)).0 ≡ ok tt) ⊎ ((effect P N image table g (plainly r)).0 ≡ err 17 0) → OnlyRoom P N image table asked Allowed
   unfolding put_at
   rule_met g s (ok after) e h = on_then _ _ _ e λ i c e. on_then _ _ _ e λ x t e. room_met g s i c x t
@@ -173,12 +171,12 @@ module _ {asked : Res Path} {Allowed Wanted : Found → Type 0} {target : Items 
       on_refused _ _ _ _ f (not_17 2 13 (g.pages + 33) _ (check_faults g (views_of g image) (omega (arith, (fit_of P N image table g s).valid.some))) (omega arith)) λ i c f.
       on_refused _ _ _ _ f (λ r. absurd (C.not_room i.tree r)) λ x t f. room_met g s i c x t
 
-  call_met : (s : Shape) → shape P N image table ≡ s
+  call_met : (s : Option Geometry) → shape P N image table ≡ s
       → ((in_geometry s (err 1 0, image, table) (λ g. effect P N image table g (plainly (put_at g target (bytes_at g) image)))).0 ≡ ok tt)
       ⊎ ((in_geometry s (err 1 0, image, table) (λ g. effect P N image table g (plainly (put_at g target (bytes_at g) image)))).0 ≡ err 17 0) → OnlyRoom P N image table asked Allowed
-  call_met Invalid e (inl h) = clash h
-  call_met Invalid e (inr h) = absurd (let z : ◌≡◌ {A = ℕ} 1 17 = cc in omega arith)
-  call_met (Fits g) e h = rule_met g e (put_at g target (bytes_at g) image) refl h
+  call_met None e (inl h) = clash h
+  call_met None e (inr h) = absurd (let z : ◌≡◌ {A = ℕ} 1 17 = cc in omega arith)
+  call_met (Some g) e h = rule_met g e (put_at g target (bytes_at g) image) refl h
 
   pub only_room : OnlyRoom P N image table asked Allowed ↔ ((call.0 ≡ ok tt) ⊎ (call.0 ≡ err 17 0))
   only_room = (

@@ -1,9 +1,7 @@
 -- What the public edits state, of the rules' calls; and as another answer says it.
-use Rattle.std.specs.Prelude.{◌≡◌, refl, ◌↔◌, ◌⊎◌, Bool, List, ℕ}
+use Rattle.std.specs.Prelude.{Option, Some, None, ◌≡◌, refl, ◌↔◌, ◌⊎◌, Bool, List, ℕ}
 use Rattle.std.proofs.Common.{ap₂, inl, inr}
 use Rattle.geometry.specs.declared.Geometry.{Geometry}
-use Rattle.geometry.specs.declared.Shape.{Shape}
-use Rattle.geometry.specs.declared.Shape.TheVariants.{Fits, Invalid}
 use Rattle.geometry.specs.Number.{Bytes}
 use Rattle.rules.specs.Result.{Res, ok, err}
 use Rattle.rules.specs.Format.{format}
@@ -44,12 +42,12 @@ module _ (P N : ℕ) (image table : List ℕ) where
   unfolding format_call
   only_1_or_4 local h = go (shape P N image table) h
     where
-      call : Shape → Res (Unit {0})
+      call : Option Geometry → Res (Unit {0})
       call s = (in_geometry s (err 1 0, image, table) (λ g. effect P N image table g (plainly (format g local image)))).0
 
-      go : (s : Shape) → (call s ≡ ok tt → ⊥) → (call s ≡ err 1 0) ⊎ (call s ≡ err 4 0)
-      go Invalid h = inl refl
-      go (Fits g) h = inr (fault_4 g local (format g local image) refl h)
+      go : (s : Option Geometry) → (call s ≡ ok tt → ⊥) → (call s ≡ err 1 0) ⊎ (call s ≡ err 4 0)
+      go None h = inl refl
+      go (Some g) h = inr (fault_4 g local (format g local image) refl h)
 
   module _ (image_bytes : Bytes image) where
     pub format_stated : (local : Bool) → Formats P N image table local ((format_call P N image table local).0 ≡ ok tt) (λ r. (format_call P N image table local).0 ≡ r) (format_call P N image table local).1

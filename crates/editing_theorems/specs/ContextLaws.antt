@@ -13,8 +13,7 @@ use Rattle.rules.specs.Paths.{Site, below}
 use Rattle.rules.specs.Writes.{control_of}
 use Rattle.reading_theorems.specs.Directory.{all_split}
 use Rattle.editing_theorems.specs.HeldPackets.{pages_linked, count_directory, packets_same, below_same}
-use Rattle.editing_theorems.specs.Contexts.{Context, gap, after_page, after_file, after_directory, filled, gap_label, around, filled_all, around_all, site_at, above_at, levels_at}
-use Rattle.editing_theorems.specs.Contexts.{own_around, start_filled_all}
+use Rattle.editing_theorems.specs.Contexts.{Context, gap, after_page, after_file, after_directory, filled, gap_label, around, filled_all, around_all, site_at, above_at, levels_at, own_around, start_filled_all}
 
 -- ---- a directory's entries do not tell what is below a subdirectory but its start page
 pub tokens_filled : (c : Context) (d e : Items) → start_of e ≡ start_of d → tokens (filled c e) ≡ tokens (filled c d)

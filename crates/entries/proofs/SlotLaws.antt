@@ -1,4 +1,5 @@
 -- A place in a directory as the code makes and reads it.
+use Rattle.std.specs.Prelude.{Ok}
 use mathlib.Core.Path.{◌≡◌, refl, ap, ap₂, sym, ◌∙◌}
 use mathlib.Core.List.{List}
 use Prim.Native.Nat.{ℕ, suc, ◌+◌, ◌-◌, ◌*◌, ◌/◌, ◌≤◌, ◌<◌}
@@ -13,7 +14,6 @@ use Rattle.rules.specs.Names.{entry_of}
 use Rattle.packet.specs.Packet.{Packet, bad, good, View, view_of}
 use Rattle.packet.specs.Reading.{right_packet}
 use Rattle.chain.specs.declared.Cursor.{Cursor}
-use Rattle.chain.specs.declared.Step.TheVariants as step
 use Rattle.chain.specs.Steps.{after, step_of}
 use Rattle.chain.proofs.Following.{stepped}
 use Rattle.entries.specs.declared.Slot.{Slot}
@@ -21,7 +21,7 @@ use Rattle.entries.specs.EntrySlots.{Fits, opened, open_of}
 
 -- a place at the first entry of a page that is passed
 module _ (g : Geometry) (v : View) (c : Cursor) (h : c.page < g.pages) where
-  pub open_is : (size : ℕ) (d : Cursor) (skip n : ℕ) → step.Page size d ≡ step_of g v c → n ≡ (size - skip) / entry_size g
+  pub open_is : (size : ℕ) (d : Cursor) (skip n : ℕ) → Ok (size, d) ≡ step_of g v c → n ≡ (size - skip) / entry_size g
       → ◌≡◌ {A = Slot} (record { page = c.page; skip = skip; count = n; at = 0; next = d }) (open_of g v skip c)
   unfolding open_of
   open_is size d skip n f q =
@@ -29,10 +29,6 @@ module _ (g : Geometry) (v : View) (c : Cursor) (h : c.page < g.pages) where
       let s : n ≡ length (drop skip k.0) / entry_size g = q ∙ ap (λ (i : ℕ). i / entry_size g) (sym (length-drop skip k.0 ∙ ap (λ (i : ℕ). i - skip) k.2)) in
       let j : d ≡ after c (length k.0) d.page = k.3 ∙ ap (λ (i : ℕ). after c i d.page) (sym k.2) in
       ap₂ (λ (i : ℕ) (x : Cursor). record { page = c.page; skip = skip; count = i; at = 0; next = x }) s j ∙ ap (opened g skip c) (sym k.1)
-
--- entries that fit in the bytes after the control field
-pub none_left : (size skip e : ℕ) → size < skip → 0 ≡ (size - skip) / e
-none_left size skip e h = let z : size - skip ≡ 0 = omega arith in rw z (sym (native.Mathlib.Nat.zero-div e))
 
 -- a place's entries lie in its page
 pub slot_fits : (g : Geometry) (image : List ℕ) (skip : ℕ) (c : Cursor) → Fit g image → c.page < g.pages → skip ≤ 31 → Fits g (open_of g (view_of g image) skip c)

@@ -1,4 +1,5 @@
 -- The step to the next page and to the next entry, as the code goes: whatever is the next entry from a later page on is the next entry.
+use Rattle.std.specs.Prelude.{Option, Some, None}
 use mathlib.Core.Path.{◌≡◌, refl, ap, sym, ◌∙◌, subst}
 use mathlib.Core.List.{List, [], ◌∷◌, ◌++◌}
 use Prim.Native.Nat.{ℕ, ◌+◌, ◌≤◌, ◌<◌}
@@ -13,15 +14,13 @@ use Rattle.rules.specs.TreeLaws.{page_tokens, last_page}
 use Rattle.chain.specs.Claims.{IsGood, Counted}
 use Rattle.chain.proofs.Following.{page_known}
 use Rattle.entries.specs.declared.Slot.{Slot}
-use Rattle.entries.specs.declared.Next.{Next}
-use Rattle.entries.specs.declared.Next.TheVariants.{At, End}
 use Rattle.entries.specs.EntrySlots.{open_of, advanced}
 use Rattle.entries.specs.TokensAt.{TokensAt, InDirectory, PageAt, IsEntry, entries_ahead, PageRest, LastPage, NextPage, IsNextPage, Reached, EntryAt, EntryAhead, NextEntry, NoEntry, IsNextEntry}
 use Rattle.entries.proofs.AtSlot.{no_pages, following, page_less}
 use Rattle.entries.proofs.TokenLaws.{rest_entries, page_rest, page_opened}
 
 -- ---- the next page
-pub page_end : (g : Geometry) (v : View) (s : Slot) → s.next.page ≡ 0 → IsNextPage g v s End
+pub page_end : (g : Geometry) (v : View) (s : Slot) → s.next.page ≡ 0 → IsNextPage g v s None
 unfolding IsNextPage
 page_end g v s z ts A = record {
   entries = rest_entries A;
@@ -38,7 +37,7 @@ module _ {g : Geometry} {image : List ℕ} (fit : Fit g image) {s : Slot} (D : I
       let k = page_known g image fit _ s.next D.ahead.more (following D.ahead.more h z) in
       (h.counted, k.0, k.1)
 
-  pub page_on : (s' : Slot) → s' ≡ open_of g v 0 s.next → IsNextPage g v s (At s')
+  pub page_on : (s' : Slot) → s' ≡ open_of g v 0 s.next → IsNextPage g v s (Some s')
   unfolding IsNextPage
   page_on s' o =
       let h = D.ahead.at_slot in
@@ -54,27 +53,27 @@ module _ {g : Geometry} {image : List ℕ} (fit : Fit g image) {s : Slot} (D : I
       }
 
 -- ---- the answers taken apart
-module _ (g : Geometry) (v : View) (s : Slot) (r : Next) where
+module _ (g : Geometry) (v : View) (s : Slot) (r : Option Slot) where
   module _ (h : IsNextPage g v s r) where
-    pub page_answer : (s' : Slot) → r ≡ At s' → NextPage g v s s'
+    pub page_answer : (s' : Slot) → r ≡ Some s' → NextPage g v s s'
     unfolding IsNextPage
     page_answer s' e = subst (IsNextPage g v s) e h
 
-    pub last_answer : r ≡ End → (ts : List Token) → TokensAt g v s ts → LastPage s ts
+    pub last_answer : r ≡ None → (ts : List Token) → TokensAt g v s ts → LastPage s ts
     unfolding IsNextPage
     last_answer e = subst (IsNextPage g v s) e h
 
   module _ (h : IsNextEntry g v s r) where
-    pub entry_answer : (s' : Slot) → r ≡ At s' → NextEntry g v s s'
+    pub entry_answer : (s' : Slot) → r ≡ Some s' → NextEntry g v s s'
     unfolding IsNextEntry
     entry_answer s' e = subst (IsNextEntry g v s) e h
 
-    pub end_answer : r ≡ End → (ts : List Token) → TokensAt g v s ts → NoEntry ts
+    pub end_answer : r ≡ None → (ts : List Token) → TokensAt g v s ts → NoEntry ts
     unfolding IsNextEntry
     end_answer e = subst (IsNextEntry g v s) e h
 
 -- ---- the next entry
-pub entry_here : (g : Geometry) (v : View) (s : Slot) → s.at < s.count → IsNextEntry g v s (At s)
+pub entry_here : (g : Geometry) (v : View) (s : Slot) → s.at < s.count → IsNextEntry g v s (Some s)
 unfolding IsNextEntry
 entry_here g v s i = record { under = i; less = omega arith; ahead = λ ts A. record { pages = []; after = ts; split = refl; page_is = refl; reached = refl; ahead = A } }
 
@@ -86,7 +85,7 @@ none_left {s} {ts} {es} {after} i r = go es r.split r.count_is
     go [] q n = q
     go (e ∷ es) q n = absurd (omega arith)
 
-pub entry_end : (g : Geometry) (v : View) (s : Slot) → s.count ≤ s.at → ((ts : List Token) → TokensAt g v s ts → LastPage s ts) → IsNextEntry g v s End
+pub entry_end : (g : Geometry) (v : View) (s : Slot) → s.count ≤ s.at → ((ts : List Token) → TokensAt g v s ts → LastPage s ts) → IsNextEntry g v s None
 unfolding IsNextEntry
 entry_end g v s i h ts A = record { pages = []; are = none_left i (h ts A).rest }
 
@@ -103,9 +102,9 @@ module _ {g : Geometry} {v : View} {s s' : Slot} (h : NextPage g v s s') where
     reached_on p [] x e = (ap (λ (y : Slot). y.skip) e ∙ p.skip_is, ap (λ (y : Slot). y.at) e ∙ p.at_start)
     reached_on p (q ∷ ps) x e = e
 
-    pub entry_on : s'.count < 256 → (r : Next) → IsNextEntry g v s' r → IsNextEntry g v s r
+    pub entry_on : s'.count < 256 → (r : Option Slot) → IsNextEntry g v s' r → IsNextEntry g v s r
     unfolding IsNextEntry
-    entry_on few (At x) n = record {
+    entry_on few (Some x) n = record {
       under = n.under;
       less = omega (arith, n.less, h.less);
       ahead = λ ts A.
@@ -120,7 +119,7 @@ module _ {g : Geometry} {v : View} {s s' : Slot} (h : NextPage g v s s') where
             ahead = a.ahead;
           };
     }
-    entry_on few End n = λ ts A.
+    entry_on few None n = λ ts A.
         let p = page_begins ts A in
         let a = n p.later p.ahead in
         record { pages = s'.page ∷ a.pages; are = p.split ∙ ap (λ (y : List Token). new_page s'.page ∷ y) a.are }

@@ -1,5 +1,5 @@
 -- For contracts: a place in a directory whose chain stands, the tokens from it on, and the step to the next page and to the next entry.
-use Rattle.std.specs.Prelude.{◌≡◌, true, false, List, [], ◌∷◌, ◌++◌, ℕ, ◌+◌, ◌-◌, ◌*◌, ◌/◌, ◌≤◌, ◌<◌, length, drop}
+use Rattle.std.specs.Prelude.{◌≡◌, Option, Some, None, true, false, List, [], ◌∷◌, ◌++◌, ℕ, ◌+◌, ◌-◌, ◌*◌, ◌/◌, ◌≤◌, ◌<◌, length, drop}
 use Rattle.geometry.specs.declared.Geometry.{Geometry}
 use Rattle.geometry.specs.Geometry.{entry_size, control_size}
 use Rattle.packet.specs.Packet.{good, View}
@@ -15,8 +15,6 @@ use Rattle.directory.specs.declared.entries.Item.TheVariants.{Plain, Extended}
 use Rattle.chain.specs.Claims.{Counted}
 use Rattle.chain.specs.KnownChain.{ChainAt}
 use Rattle.entries.specs.declared.Slot.{Slot}
-use Rattle.entries.specs.declared.Next.{Next}
-use Rattle.entries.specs.declared.Next.TheVariants.{At, End}
 use Rattle.entries.specs.EntrySlots.{Fits, advanced}
 
 -- a place in the page with these bytes, these pages to come
@@ -107,9 +105,9 @@ pub record NextPage (g : Geometry) (v : View) (s s' : Slot) : Type 0 where
   pub less : pages_ahead g s' < pages_ahead g s
   pub ahead : (ts : List Token) → TokensAt g v s ts → PageAhead g v s ts s'
 
-unfoldable pub IsNextPage : Geometry → View → Slot → Next → Type 0
-IsNextPage g v s (At s') = NextPage g v s s'
-IsNextPage g v s End = (ts : List Token) → TokensAt g v s ts → LastPage s ts
+unfoldable pub IsNextPage : Geometry → View → Slot → Option Slot → Type 0
+IsNextPage g v s (Some s') = NextPage g v s s'
+IsNextPage g v s None = (ts : List Token) → TokensAt g v s ts → LastPage s ts
 
 -- the place that is reached when these pages have begun: the same if there are none, else the first entry of a page
 abbrev pub Reached : Slot → List ℕ → Slot → Type 0
@@ -134,6 +132,6 @@ pub record NoEntry (ts : List Token) : Type 0 where
   pub pages : List ℕ
   pub are : ts ≡ page_tokens pages
 
-unfoldable pub IsNextEntry : Geometry → View → Slot → Next → Type 0
-IsNextEntry g v s (At s') = NextEntry g v s s'
-IsNextEntry g v s End = (ts : List Token) → TokensAt g v s ts → NoEntry ts
+unfoldable pub IsNextEntry : Geometry → View → Slot → Option Slot → Type 0
+IsNextEntry g v s (Some s') = NextEntry g v s s'
+IsNextEntry g v s None = (ts : List Token) → TokensAt g v s ts → NoEntry ts

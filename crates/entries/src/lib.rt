@@ -12,7 +12,7 @@ ghost use Rattle.chain.specs.KnownChain.{KnownChain};
 ghost use Rattle.entries.specs.EntrySlots.{PlainKey, entry_key, keys_from, open_of, advanced, HasEntries, CountsEntries, Repeats};
 ghost use Rattle.entries.specs.TokensAt.{InDirectory, Begins, IsItemAt, IsNextPage, IsNextEntry};
 
-use chain::{Cursor, Step};
+use chain::Cursor;
 use directory::entries::{Item, after_entry, read_slot};
 use directory::extensions::extension_of;
 use geometry::{ATTRIBUTE, Geometry, LENGTH_BYTES};
@@ -27,18 +27,11 @@ pub struct Slot {
     pub next: Cursor,
 }
 
-// The next place of a directory, or that there is none.
-#[derive(Clone, Copy)]
-pub enum Next {
-    At(Slot),
-    End,
-}
-
 // Name and extension number as one number.
 pub fn key_of(name: u32, extension: u8) -> u64
     ensures { result ≡ key name extension }
 {
-    (name as u64) * (ATTRIBUTE as u64) + (extension_of(extension).number as u64)
+    u64::from(name) * u64::from(ATTRIBUTE) + u64::from(extension_of(extension).number)
 }
 
 impl Slot {
@@ -48,30 +41,14 @@ impl Slot {
         requires counted { Counted c × (c.page < g.pages) × IsGood (view_of g image.now c.page) × (skip ≤ 31) }
         ensures { result ≡ open_of g (view_of g image.now) skip c }
     {
-        let page = c.page;
-        match c.step(image, g, true) {
-            // the page is known to hold a right packet
-            Step::Refused(_, _) => Slot {
-                page,
-                skip,
-                count: 0,
-                at: 0,
-                next: c,
-            },
-            Step::Page(size, next) => {
-                // a page of a chain that was judged holds the bytes before its entries whole
-                let mut count = 0;
-                if skip <= size {
-                    count = g.entries_in(size - skip);
-                }
-                Slot {
-                    page,
-                    skip,
-                    count,
-                    at: 0,
-                    next,
-                }
-            }
+        let (size, next) = c.follow(image, g);
+        Slot {
+            page: c.page,
+            skip,
+            // a page of a chain that was judged holds the bytes before its entries whole
+            count: g.entries_in(size.saturating_sub(skip)),
+            at: 0,
+            next,
         }
     }
 
@@ -89,13 +66,9 @@ impl Slot {
         requires { self.at < self.count }
         ensures { result ≡ advanced self }
     {
-        let next = self.next;
         Slot {
-            page: self.page,
-            skip: self.skip,
-            count: self.count,
             at: self.at + 1,
-            next,
+            ..self
         }
     }
 
@@ -110,20 +83,20 @@ impl Slot {
     }
 
     // The first entry of the next page, past the entries that are left on this one.
-    pub fn next_page(self, image: &[u8], g: Geometry) -> Next
+    pub fn next_page(self, image: &[u8], g: Geometry) -> Option<Slot>
         requires fit { Fit g image.now }
         requires in_directory { InDirectory g (view_of g image.now) self }
         ensures { IsNextPage g (view_of g image.now) self result }
     {
         let next = self.next;
         if next.page == 0 {
-            return Next::End;
+            return None;
         }
-        Next::At(Slot::begin(next, 0, image, g))
+        Some(Slot::begin(next, 0, image, g))
     }
 
     // The next entry: the one at this place, or the first on a later page.
-    pub fn next_entry(self, image: &[u8], g: Geometry) -> Next
+    pub fn next_entry(self, image: &[u8], g: Geometry) -> Option<Slot>
         requires fit { Fit g image.now }
         requires in_directory { InDirectory g (view_of g image.now) self }
         ensures { IsNextEntry g (view_of g image.now) self result }
@@ -131,12 +104,9 @@ impl Slot {
         let mut slot = self;
         loop {
             if slot.at < slot.count {
-                return Next::At(slot);
+                return Some(slot);
             }
-            let Next::At(later) = slot.next_page(image, g) else {
-                return Next::End;
-            };
-            slot = later;
+            slot = slot.next_page(image, g)?;
         }
     }
 }
@@ -159,25 +129,13 @@ fn page_has(page: &[u8], from: usize, m: usize, key: u64, g: Geometry) -> bool
     ensures { result ≡ mem key (keys_from g m (drop from page.now)) }
 {
     let mut at = from;
-    let mut i = 0;
-    while i < m {
+    for _ in 0..m {
         if has_key(page, at, g.width, key) {
             return true;
         }
         at = after_entry(page, at, g.width);
-        i += 1;
     }
     false
-}
-
-// The lesser of two numbers.
-fn least(a: usize, b: usize) -> usize
-    ensures { result ≡ min a b }
-{
-    if a < b {
-        return a;
-    }
-    b
 }
 
 // How many entries of both kinds a directory has.
@@ -190,7 +148,7 @@ pub fn count_of(image: &[u8], g: Geometry, start: usize) -> usize
     let mut n = 0;
     loop {
         n += slot.count;
-        let Next::At(later) = slot.next_page(image, g) else {
+        let Some(later) = slot.next_page(image, g) else {
             return n;
         };
         slot = later;
@@ -208,14 +166,14 @@ pub fn is_repeated(image: &[u8], g: Geometry, start: usize, m: usize, key: u64) 
     loop {
         let count = slot.count;
         let page = geometry::page_of(image, g, slot.page);
-        if page_has(page, LENGTH_BYTES + slot.skip, least(left, count), key, g) {
+        if page_has(page, LENGTH_BYTES + slot.skip, left.min(count), key, g) {
             return true;
         }
         if left <= count {
             return false;
         }
         left -= count;
-        let Next::At(later) = slot.next_page(image, g) else {
+        let Some(later) = slot.next_page(image, g) else {
             // the directory has more than the entries passed
             return false;
         };

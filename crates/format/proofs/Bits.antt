@@ -3,6 +3,7 @@ use mathlib.Core.Path.{◌≡◌, refl, ap, ap₂, sym, ◌∙◌}
 use mathlib.Core.List.{List, [], ◌∷◌, ◌++◌}
 use Prim.Native.Nat.{ℕ, suc, ◌+◌, ◌-◌, ◌*◌, ◌/◌, ◌≤◌, ◌<◌}
 use native.Mathlib.Nat.{div-eq-sub-div, div-eq_of_lt}
+use native.Mathlib.Decide.{dec_lt}
 use native.Mathlib.Omega.{arith}
 use lib.ListN.{length}
 use lib.Seq.{take_at, drop_at, take_all}
@@ -12,7 +13,7 @@ use Rattle.packet.specs.Packet.{Write, write, write_page, after_writes}
 use Rattle.rules.specs.Chain.{linked, chain_of, pages_for}
 use Rattle.rules.specs.Format.{upward}
 use Rattle.rules.specs.Owners.{OwnerRecord}
-use Rattle.editing_theorems.specs.Capacity.{capacity_is, capacity_least}
+use Rattle.editing_theorems.specs.Capacity.{capacity_least}
 use Rattle.editing_theorems.specs.FormatLaws.{map_room}
 use Rattle.marks.specs.Marks.{marks_from}
 use Rattle.marks.specs.MarkLaws.{length_marks, marks_append}
@@ -94,6 +95,17 @@ module _ {g : Geometry} {table : List OwnerRecord} {bound : ℕ} {start image : 
   pub some_capacity : 0 < capacity
   some_capacity = omega (arith, held.capacity_is, capacity_least g held.fit.valid)
 
+  -- the number of the last page tells whether a page is full
+  module _ (end : ℕ) (counts : page + pages_for capacity left ≡ end + 1) where
+    pub is_full : page < end → capacity < left
+    is_full h = elim (dec_lt capacity left) [ yes k ↦ k | no k ↦ absurd (omega (arith, counts, pages_last capacity left some_capacity (omega arith))) ]
+
+    is_last : page ≡ end → left ≤ capacity
+    is_last e = elim (dec_lt capacity left) [ yes k ↦ absurd (omega (arith, counts, pages_more capacity left some_capacity k)) | no k ↦ omega arith ]
+
+    pub counts_on : capacity < left → page + 1 + pages_for capacity (left - capacity) ≡ end + 1
+    counts_on h = omega (arith, counts, pages_more capacity left some_capacity h)
+
   -- what a page written asks, and that the next one's number fits
   pub held_asks : (size : ℕ) → size ≤ left → size ≤ capacity → (page < g.pages) × (size ≤ data_capacity g) × (done + size ≤ 65536)
   held_asks size h k = (omega (arith, held.below), omega (arith, held.capacity_is), omega (arith, held.all, held.few))
@@ -112,6 +124,14 @@ module _ {g : Geometry} {table : List OwnerRecord} {bound : ℕ} {start image : 
         ∙ sym (ap (λ (ws : List Write). after_writes g ws image) (more capacity some_capacity table bound page done left h)) ∙ held.onward;
   }
 
-  pub held_last : (after : List ℕ) → left ≤ capacity → after ≡ write_page g (write page (marks_from table bound (8 * done) left) 0) image → after ≡ after_writes g (bits_writes g table bound) start
+  held_last : (after : List ℕ) → left ≤ capacity → after ≡ write_page g (write page (marks_from table bound (8 * done) left) 0) image → after ≡ after_writes g (bits_writes g table bound) start
   unfolding after_writes
   held_last after h e = e ∙ sym (ap (λ (ws : List Write). after_writes g ws image) (last capacity some_capacity table bound page done left h)) ∙ held.onward
+
+  -- the last page
+  module _ (end : ℕ) (counts : page + pages_for capacity left ≡ end + 1) (e : page ≡ end) where
+    pub last_asks : (end < g.pages) × (left ≤ data_capacity g) × (done + left ≤ 65536)
+    last_asks = let a = held_asks left (omega arith) (is_last end counts e) in (omega (arith, a.0, e), a.1, a.2)
+
+    pub last_held : (after : List ℕ) → after ≡ write_page g (write end (marks_from table bound (8 * done) left) 0) image → after ≡ after_writes g (bits_writes g table bound) start
+    last_held after w = held_last after (is_last end counts e) (w ∙ ap (λ (p : ℕ). write_page g (write p (marks_from table bound (8 * done) left) 0) image) (sym e))

@@ -11,16 +11,16 @@ ghost use Rattle.rules.specs.Result.{ok};
 ghost use Rattle.rules.specs.Calls.{format_call};
 ghost use Rattle.rules.specs.Promises.{Formats};
 ghost use Rattle.marks.specs.Marks.{marks_from};
-ghost use Rattle.rules.specs.Answers.{edit_result};
+ghost use Rattle.rules.specs.Answers.{answer_of};
 ghost use Rattle.volume.specs.Edits.{EditLeaves};
 ghost use Rattle.format.specs.Formats.{control_field, bits_writes, emptied};
 
 use geometry::{
     BITMAP_CONTROL_BYTES, BITMAP_CONTROL_PAST, BITMAP_FIELD_BYTES, BITMAP_FIELD_END,
     BITMAP_FIELD_PAST, Geometry, LOCAL_BITMAP, MAP_ADDRESS_AT, MARKER, MARKER_BYTES,
-    MOST_CONTROL_BYTES, MOST_DATA_BYTES, MOST_LOCAL_PAGES, RECORD_BYTES, Shape,
+    MOST_CONTROL_BYTES, MOST_DATA_BYTES, MOST_LOCAL_PAGES, RECORD_BYTES,
 };
-use rules::Edited;
+use refusals::{Fault, Refusal};
 
 // Bitmap control: the four bytes are the bitmap; they place a bitmap file.
 const LOCAL: usize = LOCAL_BITMAP as usize;
@@ -99,16 +99,14 @@ pub fn write_bits(image: &mut [u8], g: Geometry, table: &[u8], below: usize)
     ensures { image.new ≡ after_writes g (bits_writes g (records_of table.now) below) image.old }
 {
     let capacity = g.data_capacity();
-    let mut left = g.bitmap_size();
-    let mut page: usize = 1;
-    let mut done: usize = 0;
-    while capacity < left {
+    let size = g.bitmap_size();
+    let last = writes::pages_for(size, capacity);
+    let mut done = 0;
+    for page in 1..last {
         write_bytes(image, g, page, page + 1, done, capacity, table, below);
-        page += 1;
         done += capacity;
-        left -= capacity;
     }
-    write_bytes(image, g, page, 0, done, left, table, below);
+    write_bytes(image, g, last, 0, done, size - done, table, below);
 }
 
 // Writes an image without entries with a bitmap file: the pages up to its last are in use, no others.
@@ -149,31 +147,33 @@ fn is_allowed(g: Geometry, local: bool) -> bool
 }
 
 // Formats an image whose geometry is known: 4 for a local bitmap with N above 32.
-fn format_in(image: &mut [u8], g: Geometry, table: &mut [u8], local: bool) -> Edited
+fn format_in(image: &mut [u8], g: Geometry, table: &mut [u8], local: bool) -> Result<(), Refusal>
     requires fit { Fit g image.old }
     requires table_len { length table.old ≡ 4 * g.pages }
     ensures { EditLeaves g image.old (formatted g local image.old) result image.new (records_of table.new) }
 {
     if is_allowed(g, local) {
         write_empty(image, g, table, local);
-        volume::check_table(image, g, table);
-        return Edited::Done;
+        let _ = volume::check_table(image, g, table);
+        return Ok(());
     }
-    volume::check_table(image, g, table);
-    Edited::Refused(4, 0)
+    let _ = volume::check_table(image, g, table);
+    Err(Refusal(Fault::Control, 0))
 }
 
 // Formats an image: page 0 and, unless the bitmap is to be local, the bitmap file from page 1 upward.
 // Fills the owner table as a check of the image as it then stands.
-pub fn format(image: &mut [u8], size: u32, pages: u32, table: &mut [u8], local: bool) -> Edited
-    ensures table_after { (edit_result result, image.new, table.new) ≡ format_call size pages image.old table.old local }
-    ensures formats { Formats size pages image.old table.old local (edit_result result ≡ ok tt) (λ x. edit_result result ≡ x) image.new }
+pub fn format(
+    image: &mut [u8],
+    size: u32,
+    pages: u32,
+    table: &mut [u8],
+    local: bool,
+) -> Result<(), Refusal>
+    ensures table_after { (answer_of result, image.new, table.new) ≡ format_call size pages image.old table.old local }
+    ensures formats { Formats size pages image.old table.old local (answer_of result ≡ ok tt) (λ x. answer_of result ≡ x) image.new }
 {
-    match Geometry::new(size, pages, image.len(), table.len()) {
-        Shape::Invalid => Edited::Refused(1, 0),
-        Shape::Fits(g) => {
-            let end = RECORD_BYTES * g.pages;
-            format_in(image, g, &mut table[..end], local)
-        }
-    }
+    let g = Geometry::new(size, pages, image.len(), table.len())?;
+    let end = RECORD_BYTES * g.pages;
+    format_in(image, g, &mut table[..end], local)
 }

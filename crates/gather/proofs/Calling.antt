@@ -1,27 +1,23 @@
 -- What a gathering leaves in its geometry is what the rule's call leaves.
+use Rattle.refusals.specs.declared.Refusal.{Refusal}
+use Rattle.std.specs.Prelude.{Result, Ok, Err, Option, Some, None}
 use mathlib.Core.Path.{◌≡◌, refl, ap, ap₂, sym, ◌∙◌, subst}
 use mathlib.Core.List.{List, ◌++◌}
 use Prim.Native.Nat.{ℕ, ◌*◌, ◌<◌}
 use lib.ListN.{length, get_or, drop}
 use borrow.Author.Tests.{eq-eqb, ne_eqb}
 use Rattle.geometry.specs.declared.Geometry.{Geometry}
-use Rattle.geometry.specs.declared.Shape.{Shape}
-use Rattle.geometry.specs.declared.Shape.TheVariants.{Fits, Invalid}
 use Rattle.geometry.specs.ChooseLaws.{choose_true, choose_false}
 use Rattle.geometry.specs.Geometry.{geometry_of}
 use Rattle.geometry.specs.NumberLaws.{bytes_from}
-use Rattle.rules.specs.declared.Checked.{Checked}
-use Rattle.rules.specs.declared.Checked.TheVariants as w
 use Rattle.rules.specs.declared.Totals.{Totals}
-use Rattle.rules.specs.declared.Edited.{Edited}
-use Rattle.rules.specs.declared.Edited.TheVariants as edited
 use Rattle.rules.specs.Result.{Res, ok, err, and_then}
 use Rattle.rules.proofs.ResultLaws.{then_ok, then_err}
 use Rattle.rules.specs.Chain.{views_of}
 use Rattle.rules.specs.Tree.{Image}
 use Rattle.rules.specs.Check.{check}
 use Rattle.rules.specs.Owners.{OwnerRecord, table_after}
-use Rattle.rules.specs.Answers.{edit_result}
+use Rattle.rules.specs.Answers.{refused, answer_of}
 use Rattle.rules.specs.Calls.{in_geometry, shape}
 use Rattle.owners.specs.Records.{records_of}
 use Rattle.owners.specs.RecordLaws.{part_back}
@@ -34,21 +30,21 @@ use Rattle.gathering.specs.GatherPromises.{Gathers}
 use Rattle.gathering.proofs.GatherDone.{gather_stated}
 use Rattle.gather.specs.Copies.{CopiesAll, told_of, GatherLeaves}
 
-module _ (g : Geometry) (image second : List ℕ) (r : Checked) (u : List OwnerRecord) (K : TableChecked g (views_of g image) r u) where
+module _ (g : Geometry) (image second : List ℕ) (r : Result Totals Refusal) (u : List OwnerRecord) (K : TableChecked g (views_of g image) r u) where
   -- ---- the check refuses
-  pub fault_left : (n p : ℕ) → r ≡ w.Refused n p → GatherLeaves g image second (edited.Refused n p) second u
+  pub fault_left : (y : Refusal) → r ≡ Err y → GatherLeaves g image second (Err y) second u
   unfolding gather
-  fault_left n p e =
-      let k = subst (λ (x : Checked). TableChecked g (views_of g image) x u) e K in
-      let q : gather g image ≡ err n p = simp (k.0, then_err) in
+  fault_left y e =
+      let k = subst (λ (x : Result Totals Refusal). TableChecked g (views_of g image) x u) e K in
+      let q : gather g image ≡ refused y = simp (k.0, then_err) in
       record { answers = sym (ap (leaves second) q); told = image; told_is = sym (ap (told_of image) q); check = r; checked = K }
 
   -- ---- it accepts
-  module _ (t : Totals) (e : r ≡ w.Done t) where
+  module _ (t : Totals) (e : r ≡ Ok t) where
     pub has_image : HasImage g (views_of g image)
-    has_image = let k = subst (λ (x : Checked). TableChecked g (views_of g image) x u) e K in record { image = k.0; accepted = k.1 }
+    has_image = let k = subst (λ (x : Result Totals Refusal). TableChecked g (views_of g image) x u) e K in record { image = k.0; accepted = k.1 }
 
-    pub copied : (after : List ℕ) → CopiesAll g image after → (c : Checked) (v : List OwnerRecord) → TableChecked g (views_of g after) c v → GatherLeaves g image second edited.Done after v
+    pub copied : (after : List ℕ) → CopiesAll g image after → (c : Result Totals Refusal) (v : List OwnerRecord) → TableChecked g (views_of g after) c v → GatherLeaves g image second (Ok tt) after v
     unfolding gather
     copied after C c v T =
         let i = has_image.image in
@@ -65,7 +61,7 @@ module _ (P N : ℕ) (image second table : List ℕ) where
   left_is g (ok copy) = refl
   left_is g (err n p) = refl
 
-  abbrev in_shape : Shape → Answer
+  abbrev in_shape : Option Geometry → Answer
   in_shape s = in_geometry s (err 1 0, second, table) (λ g. gathered P N image second table g (gather g image))
 
   -- lengths that differ
@@ -78,20 +74,20 @@ module _ (P N : ℕ) (image second table : List ℕ) where
     unfolding gather_call
     call_is = simp (eq-eqb (length second) (length image) same, choose_true)
 
-    pub invalid : geometry_of P N (length image) (length table) ≡ Invalid → (err 1 0, second, table) ≡ gather_call P N image second table
+    pub invalid : geometry_of P N (length image) (length table) ≡ None → (err 1 0, second, table) ≡ gather_call P N image second table
     invalid e = sym (call_is ∙ ap in_shape e)
 
-    pub gather_left : (g : Geometry) → geometry_of P N (length image) (length table) ≡ Fits g → (part : List ℕ) → length part ≡ 4 * g.pages → ((i : ℕ) → get_or (part ++ drop (4 * g.pages) table) i 0 < 256)
-        → (r : Edited) (after : List ℕ) → GatherLeaves g image second r after (records_of part) → (edit_result r, after, part ++ drop (4 * g.pages) table) ≡ gather_call P N image second table
+    pub gather_left : (g : Geometry) → geometry_of P N (length image) (length table) ≡ Some g → (part : List ℕ) → length part ≡ 4 * g.pages → ((i : ℕ) → get_or (part ++ drop (4 * g.pages) table) i 0 < 256)
+        → (r : Result (Unit {0}) Refusal) (after : List ℕ) → GatherLeaves g image second r after (records_of part) → (answer_of r, after, part ++ drop (4 * g.pages) table) ≡ gather_call P N image second table
     gather_left g e part l h r after k =
         ap₂ (λ (x : Res (Unit {0}) × List ℕ) (y : List ℕ). (x.0, x.1, y)) k.answers
         (part_back g.pages part table l h ∙ table_told g (views_of g k.told) k.check (records_of part) table k.checked
         ∙ ap (λ (x : List ℕ). table_after g.pages (check g (views_of g x)) table) k.told_is)
         ∙ left_is g (gather g image) ∙ sym (call_is ∙ ap in_shape e)
 
-  pub gather_is : ((i : ℕ) → get_or image i 0 < 256) → (r : Edited) (after t : List ℕ) → (edit_result r, after, t) ≡ gather_call P N image second table
-      → Gathers P N image second table (edit_result r ≡ ok tt) after
+  pub gather_is : ((i : ℕ) → get_or image i 0 < 256) → (r : Result (Unit {0}) Refusal) (after t : List ℕ) → (answer_of r, after, t) ≡ gather_call P N image second table
+      → Gathers P N image second table (answer_of r ≡ ok tt) after
   gather_is h r after t e =
-      let q : edit_result r ≡ (gather_call P N image second table).0 = ap (λ (x : Answer). x.0) e in
+      let q : answer_of r ≡ (gather_call P N image second table).0 = ap (λ (x : Answer). x.0) e in
       let a : after ≡ (gather_call P N image second table).1 = ap (λ (x : Answer). x.1) e in
       rw (q, a) (gather_stated P N image second table (bytes_from image h))

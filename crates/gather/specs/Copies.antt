@@ -1,17 +1,17 @@
 -- For contracts: the copy of an accepted image in a second one, and what a gathering leaves in its geometry.
-use Rattle.std.specs.Prelude.{◌≡◌, Bool, List, ℕ, ◌+◌, ◌*◌, ◌≤◌, replicate}
+use Rattle.refusals.specs.declared.Refusal.{Refusal}
+use Rattle.std.specs.Prelude.{Result, ◌≡◌, Bool, List, ℕ, ◌+◌, ◌*◌, ◌≤◌, replicate}
 use Rattle.geometry.specs.declared.Geometry.{Geometry}
 use Rattle.geometry.specs.Geometry.{first_entries}
 use Rattle.packet.specs.Packet.{Write, after_writes}
-use Rattle.rules.specs.declared.Checked.{Checked}
-use Rattle.rules.specs.declared.Edited.{Edited}
 use Rattle.rules.specs.Result.{Res, ok, err}
 use Rattle.rules.specs.Chain.{views_of}
 use Rattle.rules.specs.Tree.{is_local, Image}
 use Rattle.rules.specs.Control.{the_root}
 use Rattle.rules.specs.Check.{check}
 use Rattle.rules.specs.Owners.{OwnerRecord}
-use Rattle.rules.specs.Answers.{edit_result}
+use Rattle.rules.specs.Answers.{answer_of}
+use Rattle.rules.specs.declared.Totals.{Totals}
 use Rattle.volume.specs.Scans.{TableChecked}
 use Rattle.volume.specs.Edits.{leaves}
 use Rattle.format.specs.Formats.{control_field}
@@ -51,9 +51,9 @@ told_of image (ok copy) = copy
 told_of image (err n p) = image
 
 -- the answer, the second image, and the table
-pub record GatherLeaves (g : Geometry) (image second : List ℕ) (r : Edited) (after : List ℕ) (table : List OwnerRecord) : Type 0 where
-  pub answers : ◌≡◌ {A = Res (Unit {0}) × List ℕ} (edit_result r, after) (leaves second (gather g image))
+pub record GatherLeaves (g : Geometry) (image second : List ℕ) (r : Result (Unit {0}) Refusal) (after : List ℕ) (table : List OwnerRecord) : Type 0 where
+  pub answers : ◌≡◌ {A = Res (Unit {0}) × List ℕ} (answer_of r, after) (leaves second (gather g image))
   pub told : List ℕ
   pub told_is : told ≡ told_of image (gather g image)
-  pub check : Checked
+  pub check : Result Totals Refusal
   pub checked : TableChecked g (views_of g told) check table

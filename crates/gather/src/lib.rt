@@ -8,16 +8,15 @@ ghost use Rattle.geometry.specs.Number.{Bytes};
 ghost use Rattle.rules.specs.Chain.{views_of};
 ghost use Rattle.rules.specs.Result.{ok};
 ghost use Rattle.listing.specs.KnownTree.{HasImage};
-ghost use Rattle.rules.specs.Answers.{edit_result};
+ghost use Rattle.rules.specs.Answers.{answer_of};
 ghost use Rattle.gathering.specs.Gather.{gather_call};
 ghost use Rattle.gathering.specs.GatherPromises.{Gathers};
 ghost use Rattle.gather.specs.Copies.{HasRoom, LaysRoot, HasKind, CopiesAll, GatherLeaves};
 
 use geometry::{
-    BITMAP_FIELD_BYTES, Geometry, LOCAL_BITMAP, MOST_CONTROL_BYTES, MOST_LEVELS, RECORD_BYTES,
-    ROOT, Shape,
+    BITMAP_FIELD_BYTES, Geometry, LOCAL_BITMAP, MOST_CONTROL_BYTES, MOST_LEVELS, RECORD_BYTES, ROOT,
 };
-use rules::{Checked, Edited};
+use refusals::{Fault, Refusal};
 
 // What stands in a byte that no packet uses.
 const UNUSED: u8 = 0xFF;
@@ -31,11 +30,7 @@ const FILE: usize = 0;
 fn blank(second: &mut [u8])
     ensures { second.new ≡ replicate (length second.old) 255 }
 {
-    let mut i = 0;
-    while i < second.len() {
-        second[i] = UNUSED;
-        i += 1;
-    }
+    second.fill(UNUSED);
 }
 
 // Lays the root with all below it into a blank image: its control field has these bytes, its further pages come from `from` on. The page after the last.
@@ -115,35 +110,33 @@ fn copy(image: &[u8], g: Geometry, second: &mut [u8], table: &mut [u8])
 }
 
 // Gathers an image whose geometry is known: the check, the copy, then the table of the copy.
-fn gather_in(image: &[u8], g: Geometry, second: &mut [u8], table: &mut [u8]) -> Edited
+fn gather_in(image: &[u8], g: Geometry, second: &mut [u8], table: &mut [u8]) -> Result<(), Refusal>
     requires fit { Fit g image.now }
     requires fit_2 { Fit g second.old }
     requires table_len { length table.old ≡ 4 * g.pages }
     ensures { GatherLeaves g image.now second.old result second.new (records_of table.new) }
 {
-    match volume::check_table(image, g, table) {
-        Checked::Refused(number, page) => Edited::Refused(number, page),
-        Checked::Done(_) => {
-            copy(image, g, second, table);
-            volume::check_table(second, g, table);
-            Edited::Done
-        }
-    }
+    volume::check_table(image, g, table)?;
+    copy(image, g, second, table);
+    let _ = volume::check_table(second, g, table);
+    Ok(())
 }
 
 // Gathers an image into a second one of the same length. Fills the owner table as a check of the copy; of the image if the check refuses that.
-pub fn gather(image: &[u8], size: u32, pages: u32, second: &mut [u8], table: &mut [u8]) -> Edited
-    ensures table_after { (edit_result result, second.new, table.new) ≡ gather_call size pages image.now second.old table.old }
-    ensures gathers { Gathers size pages image.now second.old table.old (edit_result result ≡ ok tt) second.new }
+pub fn gather(
+    image: &[u8],
+    size: u32,
+    pages: u32,
+    second: &mut [u8],
+    table: &mut [u8],
+) -> Result<(), Refusal>
+    ensures table_after { (answer_of result, second.new, table.new) ≡ gather_call size pages image.now second.old table.old }
+    ensures gathers { Gathers size pages image.now second.old table.old (answer_of result ≡ ok tt) second.new }
 {
     if second.len() != image.len() {
-        return Edited::Refused(1, 0);
+        return Err(Refusal(Fault::Sizes, 0));
     }
-    match Geometry::new(size, pages, image.len(), table.len()) {
-        Shape::Invalid => Edited::Refused(1, 0),
-        Shape::Fits(g) => {
-            let end = RECORD_BYTES * g.pages;
-            gather_in(image, g, second, &mut table[..end])
-        }
-    }
+    let g = Geometry::new(size, pages, image.len(), table.len())?;
+    let end = RECORD_BYTES * g.pages;
+    gather_in(image, g, second, &mut table[..end])
 }

@@ -1,12 +1,10 @@
 -- The copy that a gathering leaves, over bytes, and what the call states.
-use Rattle.std.specs.Prelude.{◌≡◌, Bool, true, false, List, ◌∷◌, ℕ, zero, suc, ◌-◌, ◌*◌, ◌≤◌, ◌<◌, length, take, drop, replicate}
+use Rattle.std.specs.Prelude.{Option, Some, None, ◌≡◌, Bool, true, false, List, ◌∷◌, ℕ, zero, suc, ◌-◌, ◌*◌, ◌≤◌, ◌<◌, length, take, drop, replicate}
 use Rattle.std.proofs.Math.Path.{refl, ap, sym, subst}
 use Rattle.std.proofs.Common.{◌∙◌, arith, eqb-true, eq-eqb}
 use Rattle.std.proofs.Math.Nat.{mul-le-mul_right, mul_comm, suc-mul}
 use Rattle.std.proofs.Math.Dec.{eqb}
 use Rattle.geometry.specs.declared.Geometry.{Geometry}
-use Rattle.geometry.specs.declared.Shape.{Shape}
-use Rattle.geometry.specs.declared.Shape.TheVariants.{Fits, Invalid}
 use Rattle.geometry.specs.Choose.{choose}
 use Rattle.geometry.specs.ChooseLaws.{choose_true, choose_false}
 use Rattle.geometry.specs.Geometry.{Fit, geometry_of}
@@ -116,7 +114,7 @@ module _ (P N : ℕ) (source second table : List ℕ) where
   abbrev Answer : Type 0
   Answer = Res (Unit {0}) × List ℕ × List ℕ
 
-  abbrev in_shape : Shape → Answer
+  abbrev in_shape : Option Geometry → Answer
   in_shape s = in_geometry s (err 1 0, second, table) (λ g. gathered P N source second table g (gather g source))
 
   abbrev whole : Bool → Answer
@@ -130,9 +128,9 @@ module _ (P N : ℕ) (source second table : List ℕ) where
   answered_err g (ok copy) h = absurd (h refl)
   answered_err g (err n p) h = refl
 
-  kept : (s : Shape) → ((in_shape s).0 ≡ ok tt → ⊥) → (in_shape s).1 ≡ second
-  kept Invalid h = refl
-  kept (Fits g) h = answered_err g (gather g source) h
+  kept : (s : Option Geometry) → ((in_shape s).0 ≡ ok tt → ⊥) → (in_shape s).1 ≡ second
+  kept None h = refl
+  kept (Some g) h = answered_err g (gather g source) h
 
   kept_whole : (t : Bool) → ((whole t).0 ≡ ok tt → ⊥) → (whole t).1 ≡ second
   kept_whole true h = simp choose_true (kept (shape P N source table) (simp choose_true at h))
@@ -144,10 +142,10 @@ module _ (P N : ℕ) (source second table : List ℕ) where
   done_whole false e = clash (simp choose_false at e)
 
   module _ (bytes : Bytes source) where
-    done_shape : (s : Shape) → geometry_of P N (length source) (length table) ≡ s → (in_shape s).0 ≡ ok tt → WellFormedAt P N source table
+    done_shape : (s : Option Geometry) → geometry_of P N (length source) (length table) ≡ s → (in_shape s).0 ≡ ok tt → WellFormedAt P N source table
     unfolding gather
-    done_shape Invalid q e = clash e
-    done_shape (Fits g) q e = on_then _ _ _ (answered_ok g (gather g source) e) λ i a _.
+    done_shape None q e = clash e
+    done_shape (Some g) q e = on_then _ _ _ (answered_ok g (gather g source) e) λ i a _.
         record { geometry = g; right = q; reading = i; formed = (accepted_iff g source (fit_of P N source table g q) bytes i).0 a }
 
     shape_done : (w : WellFormedAt P N source table) → (in_shape (shape P N source table)).0 ≡ ok tt
@@ -155,7 +153,7 @@ module _ (P N : ℕ) (source second table : List ℕ) where
     shape_done w =
         let e : gather w.geometry source ≡ ok (gathered_bytes w.geometry (bare_of w.reading))
         = ap (λ (r : Res Image). and_then r λ i. ok (gathered_bytes w.geometry (bare_of i))) (accepted w.geometry source w.reading w.formed) ∙ then_ok w.reading _ in
-        ap (λ (s : Shape). (in_shape s).0) w.right ∙ ap (λ (r : Res (List ℕ)). (gathered P N source second table w.geometry r).0) e
+        ap (λ (s : Option Geometry). (in_shape s).0) w.right ∙ ap (λ (r : Res (List ℕ)). (gathered P N source second table w.geometry r).0) e
 
     pub gather_stated : Gathers P N source second table ((gather_call P N source second table).0 ≡ ok tt) (gather_call P N source second table).1
     unfolding gather_call

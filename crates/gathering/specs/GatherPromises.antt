@@ -1,7 +1,6 @@
 -- What a gathering states of the copy it leaves, over byte images.
-use Rattle.std.specs.Prelude.{◌≡◌, ◌↔◌, List, [], ◌∷◌, ◌++◌, ℕ, ◌-◌, ◌≤◌, ◌<◌, length, take, drop, replicate}
+use Rattle.std.specs.Prelude.{Some, ◌≡◌, ◌↔◌, List, [], ◌∷◌, ◌++◌, ℕ, ◌-◌, ◌≤◌, ◌<◌, length, take, drop, replicate}
 use Rattle.geometry.specs.declared.Geometry.{Geometry}
-use Rattle.geometry.specs.declared.Shape.TheVariants.{Fits}
 use Rattle.geometry.specs.Geometry.{geometry_of, data_capacity, first_entries, later_entries}
 use Rattle.geometry.specs.Number.{Bytes}
 use Rattle.geometry.specs.Page.{page_of}
@@ -91,5 +90,5 @@ pub record Gathered (g : Geometry) (source copy : List ℕ) : Type 0 where
 -- the call: done exactly when the second image has the source's length and the source is well formed; then it leaves a gathered copy; refused, the second image keeps its bytes
 pub record Gathers (P N : ℕ) (source second table : List ℕ) (is_done : Type 0) (after : List ℕ) : Type 0 where
   pub exactly : is_done ↔ ((length second ≡ length source) × WellFormedAt P N source table)
-  pub done : (g : Geometry) → geometry_of P N (length source) (length table) ≡ Fits g → is_done → Gathered g source after
+  pub done : (g : Geometry) → geometry_of P N (length source) (length table) ≡ Some g → is_done → Gathered g source after
   pub refused : (is_done → ⊥) → after ≡ second

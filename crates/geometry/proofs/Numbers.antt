@@ -1,35 +1,29 @@
 -- One byte more of a number, read from the last byte on and written from the first.
 use mathlib.Core.Path.{◌≡◌, sym, ap, ◌∙◌}
-use mathlib.Core.List.{List, [], ◌∷◌, ◌++◌, append_assoc, append-nil}
-use Prim.Native.Nat.{ℕ, suc, ◌+◌, ◌-◌, ◌*◌, ◌/◌, ◌%◌, ◌^◌, ◌≤◌, ◌<◌}
-use native.Mathlib.Nat.{pow-le-pow_right, pow-suc}
+use mathlib.Core.List.{List, [], ◌∷◌, ◌++◌, append_assoc}
+use Prim.Native.Nat.{ℕ, suc, ◌+◌, ◌-◌, ◌/◌, ◌%◌, ◌^◌, ◌≤◌, ◌<◌}
+use native.Mathlib.Nat.{pow-le-pow_right}
 use native.Mathlib.Numerals.{add-one}
 use native.Mathlib.Omega.{arith}
-use lib.ListN.{length, get_or, take, drop, set}
-use lib.Seq.{drop-cons, take-suc-set, take_all}
+use lib.ListN.{length, take, set, length-append, length-set}
+use lib.Seq.{take-suc-set}
 use Rattle.geometry.specs.Number.{number, number_bytes}
 
-pub read_more : (bs : List ℕ) (l v : ℕ) → 0 < l → l ≤ length bs → v ≡ number (drop l bs) → get_or bs (l - 1) 0 + 256 * v ≡ number (drop (l - 1) bs)
-read_more bs l v h k e =
-    let s : suc (l - 1) ≡ l = omega arith in
-    let i : l - 1 < length bs = omega arith in
-    ap (λ (x : ℕ). get_or bs (l - 1) 0 + 256 * x) (e ∙ ap (λ (k : ℕ). number (drop k bs)) (sym s)) ∙ sym (ap number (drop-cons bs (l - 1) 0 i))
+-- the bytes seen are the last ones, behind those still to come; the value is their number
+pub record Read (bytes rest : List ℕ) (value : ℕ) : Type 0 where
+  pub seen : List ℕ
+  pub whole : rest ++ seen ≡ bytes
+  pub is : value ≡ number seen
+  pub below : value < 256 ^ length seen
 
-pub read_bound : (w v n l : ℕ) → 0 < l → l ≤ n → w < 256 → v < 256 ^ (n - l) → w + 256 * v < 256 ^ (n - (l - 1))
-read_bound w v n l h k a b =
-    let s : n - (l - 1) ≡ suc (n - l) = omega arith in
-    rw (s, pow-suc 256 (n - l)) (omega arith)
+pub read_fits : (bytes rest : List ℕ) (v : ℕ) → length bytes ≤ 4 → Read bytes rest v → v < 4294967296
+read_fits bytes rest v h r =
+    let k : length r.seen ≤ 4 = omega (arith, simp length-append at (ap length r.whole)) in
+    let p : 256 ^ length r.seen ≤ 256 ^ 4 = pow-le-pow_right (omega arith) k in
+    omega (arith, r.below)
 
-pub read_fits : (v k : ℕ) → k ≤ 4 → v < 256 ^ k → v < 4294967296
-read_fits v k h b = let p : 256 ^ k ≤ 256 ^ 4 = pow-le-pow_right (omega arith) h in omega arith
-
-pub write_more : (b : List ℕ) (n x rest i : ℕ) → i < length b → number_bytes n x ≡ take i b ++ number_bytes (n - i) rest → n ≡ length b
-    → number_bytes n x ≡ take (i + 1) (set b i (rest % 256)) ++ number_bytes (n - (i + 1)) (rest / 256)
-write_more b n x rest i h e k =
-    let s : n - i ≡ suc (n - suc i) = omega arith in
-    e ∙ rw (add-one i, take-suc-set b i (rest % 256), s) (sym (append_assoc (take i b) (rest % 256 ∷ []) (number_bytes (n - suc i) (rest / 256))))
-
-pub write_done : (b : List ℕ) (n x rest i : ℕ) → length b ≤ i → number_bytes n x ≡ take i b ++ number_bytes (n - i) rest → n ≡ length b → b ≡ number_bytes n x
-write_done b n x rest i h e k =
-    let s : n - i ≡ 0 = omega arith in
-    sym (e ∙ rw (s, take_all i b h) (append-nil b))
+pub write_more : (b : List ℕ) (x rest i : ℕ) → i < length b → number_bytes (length b) x ≡ take i b ++ number_bytes (length b - i) rest
+    → let c = set b i (rest % 256) in number_bytes (length c) x ≡ take (i + 1) c ++ number_bytes (length c - (i + 1)) (rest / 256)
+write_more b x rest i h e =
+    let s : length b - i ≡ suc (length b - suc i) = omega arith in
+    rw (length-set b i (rest % 256)) (e ∙ rw (add-one i, take-suc-set b i (rest % 256), s) (sym (append_assoc (take i b) (rest % 256 ∷ []) (number_bytes (length b - suc i) (rest / 256)))))

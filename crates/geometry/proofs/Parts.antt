@@ -1,50 +1,26 @@
 -- A part that was lent and filled, said of the whole.
 use mathlib.Core.Path.{◌≡◌, refl, ap, ◌∙◌}
 use mathlib.Core.List.{List, ◌++◌, [], ◌∷◌}
-use Prim.Native.Nat.{ℕ, suc, ◌+◌, ◌-◌, ◌*◌, ◌^◌, ◌≤◌, ◌<◌}
+use Prim.Native.Nat.{ℕ, ◌+◌, ◌-◌, ◌*◌, ◌^◌, ◌≤◌, ◌<◌}
 use native.Mathlib.Nat.{add-sub_cancel_left}
 use native.Mathlib.Omega.{arith}
-use lib.ListN.{length, get_or, take, drop, length-drop}
-use lib.Seq.{drop-cons, length-take-le, drop-drop}
+use lib.ListN.{length, take, drop, length-drop}
+use lib.Seq.{length-take-le, drop-drop}
 use Rattle.geometry.specs.Number.{number, number_bytes}
 use Rattle.geometry.specs.NumberLaws.{length_number}
 use Rattle.geometry.specs.Page.{overwritten}
-
--- a number of one byte, of two and of four
-pub one_byte : (at n x : ℕ) (b : List ℕ) → at + n ≤ length b → (x ≡ get_or b at 0) × (x < 256) → n ≡ 1 → (x ≡ number (take n (drop at b))) × (x < 256 ^ n)
-one_byte at n x b h e k =
-    let d : number (take 1 (drop at b)) ≡ get_or b at 0 = ap (λ (l : List ℕ). number (take 1 l)) (drop-cons b at 0 (omega arith)) ∙ omega arith in
-    rw k (omega arith, omega arith)
-
-pub two_bytes : (at x y : ℕ) (b : List ℕ) → at + 2 ≤ length b → (x ≡ get_or b at 0) × (x < 256) → (y ≡ get_or b (at + 1) 0) × (y < 256)
-    → (x + 256 * y ≡ number (take 2 (drop at b))) × (x + 256 * y < 65536)
-two_bytes at x y b h e f =
-    let s : at + 1 ≡ suc at = omega arith in
-    let d : number (take 2 (drop at b)) ≡ get_or b at 0 + 256 * get_or b (suc at) 0 =
-    ap (λ (l : List ℕ). number (take 2 l)) (drop-cons b at 0 (omega arith))
-    ∙ ap (λ (l : List ℕ). get_or b at 0 + 256 * number (take 1 l)) (drop-cons b (suc at) 0 (omega arith)) ∙ omega arith in
-    (omega (arith, ap (λ (j : ℕ). get_or b j 0) s), omega arith)
-
-pub two_are : (at n x : ℕ) (b : List ℕ) → (x ≡ number (take 2 (drop at b))) × (x < 65536) → n ≡ 2 → (x ≡ number (take n (drop at b))) × (x < 256 ^ n)
-two_are at n x b e k = rw k (e.0, omega arith)
 
 number_split : (l : List ℕ) → 2 ≤ length l → number (take 4 l) ≡ number (take 2 l) + 65536 * number (take 2 (drop 2 l))
 number_split [] h = absurd (omega arith)
 number_split (x ∷ []) h = absurd (omega arith)
 number_split (x ∷ y ∷ l) h = omega arith
 
+-- a number of four bytes, read as two pairs
 pub four_bytes : (at n x y : ℕ) (b : List ℕ) → at + n ≤ length b → (x ≡ number (take 2 (drop at b))) × (x < 65536) → (y ≡ number (take 2 (drop (at + 2) b))) × (y < 65536) → n ≡ 4
     → (x + 65536 * y ≡ number (take n (drop at b))) × (x + 65536 * y < 256 ^ n)
 four_bytes at n x y b h e f k =
     let s = number_split (drop at b) (simp length-drop (omega arith)) in
     rw k (omega (arith, ap (λ (l : List ℕ). number (take 2 l)) (drop-drop 2 at b)), omega arith)
-
--- a number read from a part
-pub number_read : (at n x : ℕ) (b : List ℕ) → at + n ≤ length b → x ≡ number (take (at + n - at) (drop at b)) → x < 256 ^ length (take (at + n - at) (drop at b))
-    → (x ≡ number (take n (drop at b))) × (x < 256 ^ n)
-number_read at n x b h e k =
-    let s : length (take n (drop at b)) ≡ n = length-take-le n (drop at b) (simp length-drop (omega arith)) in
-    (e ∙ rw (add-sub_cancel_left at n), rw (add-sub_cancel_left at n, s) at k)
 
 module _ (at k : ℕ) (b last : List ℕ) where
   filled : (xs : List ℕ) → length xs ≡ k → last ≡ xs → take at b ++ (last ++ drop (at + k - at) (drop at b)) ≡ overwritten at xs b

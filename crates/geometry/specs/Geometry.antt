@@ -1,8 +1,8 @@
 -- Document 01, "Geometry": page length P (`size`), page count N (`pages`), bytes of a page number n (`width`), and what follows from them.
-use Rattle.std.specs.Prelude.{◌≡◌, Bool, ◌&&◌, List, ℕ, ◌+◌, ◌-◌, ◌*◌, ◌/◌, ◌≤◌, length, leb, eqb}
+use Rattle.std.specs.Prelude.{◌≡◌, Option, Some, None, Result, Ok, Err, Bool, ◌&&◌, List, ℕ, ◌+◌, ◌-◌, ◌*◌, ◌/◌, ◌≤◌, length, leb, eqb}
 use Rattle.geometry.specs.declared.Geometry.{Geometry}
-use Rattle.geometry.specs.declared.Shape.{Shape}
-use Rattle.geometry.specs.declared.Shape.TheVariants.{Fits, Invalid}
+use Rattle.refusals.specs.declared.Refusal.{Refusal}
+use Rattle.refusals.specs.declared.Fault.TheVariants.{Sizes}
 use Rattle.geometry.specs.Choose.{choose}
 
 -- page numbers take one byte for N up to 256, two above
@@ -13,9 +13,14 @@ width_for pages = choose (leb pages 256) 1 2
 unfoldable pub right : ℕ → ℕ → ℕ → ℕ → Bool
 right size pages image owners = leb 32 size && (leb size 256 && (leb 2 pages && (leb pages 65535 && (eqb image (size * pages) && leb (4 * pages) owners))))
 
--- the geometry, or number 1
-unfoldable pub geometry_of : ℕ → ℕ → ℕ → ℕ → Shape
-geometry_of size pages image owners = choose (right size pages image owners) (Fits (record { size = size; pages = pages; width = width_for pages })) Invalid
+-- the geometry, if they are right
+unfoldable pub geometry_of : ℕ → ℕ → ℕ → ℕ → Option Geometry
+geometry_of size pages image owners = choose (right size pages image owners) (Some (record { size = size; pages = pages; width = width_for pages })) None
+
+-- else number 1
+abbrev pub fitting : Option Geometry → Result Geometry Refusal
+fitting (Some g) = Ok g
+fitting None = Err (record { 0 = Sizes; 1 = 0 })
 
 -- at most P - 3 - n data bytes in a packet
 unfoldable pub data_capacity : Geometry → ℕ

@@ -1,11 +1,12 @@
 -- Sizes that are right are a geometry's.
-use Rattle.std.specs.Prelude.{◌≡◌, refl, List, ℕ, ◌*◌, ◌≤◌, leb, length}
-use Rattle.std.proofs.Common.{subst, arith, leb-true, le-leb, eqb-true, eq-eqb}
+use Rattle.std.specs.Prelude.{◌≡◌, refl, Option, Some, None, Ok, Err, List, ℕ, ◌*◌, ◌≤◌, leb, length}
+use Rattle.std.proofs.Common.{ap, subst, arith, leb-true, le-leb, eqb-true, eq-eqb}
 use Rattle.geometry.specs.declared.Geometry.{Geometry}
-use Rattle.geometry.specs.declared.Shape.TheVariants.{Fits}
 use Rattle.geometry.specs.BoolLaws.{both}
 use Rattle.geometry.specs.ChooseLaws.{choose_true, on_choose}
-use Rattle.geometry.specs.Geometry.{width_for, right, geometry_of, Valid, Fit}
+use Rattle.geometry.specs.Geometry.{width_for, right, geometry_of, fitting, Valid, Fit}
+use Rattle.refusals.specs.declared.Refusal.{Refusal}
+use Rattle.refusals.specs.declared.Fault.TheVariants.{Sizes}
 
 width_one : (N : ℕ) → 1 ≤ width_for N
 unfolding width_for
@@ -21,7 +22,7 @@ pub record Sized (i o : ℕ) (g : Geometry) : Type 0 where
   pub whole : i ≡ g.size * g.pages
   pub room : 4 * g.pages ≤ o
 
-pub sized_of : (P N i o : ℕ) (g : Geometry) → geometry_of P N i o ≡ Fits g → Sized i o g
+pub sized_of : (P N i o : ℕ) (g : Geometry) → geometry_of P N i o ≡ Some g → Sized i o g
 unfolding geometry_of right
 sized_of P N i o g e = on_choose _ _ _ _ e
     (λ t e.
@@ -46,15 +47,15 @@ sized_of P N i o g e = on_choose _ _ _ _ e
     }))
     (λ t e. absurd (let z : ◌≡◌ {A = ℕ} 0 1 = cc in omega arith))
 
-pub fit_of : (P N : ℕ) (image table : List ℕ) (g : Geometry) → geometry_of P N (length image) (length table) ≡ Fits g → Fit g image
+pub fit_of : (P N : ℕ) (image table : List ℕ) (g : Geometry) → geometry_of P N (length image) (length table) ≡ Some g → Fit g image
 fit_of P N image table g e = let s = sized_of P N (length image) (length table) g e in record { valid = s.valid; whole = s.whole }
 
 -- the geometry of these sizes, whatever owner table was lent; one of four bytes a page is enough
-pub geometry_is : (P N i o : ℕ) (g : Geometry) → geometry_of P N i o ≡ Fits g → g ≡ record { size = P; pages = N; width = width_for N }
+pub geometry_is : (P N i o : ℕ) (g : Geometry) → geometry_of P N i o ≡ Some g → g ≡ record { size = P; pages = N; width = width_for N }
 unfolding geometry_of
 geometry_is P N i o g e = on_choose _ _ _ _ e (λ t e. cc) (λ t e. absurd (let z : ◌≡◌ {A = ℕ} 0 1 = cc in omega arith))
 
-pub least_table : (P N i o : ℕ) (g : Geometry) → geometry_of P N i o ≡ Fits g → geometry_of P N i (4 * N) ≡ Fits g
+pub least_table : (P N i o : ℕ) (g : Geometry) → geometry_of P N i o ≡ Some g → geometry_of P N i (4 * N) ≡ Some g
 unfolding geometry_of right
 least_table P N i o g e =
     let z : g ≡ record { size = P; pages = N; width = width_for N } = geometry_is P N i o g e in
@@ -68,3 +69,12 @@ least_table P N i o g e =
       le-leb (4 * N) (4 * N) (omega arith),
       choose_true,
     ))
+
+-- what was made of a geometry, and what was refused
+pub made_of : (x : Option Geometry) (g : Geometry) → fitting x ≡ Ok g → x ≡ Some g
+made_of (Some h) g e = let i : h ≡ g = cc in ap Some i
+made_of None g e = absurd (let z : ◌≡◌ {A = ℕ} 0 1 = cc in omega arith)
+
+pub refused_of : (x : Option Geometry) (r : Refusal) → fitting x ≡ Err r → (x ≡ None) × (r ≡ record { 0 = Sizes; 1 = 0 })
+refused_of (Some h) r e = absurd (let z : ◌≡◌ {A = ℕ} 0 1 = cc in omega arith)
+refused_of None r e = (refl, cc)

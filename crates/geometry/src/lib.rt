@@ -2,9 +2,11 @@
 #![tactic(auto)]
 
 ghost use Rattle.std.specs.Prelude.{◌≡◌, ◌+◌, ◌*◌, ◌/◌, ◌^◌, ◌≤◌, ◌<◌, length, take, drop};
-ghost use Rattle.geometry.specs.Geometry.{geometry_of, data_capacity, entry_size, control_size, first_entries, later_entries, bitmap_size, Valid, Fit};
+ghost use Rattle.geometry.specs.Geometry.{geometry_of, fitting, data_capacity, entry_size, control_size, first_entries, later_entries, bitmap_size, Valid, Fit};
 ghost use Rattle.geometry.specs.Number.{number, number_bytes};
 ghost use Rattle.geometry.specs.Page.{overwritten, page_of};
+
+use refusals::{Fault, Refusal};
 
 // Page length P, page count N, bytes of a page number n.
 #[derive(Clone, Copy)]
@@ -12,13 +14,6 @@ pub struct Geometry {
     pub size: usize,
     pub pages: usize,
     pub width: usize,
-}
-
-// A geometry that fits, or refusal 1.
-#[derive(Clone, Copy)]
-pub enum Shape {
-    Fits(Geometry),
-    Invalid,
 }
 
 // The least and greatest page length and page count.
@@ -122,41 +117,45 @@ pub const MAP_OWNER: usize = 2;
 pub const FIRST_OWNER: usize = 3;
 
 impl Geometry {
-    // Judges page length, page count, image length and owner table length.
-    pub fn new(size: u32, pages: u32, image: usize, owners: usize) -> Shape
+    // The geometry of an image and its owner table; 1 if page length, page count or one of the two lengths is wrong.
+    pub fn new(size: u32, pages: u32, image: usize, owners: usize) -> Result<Geometry, Refusal>
+        ensures { result ≡ fitting (geometry_of size pages image owners) }
+    {
+        Geometry::judged(size, pages, image, owners).ok_or(Refusal(Fault::Sizes, 0))
+    }
+
+    // Judges page length and page count, then the two lengths.
+    fn judged(size: u32, pages: u32, image: usize, owners: usize) -> Option<Geometry>
         ensures { result ≡ geometry_of size pages image owners }
     {
         if size < LEAST_SIZE {
-            return Shape::Invalid;
+            return None;
         }
         if MOST_SIZE < size {
-            return Shape::Invalid;
+            return None;
         }
         if pages < LEAST_PAGES {
-            return Shape::Invalid;
+            return None;
         }
         if MOST_PAGES < pages {
-            return Shape::Invalid;
+            return None;
         }
         Geometry::sized(size as usize, pages as usize, image, owners)
     }
 
     // Judges the two lengths for a page length and a page count within their bounds.
-    fn sized(size: usize, pages: usize, image: usize, owners: usize) -> Shape
+    fn sized(size: usize, pages: usize, image: usize, owners: usize) -> Option<Geometry>
         requires { (32 ≤ size) × (size ≤ 256) × (2 ≤ pages) × (pages ≤ 65535) }
         ensures { result ≡ geometry_of size pages image owners }
     {
         if image != size * pages {
-            return Shape::Invalid;
+            return None;
         }
         if owners < RECORD_BYTES * pages {
-            return Shape::Invalid;
+            return None;
         }
-        let mut width = 2;
-        if pages <= MOST_NARROW {
-            width = 1;
-        }
-        Shape::Fits(Geometry { size, pages, width })
+        let width = if pages <= MOST_NARROW { 1 } else { 2 };
+        Some(Geometry { size, pages, width })
     }
 
     // The greatest number of data bytes in a packet.
@@ -219,23 +218,14 @@ impl Geometry {
     }
 }
 
-// A byte as a number.
-pub fn wide(byte: u8) -> usize
-    ensures { (result ≡ byte) × (result < 256) }
-{
-    byte as usize
-}
-
 // The number in a slice of at most four bytes, low byte first.
 fn read_number(bytes: &[u8]) -> usize
     requires { length bytes.now ≤ 4 }
     ensures { (result ≡ number bytes.now) × (result < 256 ^ length bytes.now) }
 {
     let mut value: usize = 0;
-    let mut left = bytes.len();
-    while 0 < left {
-        left -= 1;
-        value = wide(bytes[left]) + 256 * value;
+    for byte in bytes.iter().rev() {
+        value = usize::from(*byte) + 256 * value;
     }
     value
 }
@@ -245,7 +235,7 @@ fn pair_at(bytes: &[u8], at: usize) -> usize
     requires { at + 2 ≤ length bytes.now }
     ensures { (result ≡ number (take 2 (drop at bytes.now))) × (result < 65536) }
 {
-    wide(bytes[at]) + 256 * wide(bytes[at + 1])
+    usize::from(bytes[at]) + 256 * usize::from(bytes[at + 1])
 }
 
 // The number of n bytes from a place of a slice on; one, two and four bytes, as page numbers and names have, without a loop.
@@ -254,7 +244,7 @@ pub fn number_at(bytes: &[u8], at: usize, n: usize) -> usize
     ensures { (result ≡ number (take n (drop at bytes.now))) × (result < 256 ^ n) }
 {
     if n == 1 {
-        return wide(bytes[at]);
+        return usize::from(bytes[at]);
     }
     if n == 2 {
         return pair_at(bytes, at);
@@ -271,11 +261,9 @@ fn write_number(bytes: &mut [u8], x: usize)
     ensures { bytes.new ≡ number_bytes (length bytes.old) x }
 {
     let mut rest = x;
-    let mut i = 0;
-    while i < bytes.len() {
-        bytes[i] = (rest % 256) as u8;
+    for byte in bytes.iter_mut() {
+        *byte = (rest % 256) as u8;
         rest = rest / 256;
-        i += 1;
     }
 }
 

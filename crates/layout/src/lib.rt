@@ -11,7 +11,7 @@ ghost use Rattle.layout.specs.Layout.{parent_of, TakesSlots, KnownEntries, Count
 
 use directory::entries::Item;
 use directory::extensions::is_directory;
-use entries::{Next, Slot};
+use entries::Slot;
 use geometry::{Geometry, LENGTH_BYTES, MOST_CONTROL_BYTES, MOST_PAGE_BYTES};
 use rules::Entry;
 
@@ -64,10 +64,7 @@ pub fn further_pages(image: &[u8], g: Geometry, levels: usize, start: usize) -> 
     };
     let mut slot = Slot::first(image, g, start);
     let mut stamps = 0;
-    loop {
-        let Next::At(here) = slot.next_entry(image, g) else {
-            return room.opened;
-        };
+    while let Some(here) = slot.next_entry(image, g) {
         slot = here.past();
         let Item::Plain(_) = here.item(image, g) else {
             stamps += 1;
@@ -76,6 +73,7 @@ pub fn further_pages(image: &[u8], g: Geometry, levels: usize, start: usize) -> 
         room = take_slots(later, room, stamps + 1);
         stamps = 0;
     }
+    room.opened
 }
 
 // Closes the page at hand if so many slots are not left in it.
@@ -231,13 +229,7 @@ pub fn lay_directory(
     };
     let mut slot = Slot::first(image, g, start);
     let mut stamps = 0;
-    loop {
-        let Next::At(here) = slot.next_entry(image, g) else {
-            let page = w.page;
-            let held = w.held;
-            packet::write_page(second, g, page, &buffer[..held], 0);
-            return w.chain;
-        };
+    while let Some(here) = slot.next_entry(image, g) {
         slot = here.past();
         let Item::Plain(e) = here.item(image, g) else {
             stamps += 1;
@@ -249,4 +241,8 @@ pub fn lay_directory(
         w = add(image, g, &mut buffer, w, here, stamps, e, next);
         stamps = 0;
     }
+    let page = w.page;
+    let held = w.held;
+    packet::write_page(second, g, page, &buffer[..held], 0);
+    w.chain
 }

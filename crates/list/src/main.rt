@@ -4,7 +4,6 @@
 ghost use Rattle.std.specs.Prelude.{◌≤◌, length, IfOk, IfSome};
 ghost use Rattle.list.specs.Input.{IsPrefixLen, IsRead, PrintsText};
 
-use dump::Printed;
 use std::io::{self, Read};
 
 // One byte more than the longest dump that is right: all longer dumps have the same text.
@@ -19,14 +18,12 @@ fn text_of(input: &[u8], n: usize, out: &mut [u8]) -> usize
     ensures prefix_len { IsPrefixLen result out.new }
     ensures prints_text { PrintsText input.now n out.old result out.new }
 {
-    match dump::list_text(&input[..n], out) {
-        // the output is never too short
-        Printed::TooShort => 0,
-        Printed::Text(length) => length,
-    }
+    // the output is never too short
+    dump::list_text(&input[..n], out).unwrap_or(0)
 }
 
 // Reads until the input is full or the reader ends; how many bytes it read, which stand at the front of the input. Of a reader that tells its bytes they are the first.
+// A loop of its own: `read_exact` refuses an input that ends early, and `read_to_end` fills a Vec, where memory is fixed.
 fn read_full<R: Read>(reader: &mut R, input: &mut [u8]) -> io::Result<usize>
     ensures prefix_len { IfOk result (λ n. IsPrefixLen n input.new) }
     ensures reads { IfOk result (λ n. IfSome (R.remaining reader.old) (λ dump. IsRead dump input.new n)) }

@@ -1,4 +1,5 @@
 -- The search over a directory's entries as the code goes: a place in the chain, and that whatever answers what is ahead answers all.
+use Rattle.std.specs.declared.ops.ControlFlow.TheVariants.{Break, Continue}
 use mathlib.Core.Path.{◌≡◌, refl, ap, sym, ◌∙◌, subst}
 use mathlib.Core.Bool.{true, false, false≢true}
 use mathlib.Core.List.{List, [], ◌∷◌, ◌++◌}
@@ -25,9 +26,7 @@ use Rattle.entries.specs.EntrySlots.{advanced}
 use Rattle.entries.specs.TokensAt.{TokensAt, InDirectory, Begins, IsEntry, IsItemAt, NextEntry, NoEntry}
 use Rattle.entries.proofs.Stepping.{ReadAhead, read_on, read_ahead}
 use Rattle.entries.proofs.ItemLaws.{extended_answer}
-use Rattle.listing.specs.declared.LineSearch.{LineSearch}
-use Rattle.listing.specs.declared.LineSearch.TheVariants as look
-use Rattle.listing.specs.KnownTree.{Chained, Below, DirectoryAt, PartAt, HasPart, part_lines, Looks, LooksPart}
+use Rattle.listing.specs.KnownTree.{LineSearch, Chained, Below, DirectoryAt, PartAt, HasPart, part_lines, Looks, LooksPart}
 use Rattle.listing.proofs.Lines.{looks_first, looks_on}
 
 -- ---- pages in front of an entry, what it names, and the rest
@@ -132,11 +131,11 @@ module _ {g : Geometry} {vs : Views} {levels level k₀ : ℕ} {t₀ : Items} {s
   ahead_in = record { ts = tokens rest; ahead = ahead }
 
   -- no entry is ahead
-  pub ahead_done : ((ts : List Token) → TokensAt g vs.pages s ts → NoEntry ts) → Looks k₀ (lines_of level t₀) (look.Left k)
+  pub ahead_done : ((ts : List Token) → TokensAt g vs.pages s ts → NoEntry ts) → Looks k₀ (lines_of level t₀) (Continue k)
   ahead_done n =
       let o = n (tokens rest) ahead in
       let e : lines_of level rest ≡ [] = ap (lines_of level) (only_pages o.pages rest o.are) ∙ lines_pages level o.pages end in
-      finish (look.Left k) (subst (λ (xs : List Line). Looks k xs (look.Left k)) (sym e) (omega arith))
+      finish (Continue k) (subst (λ (xs : List Line). Looks k xs (Continue k)) (sym e) (omega arith))
 
   -- the next entry is a stamp
   pub ahead_stamp : {at : Slot} → NextEntry g vs.pages s at → (r : Item) → IsItemAt g vs.pages at r → r ≡ Extended → (s' : Slot) → s' ≡ advanced at → Ahead g vs levels level k₀ t₀ s' k
@@ -171,13 +170,13 @@ module _ {g : Geometry} {vs : Views} {levels level k₀ : ℕ} {t₀ : Items} {s
       on_lines : (a : LineSearch) → Looks k (part_lines level e entered.part ++ lines_of level entered.rest) a → Looks k₀ (lines_of level t₀) a
       on_lines a h = finish a (subst (λ (xs : List Line). Looks k xs a) (sym entered.lines) h)
 
-      pub ahead_found : (x : Line) → r ≡ look.Found x → Looks k₀ (lines_of level t₀) (look.Found x)
-      ahead_found x o = on_lines (look.Found x) (looks_first k (part_lines level e entered.part) (lines_of level entered.rest) x (told (look.Found x) o))
+      pub ahead_found : (x : Line) → r ≡ Break x → Looks k₀ (lines_of level t₀) (Break x)
+      ahead_found x o = on_lines (Break x) (looks_first k (part_lines level e entered.part) (lines_of level entered.rest) x (told (Break x) o))
 
-      pub ahead_past : (j : ℕ) → r ≡ look.Left j → (s' : Slot) → s' ≡ advanced at → Ahead g vs levels level k₀ t₀ s' j
+      pub ahead_past : (j : ℕ) → r ≡ Continue j → (s' : Slot) → s' ≡ advanced at → Ahead g vs levels level k₀ t₀ s' j
       ahead_past j o s' y = subst (λ (x : Slot). Ahead g vs levels level k₀ t₀ x j) (sym y) (record {
         rest = entered.rest;
         ahead = subst (TokensAt g vs.pages (advanced at)) (sym entered.left) read.ahead;
         below = entered.below;
-        finish = λ a h. on_lines a (looks_on k j (part_lines level e entered.part) (lines_of level entered.rest) (told (look.Left j) o) a h);
+        finish = λ a h. on_lines a (looks_on k j (part_lines level e entered.part) (lines_of level entered.rest) (told (Continue j) o) a h);
       })

@@ -1,4 +1,6 @@
 -- Lines at positions, and the line of one entry.
+use Rattle.std.specs.declared.ops.ControlFlow.TheVariants.{Break, Continue}
+use Rattle.std.specs.ControlFlow.{break_value}
 use mathlib.Core.Path.{◌≡◌, refl, ap, sym, ◌∙◌, subst}
 use mathlib.Core.Bool.{Bool, true, false}
 use mathlib.Core.List.{List, [], ◌∷◌, ◌++◌}
@@ -18,9 +20,7 @@ use Rattle.rules.specs.Listing.{lines_of, line_at}
 use Rattle.rules.specs.Check.{Part, chain, directory}
 use Rattle.directory.specs.declared.extensions.Extension.{Extension}
 use Rattle.directory.specs.Extensions.{Means}
-use Rattle.listing.specs.declared.LineSearch.{LineSearch}
-use Rattle.listing.specs.declared.LineSearch.TheVariants as look
-use Rattle.listing.specs.KnownTree.{DirectoryAt, PartAt, HasDirectory, HasPart, line_of, head_line, part_lines, Looks, Tells, Heads, LooksPart, LooksDirectory}
+use Rattle.listing.specs.KnownTree.{LineSearch, DirectoryAt, PartAt, HasDirectory, HasPart, line_of, head_line, part_lines, Looks, Tells, Heads, LooksPart, LooksDirectory}
 use Rattle.chain.specs.KnownChain.{KnownChain}
 use Rattle.chain.specs.Contents.{Counts}
 
@@ -42,18 +42,18 @@ line_none [] j = refl
 line_none (a ∷ xs) j = let q : suc (length xs) + j ≡ suc (length xs + j) = omega arith in ap (λ (x : ℕ). line_at x (a ∷ xs)) q ∙ line_none xs j
 
 -- found among the first lines
-pub looks_first : (k : ℕ) (xs ys : List Line) (x : Line) → Looks k xs (look.Found x) → Looks k (xs ++ ys) (look.Found x)
+pub looks_first : (k : ℕ) (xs ys : List Line) (x : Line) → Looks k xs (Break x) → Looks k (xs ++ ys) (Break x)
 looks_first k xs ys x q = line_first k xs ys x q
 
 -- past the first lines, looked for among the others
-pub looks_on : (k j : ℕ) (xs ys : List Line) → Looks k xs (look.Left j) → (r : LineSearch) → Looks j ys r → Looks k (xs ++ ys) r
-looks_on k j xs ys q (look.Found x) h = ap (λ (a : ℕ). line_at a (xs ++ ys)) q ∙ line_past xs ys j ∙ h
-looks_on k j xs ys q (look.Left i) h = omega (arith, length-append xs ys)
+pub looks_on : (k j : ℕ) (xs ys : List Line) → Looks k xs (Continue j) → (r : LineSearch) → Looks j ys r → Looks k (xs ++ ys) r
+looks_on k j xs ys q (Break x) h = ap (λ (a : ℕ). line_at a (xs ++ ys)) q ∙ line_past xs ys j ∙ h
+looks_on k j xs ys q (Continue i) h = omega (arith, length-append xs ys)
 
 -- and so by the rule
-pub looks_tells : (k : ℕ) (xs : List Line) (r : LineSearch) → Looks k xs r → Tells k xs r
-looks_tells k xs (look.Found x) h = h
-looks_tells k xs (look.Left j) h = ap (λ (a : ℕ). line_at a xs) h ∙ line_none xs j
+pub looks_tells : (k : ℕ) (xs : List Line) (r : LineSearch) → Looks k xs r → Tells k xs (break_value r)
+looks_tells k xs (Break x) h = h
+looks_tells k xs (Continue j) h = ap (λ (a : ℕ). line_at a xs) h ∙ line_none xs j
 
 -- ---- the extension tells a file from a subdirectory
 pub line_is : (level : ℕ) (e : Entry) (n : ℕ) (x : Extension) → Means e.extension x
@@ -130,12 +130,12 @@ module _ (g : Geometry) (vs : Views) (levels level : ℕ) (e : Entry) where
         go (directory d) s = absurd (apart (directory_number e.extension) s.2 h)
         go (chain ls) s = record { links = ls; chain = s.0 }
 
-    pub looks_file : (k : ℕ) → (k ≡ 0 → ⊥) → LooksPart g vs levels level e k (look.Left (k - 1))
+    pub looks_file : (k : ℕ) → (k ≡ 0 → ⊥) → LooksPart g vs levels level e k (Continue (k - 1))
     looks_file k z (directory d) s = absurd (apart (directory_number e.extension) s.2 h)
     looks_file k z (chain ls) s = omega arith
 
   -- its own line
-  pub looks_head : (k : ℕ) (r : Line) → k ≡ 0 → Heads g vs levels level e r → LooksPart g vs levels level e k (look.Found r)
+  pub looks_head : (k : ℕ) (r : Line) → k ≡ 0 → Heads g vs levels level e r → LooksPart g vs levels level e k (Break r)
   unfolding line_at
   looks_head k r z f (chain ls) s = ap (λ (a : ℕ). line_at a (part_lines level e (chain ls))) z ∙ ap ok (sym (f (chain ls) s))
   looks_head k r z f (directory d) s = ap (λ (a : ℕ). line_at a (part_lines level e (directory d))) z ∙ ap ok (sym (f (directory d) s))

@@ -1,5 +1,7 @@
 -- For contracts: what stands in a view for a directory's tree, and the line at a position of its listing.
-use Rattle.std.specs.Prelude.{◌≡◌, true, false, List, [], ◌∷◌, ℕ, suc, ◌+◌, ◌%◌, ◌≤◌, length}
+use Rattle.std.specs.declared.ops.ControlFlow.{ControlFlow}
+use Rattle.std.specs.declared.ops.ControlFlow.TheVariants.{Break, Continue}
+use Rattle.std.specs.Prelude.{Option, Some, None, ◌≡◌, true, false, List, [], ◌∷◌, ℕ, suc, ◌+◌, ◌%◌, ◌≤◌, length}
 use Rattle.geometry.specs.declared.Geometry.{Geometry}
 use Rattle.geometry.specs.Geometry.{control_size}
 use Rattle.packet.specs.Packet.{View}
@@ -12,8 +14,6 @@ use Rattle.rules.specs.Tree.{Label, label_of, Items, end, page, file, dir, start
 use Rattle.rules.specs.WellFormed.{Under}
 use Rattle.rules.specs.Listing.{file_line, directory_line, lines_of, line_at}
 use Rattle.rules.specs.Check.{Part, chain, directory, check}
-use Rattle.listing.specs.declared.LineSearch.{LineSearch}
-use Rattle.listing.specs.declared.LineSearch.TheVariants as look
 use Rattle.chain.specs.KnownChain.{ChainAt}
 
 -- stamps are extended; the entry that they belong to is plain
@@ -82,15 +82,19 @@ abbrev pub part_lines : ℕ → Entry → Part → List Line
 part_lines level e (chain ls) = file_line level (label_of e) ls ∷ []
 part_lines level e (directory d) = directory_line level (label_of e) d ∷ lines_of (suc level) d
 
--- an answer for position k of some lines: the line, or how far past them it lies
+-- an answer of a search: the line at a position, or how far past the lines it lies
+abbrev pub LineSearch : Type 0
+LineSearch = ControlFlow Line ℕ
+
+-- of some lines at position k
 abbrev pub Looks : ℕ → List Line → LineSearch → Type 0
-Looks k xs (look.Found x) = line_at k xs ≡ ok x
-Looks k xs (look.Left j) = k ≡ length xs + j
+Looks k xs (Break x) = line_at k xs ≡ ok x
+Looks k xs (Continue j) = k ≡ length xs + j
 
 -- of an accepted image: the line that the rule has at k, or 15 by the rule
-abbrev pub Tells : ℕ → List Line → LineSearch → Type 0
-Tells k xs (look.Found x) = line_at k xs ≡ ok x
-Tells k xs (look.Left j) = line_at k xs ≡ err 15 0
+abbrev pub Tells : ℕ → List Line → Option Line → Type 0
+Tells k xs (Some x) = line_at k xs ≡ ok x
+Tells k xs None = line_at k xs ≡ err 15 0
 
 -- the answers for whatever stands there
 module _ (g : Geometry) (vs : Views) where
@@ -103,5 +107,5 @@ module _ (g : Geometry) (vs : Views) where
   abbrev pub LooksDirectory : ℕ → ℕ → ℕ → ℕ → LineSearch → Type 0
   LooksDirectory levels level start k r = (t : Items) → DirectoryAt g vs levels start t → Looks k (lines_of level t) r
 
-  abbrev pub LooksImage : ℕ → LineSearch → Type 0
+  abbrev pub LooksImage : ℕ → Option Line → Type 0
   LooksImage k r = (i : Image) → check g vs ≡ ok i → Tells k (lines_of 0 i.tree) r

@@ -8,16 +8,10 @@ ghost use Rattle.listing.specs.KnownTree.{HasDirectory, HasPart, HasImage, line_
 
 use directory::entries::Item;
 use directory::extensions::{extension_of, is_directory};
-use entries::{Next, Slot};
+use entries::Slot;
 use geometry::{Geometry, MOST_LEVELS};
 use rules::{Entry, Line};
-
-// The line at a position, or how far past the last line it lies.
-#[derive(Clone, Copy)]
-pub enum LineSearch {
-    Found(Line),
-    Left(usize),
-}
+use std::ops::ControlFlow;
 
 // The line of an entry with so many bytes.
 fn line_of(level: usize, e: Entry, length: usize) -> Line
@@ -47,7 +41,7 @@ fn entry_line(image: &[u8], g: Geometry, levels: usize, level: usize, e: Entry) 
     line_of(level, e, chain::chain_bytes(image, g, e.start))
 }
 
-// The line at a position among those of one entry: its own, and all below a subdirectory.
+// Looks for the line at a position among those of one entry: its own, and all below a subdirectory. Breaks with the line, else tells how far past the last line the position lies.
 #[cycle(look_directory_look_entry)]
 fn look_entry(
     image: &[u8],
@@ -56,21 +50,21 @@ fn look_entry(
     level: usize,
     e: Entry,
     k: usize,
-) -> LineSearch
+) -> ControlFlow<Line, usize>
     requires fit { Fit g image.now }
     requires level_bound { (levels + level ≤ 8) × HasPart g (views_of g image.now) levels e }
     ensures { LooksPart g (views_of g image.now) levels level e k result }
 {
     if k == 0 {
-        return LineSearch::Found(entry_line(image, g, levels, level, e));
+        return ControlFlow::Break(entry_line(image, g, levels, level, e));
     }
     if is_directory(e.extension) {
         return look_directory(image, g, levels - 1, level + 1, e.start, k - 1);
     }
-    LineSearch::Left(k - 1)
+    ControlFlow::Continue(k - 1)
 }
 
-// The line at a position among those of a directory and all below it.
+// The same among those of a directory and all below it.
 #[cycle(look_directory_look_entry)]
 fn look_directory(
     image: &[u8],
@@ -79,34 +73,29 @@ fn look_directory(
     level: usize,
     start: usize,
     k: usize,
-) -> LineSearch
+) -> ControlFlow<Line, usize>
     requires fit { Fit g image.now }
     requires level_bound { (levels + level ≤ 8) × HasDirectory g (views_of g image.now) levels start }
     ensures { LooksDirectory g (views_of g image.now) levels level start k result }
 {
     let mut slot = Slot::first(image, g, start);
     let mut left = k;
-    loop {
-        let Next::At(at) = slot.next_entry(image, g) else {
-            return LineSearch::Left(left);
-        };
+    while let Some(at) = slot.next_entry(image, g) {
         slot = at.past();
         let Item::Plain(e) = at.item(image, g) else {
             // a stamp has no line
             continue;
         };
-        match look_entry(image, g, levels, level, e, left) {
-            LineSearch::Found(x) => return LineSearch::Found(x),
-            LineSearch::Left(j) => left = j,
-        }
+        left = look_entry(image, g, levels, level, e, left)?;
     }
+    ControlFlow::Continue(left)
 }
 
-// The entry at a walk position of an accepted image.
-pub fn line_at(image: &[u8], g: Geometry, k: usize) -> LineSearch
+// The entry at a walk position of an accepted image; none past the last.
+pub fn line_at(image: &[u8], g: Geometry, k: usize) -> Option<Line>
     requires fit { Fit g image.now }
     requires has_image { HasImage g (views_of g image.now) }
     ensures { LooksImage g (views_of g image.now) k result }
 {
-    look_directory(image, g, MOST_LEVELS, 0, 0, k)
+    look_directory(image, g, MOST_LEVELS, 0, 0, k).break_value()
 }

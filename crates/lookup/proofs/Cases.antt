@@ -1,38 +1,60 @@
 -- The cases of a path, as the code meets them.
 use mathlib.Core.Path.{◌≡◌, refl, ap, sym, ◌∙◌}
-use mathlib.Core.Bool.{Bool, true, false, not}
-use mathlib.Core.List.{List, ◌∷◌}
+use mathlib.Core.Bool.{Bool, true, false, not, ◌&&◌}
+use mathlib.Core.List.{List, [], ◌∷◌, ◌++◌}
 use Prim.Native.Nat.{ℕ, zero, suc, ◌+◌, ◌-◌, ◌*◌, ◌/◌, ◌%◌, ◌≤◌, ◌<◌}
 use native.Mathlib.Omega.{arith}
-use lib.ListN.{length, get_or, take, drop}
-use lib.Seq.{drop-drop}
+use lib.ListN.{length, get_or, take, drop, length-append, length-take, length-drop}
+use denote.Ref.{Bor}
+use Rattle.std.specs.List.{list_all}
+use Rattle.std.specs.Iterator.{AlwaysYields}
+use Rattle.std.specs.Slice.Iter.{chunks_exact_steps}
+use Rattle.std.specs.declared.slice.ChunksExact.{ChunksExact}
+use Rattle.std.proofs.lemmas.Iterator.{YieldsList}
+use Rattle.std.proofs.lemmas.List.{drop-take, take-take}
+use Rattle.std.proofs.Math.Seq.{take-append_seam, drop-append_seam}
 use borrow.Author.Tests.{le-leb, lt-leb, eq-eqb, ne_eqb, not-true, not-false}
 use Rattle.geometry.specs.Number.{number}
 use Rattle.rules.specs.Result.{ok, err, and_then, refuse_unless}
 use Rattle.rules.specs.Names.{valid_name}
 use Rattle.rules.specs.Paths.{names_in, valid_names, path_of, directory_path_of}
 
--- one more name
-module _ (b : List ℕ) (k i x : ℕ) (t : Bool) (h : i < k) (e : x ≡ number (take 4 (drop (4 * i) b))) (q : t ≡ valid_name x) where
-  one_more : names_in (k - i) (drop (4 * i) b) ≡ x ∷ names_in (k - (i + 1)) (drop (4 * (i + 1)) b)
-  one_more =
-      let s : k - i ≡ suc (k - (i + 1)) = omega arith in
-      let j : 4 * i + 4 ≡ 4 * (i + 1) = omega arith in
-      ap (λ (m : ℕ). names_in m (drop (4 * i) b)) s
-      ∙ ap (λ (y : ℕ). y ∷ names_in (k - (i + 1)) (drop 4 (drop (4 * i) b))) (sym e)
-      ∙ ap (λ (l : List ℕ). x ∷ names_in (k - (i + 1)) l) (drop-drop 4 (4 * i) b ∙ ap (λ (m : ℕ). drop m b) j)
+-- the names of a path's bytes, four bytes each
+abbrev pub chunks_in : ℕ → List ℕ → List (List ℕ)
+chunks_in zero b = []
+chunks_in (suc k) b = take 4 b ∷ chunks_in k (drop 4 b)
 
-  pub name_bad : not t ≡ true → valid_names (names_in (k - i) (drop (4 * i) b)) ≡ false
-  name_bad z = ap valid_names one_more ∙ simp (← q, not-true t z)
+pub names_of : (k : ℕ) (b : List ℕ) → list_all (λ c. valid_name (number (take 4 c))) (chunks_in k b) ≡ valid_names (names_in k b)
+names_of zero b = refl
+names_of (suc k) b =
+    ap (λ (c : List ℕ). valid_name (number c) && list_all (λ d. valid_name (number (take 4 d))) (chunks_in k (drop 4 b))) (take-take 4 4 b (omega arith))
+    ∙ ap (λ (t : Bool). valid_name (number (take 4 b)) && t) (names_of k (drop 4 b))
 
-  pub name_good : not t ≡ false → valid_names (names_in (k - i) (drop (4 * i) b)) ≡ valid_names (names_in (k - (i + 1)) (drop (4 * (i + 1)) b))
-  name_good z = ap valid_names one_more ∙ simp (← q, not-false t z)
+-- so many chunks come of the bytes
+always : (k : ℕ) (b : List ℕ) (s : ChunksExact ℕ) → s.size ≡ 4 → s.rest.now ≡ take (4 * k) b → 4 * k ≤ length b → AlwaysYields chunks_exact_steps (λ (x : Bor (List ℕ)). x.now) s (chunks_in k b)
+always zero b s z e h = λ x j n.
+    let l = ap length (sym e ∙ n.1.0) ∙ length-append x.now j.rest.now in
+    let m : length (take (4 * 0) b) ≤ 0 = omega (arith, length-take (4 * 0) b) in
+    omega (arith, l, m, n.1.1, z)
+always (suc k) b s z e h =
+    let l : length s.rest.now ≡ 4 + 4 * k = ap length e ∙ (let m = length-take (4 * suc k) b in omega arith) in
+    let f : s.rest.now ≡ take (4 + 4 * k) b = e ∙ ap (λ (n : ℕ). take n b) (let m : 4 * suc k ≡ 4 + 4 * k = omega arith in m) in (
+      λ j n. omega (arith, l, n.1.0, z),
+      λ x j n.
+          let size : length x.now ≡ 4 = n.1.1 ∙ z in
+          let front : x.now ≡ take 4 b =
+          sym (ap (λ (m : ℕ). take m (x.now ++ j.rest.now)) (sym size) ∙ take-append_seam x.now j.rest.now)
+          ∙ ap (take 4) (sym n.1.0 ∙ f)
+          ∙ take-take 4 (4 + 4 * k) b (omega arith) in
+          let rest : j.rest.now ≡ take (4 * k) (drop 4 b) =
+          sym (ap (λ (m : ℕ). drop m (x.now ++ j.rest.now)) (sym size) ∙ drop-append_seam x.now j.rest.now)
+          ∙ ap (drop 4) (sym n.1.0 ∙ f)
+          ∙ drop-take 4 (4 * k) b in
+          (front, always k (drop 4 b) j (n.0 ∙ z) rest (omega (arith, length-drop 4 b))),
+    )
 
-pub names_begin : (b : List ℕ) (k : ℕ) → valid_names (names_in k b) ≡ valid_names (names_in (k - 0) (drop (4 * 0) b))
-names_begin b k = let e : k - 0 ≡ k = omega arith in rw e
-
-pub names_end : (b : List ℕ) (k i : ℕ) → k ≤ i → true ≡ valid_names (names_in (k - i) (drop (4 * i) b))
-names_end b k i h = let e : k - i ≡ 0 = omega arith in rw e
+pub yields : (k : ℕ) (b : List ℕ) (s : ChunksExact ℕ) → s.size ≡ 4 → s.rest.now ≡ take (4 * k) b → 4 * k ≤ length b → YieldsList chunks_exact_steps (λ (x : Bor (List ℕ)). x.now) s (chunks_in k b)
+yields k b s z e h = record { runs = always k b s z e h }
 
 pub length_names : (k : ℕ) (b : List ℕ) → length (names_in k b) ≡ k
 length_names zero b = refl

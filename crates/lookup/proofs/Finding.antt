@@ -1,4 +1,5 @@
 -- The search for a key in a directory as the code goes: what is found from a place on is what is found in the whole. An entry's stamps, passed before it, belong to what is found.
+use Rattle.std.specs.Prelude.{Some, None}
 use mathlib.Core.Path.{◌≡◌, refl, ap, sym, ◌∙◌, subst}
 use mathlib.Core.Logic.{◌⊎◌, inl, inr}
 use mathlib.Core.Bool.{true, false, false≢true}
@@ -34,7 +35,6 @@ use Rattle.entries.proofs.KeyLaws.{entry_least}
 use Rattle.entries.proofs.TokenLaws.{next_pointer}
 use Rattle.entries.proofs.ItemLaws.{extended_answer}
 use Rattle.listing.specs.KnownTree.{Kinds, Below}
-use Rattle.lookup.specs.declared.Search.TheVariants as search
 use Rattle.lookup.specs.Searches as searches
 use Rattle.lookup.proofs.Passed.{Passed, passed_first, passed_on, passed_entries, passed_pages}
 
@@ -160,9 +160,9 @@ module _ {g : Geometry} {k : ℕ} {t₀ : Items} {s : Slot} {from : ℕ} (ss : L
     find_here (chain ls) = rw (yes_key, choose_true) refl
     find_here (directory d) = rw (yes_key, choose_true) refl
 
-    found_is : (y : Part) → e ≡ part_entry (label_of e) y → search.Found e ≡ searches.entry_of (part_found (with_stamps ss (label_of e)) y)
-    found_is (chain ls) z = ap search.Found z
-    found_is (directory d) z = ap search.Found z
+    found_is : (y : Part) → e ≡ part_entry (label_of e) y → Some e ≡ searches.entry_of (part_found (with_stamps ss (label_of e)) y)
+    found_is (chain ls) z = ap Some z
+    found_is (directory d) z = ap Some z
 
     -- the tokens up to the entry's stamps, and those from them on
     whole : (f : Items → Items) → Passes k f → (ts : List Token) → tokens (f (group ss e x t)) ≡ ts → tokens (f t₀) ≡ passed.before ++ (new_page s.page ∷ (entry_tokens passed.entries ++ ts))
@@ -261,7 +261,7 @@ module _ {g : Geometry} {v : View} {k : ℕ} {t₀ : Items} {s : Slot} {m : ℕ}
       go (inl z) = z
       go (inr z) = absurd (none ps (sym (ap followed q) ∙ z) h)
 
-  pub not_found : ((ts : List Token) → TokensAt g v s ts → NoEntry ts) → search.Absent ≡ searches.entry_of (find k t₀)
+  pub not_found : ((ts : List Token) → TokensAt g v s ts → NoEntry ts) → None ≡ searches.entry_of (find k t₀)
   unfolding followed
   not_found n =
       let o = n (tokens rest) ahead in

@@ -1,7 +1,8 @@
 -- What the code takes a path apart into: its parts lie within its bytes; a file's path has a file's extension, a directory's that of a directory.
+use Rattle.std.specs.Prelude.{Ok}
 use mathlib.Core.Path.{◌≡◌, ap, sym, ◌∙◌}
 use mathlib.Core.List.{List}
-use Prim.Native.Nat.{ℕ, ◌-◌, ◌/◌, ◌≤◌}
+use Prim.Native.Nat.{ℕ, ◌-◌, ◌/◌, ◌≤◌, ◌*◌}
 use native.Mathlib.Omega.{arith}
 use lib.ListN.{length}
 use borrow.Author.Tests.{leb-true}
@@ -10,8 +11,7 @@ use Rattle.rules.proofs.ResultLaws.{ok_inj, on_refuse}
 use Rattle.rules.specs.Paths as paths
 use Rattle.rules.specs.Paths.{names_in, path_of, directory_path_of}
 use Rattle.lookup.specs.declared.path.Parsed.{Parsed}
-use Rattle.lookup.specs.declared.path.Parsed.TheVariants as parsed
-use Rattle.lookup.specs.ParsedPath.{parsed_path, Within}
+use Rattle.lookup.specs.ParsedPath.{parsed_path}
 use Rattle.lookup.proofs.Cases.{length_names}
 
 -- its directories are the names that its bytes begin with
@@ -26,17 +26,16 @@ directory_names : (b : List ℕ) (x : paths.Path) → directory_path_of b ≡ ok
 unfolding directory_path_of
 directory_names b x i = on_refuse _ _ _ _ _ i λ _ i. on_refuse _ _ _ _ _ i λ _ i. ap (λ (y : paths.Path). y.directories) (sym (ok_inj i))
 
-within : (b : List ℕ) (asked : Res paths.Path) → ((x : paths.Path) → asked ≡ ok x → Names b x) → (r : Parsed) → parsed_path b r ≡ asked → Within b r
-within b asked h (parsed.Path names name extension) e =
+within : (b : List ℕ) (asked : Res paths.Path) → ((x : paths.Path) → asked ≡ ok x → Names b x) → (x : Parsed) → parsed_path b (Ok x) ≡ asked → 4 * x.names ≤ length b
+within b asked h x e =
     let k = h _ (sym e) in
-    let n : names ≡ length b / 4 - 1 = sym (length_names names b) ∙ ap length k ∙ length_names (length b / 4 - 1) b in
+    let n : x.names ≡ length b / 4 - 1 = sym (length_names x.names b) ∙ ap length k ∙ length_names (length b / 4 - 1) b in
     omega arith
-within b asked h parsed.Malformed e = tt
 
-pub file_within : (b : List ℕ) (r : Parsed) → parsed_path b r ≡ path_of b → Within b r
+pub file_within : (b : List ℕ) (r : Parsed) → parsed_path b (Ok r) ≡ path_of b → 4 * r.names ≤ length b
 file_within b r e = within b (path_of b) (file_names b) r e
 
-pub directory_within : (b : List ℕ) (r : Parsed) → parsed_path b r ≡ directory_path_of b → Within b r
+pub directory_within : (b : List ℕ) (r : Parsed) → parsed_path b (Ok r) ≡ directory_path_of b → 4 * r.names ≤ length b
 directory_within b r e = within b (directory_path_of b) (directory_names b) r e
 
 pub file_low : (b : List ℕ) (x : paths.Path) → path_of b ≡ ok x → x.extension ≤ 99

@@ -1,4 +1,7 @@
 -- What stands at a path of an accepted image, as the code looks for it: the directory that its names lead to, then the entry there.
+use Rattle.std.specs.Prelude.{Option, Some, None, Result, Ok, Err}
+use Rattle.refusals.specs.declared.Refusal.{Refusal}
+use Rattle.rules.specs.Answers.{refused}
 use mathlib.Core.Path.{◌≡◌, refl, ap, sym, subst}
 use mathlib.Core.Bool.{false}
 use mathlib.Core.List.{List}
@@ -7,30 +10,23 @@ use native.Mathlib.Omega.{arith}
 use lib.ListN.{drop}
 use Rattle.geometry.specs.declared.Geometry.{Geometry}
 use Rattle.rules.specs.declared.Entry.{Entry}
-use Rattle.rules.specs.Result.{Res, ok, err}
+use Rattle.rules.specs.Result.{Res, ok}
 use Rattle.rules.specs.Chain.{Views}
 use Rattle.rules.specs.Names.{key, ROOT}
 use Rattle.rules.specs.Tree.{Items, start_of, file_entry, directory_entry, Image}
 use Rattle.rules.specs.Check.{check}
 use Rattle.rules.specs.WellFormed.{Under}
 use Rattle.rules.specs.Paths.{Path, path_of, directory_path_of, names_in, file_key, Found, nothing, a_file, a_directory, find, Place, root_place, directory_at, Target, target_at}
-use Rattle.rules.proofs.TargetLaws.{reached, target_malformed, target_nowhere, target_is}
+use Rattle.rules.proofs.TargetLaws.{reached, target_nowhere, target_is}
 use Rattle.chain.specs.KnownChain.{ChainAt}
 use Rattle.lookup.proofs.Parts.{file_low, directory_extension}
 use Rattle.listing.specs.KnownTree.{Chained, Below}
 use Rattle.listing.proofs.Accepting.{accepted_stands}
 use Rattle.entries.specs.declared.Slot.{Slot}
 use Rattle.lookup.specs.declared.Spot.{Spot}
-use Rattle.lookup.specs.declared.Spot.TheVariants as spot
-use Rattle.lookup.specs.declared.Search.TheVariants as search
 use Rattle.lookup.specs.declared.Reached.{Reached}
-use Rattle.lookup.specs.declared.Resolved.{Resolved}
-use Rattle.lookup.specs.declared.Resolved.TheVariants as resolved
 use Rattle.lookup.specs.declared.PathLookup.{PathLookup}
 use Rattle.lookup.specs.declared.PathLookup.TheVariants as lookup
-use Rattle.lookup.specs.declared.path.Parsed.{Parsed}
-use Rattle.lookup.specs.declared.path.Parsed.TheVariants as parts
-use Rattle.lookup.specs.ParsedPath.{parsed_path}
 use Rattle.lookup.specs.Searches.{entry_of, TreeAt, HasTree, IsReached, Leads, IsPlace}
 use Rattle.lookup.specs.Targets.{PathAbsent, EntryAt, FileAt, SubdirectoryAt, AtPath, LooksUp, Looks, LooksFor}
 use Rattle.lookup.proofs.Resolving.{FoundAt, find_stands, no_file, no_directory}
@@ -49,15 +45,15 @@ root_reached g vs i accepted = record { here_is = refl; hidden_is = refl; tree =
 abbrev pub taken : List ℕ → ℕ → ℕ → ℕ → Path
 taken path names name extension = record { directories = names_in names path; name = name; extension = extension }
 
-module _ (g : Geometry) (vs : Views) (path : List ℕ) (i : Image) (names name extension : ℕ) (r : Resolved)
+module _ (g : Geometry) (vs : Views) (path : List ℕ) (i : Image) (names name extension : ℕ) (r : Result Reached Refusal)
     (h : Leads g vs (directory_at (names_in names (drop 0 path)) (root_place i.tree)) r) where
   abbrev asked : Res Path
   asked = ok (taken path names name extension)
 
-  pub nowhere : r ≡ resolved.Absent → target_at (ok (taken path names name extension)) i.tree ≡ err 15 0
-  nowhere e = target_nowhere asked i.tree (taken path names name extension) refl 15 0 (subst (Leads g vs (directory_at (names_in names path) (root_place i.tree))) e h)
+  pub nowhere : (z : Refusal) → r ≡ Err z → target_at (ok (taken path names name extension)) i.tree ≡ refused z
+  nowhere z e = target_nowhere asked i.tree (taken path names name extension) refl _ _ (subst (Leads g vs (directory_at (names_in names path) (root_place i.tree))) e h)
 
-  module _ (d : Reached) (r_is : r ≡ resolved.Directory d) where
+  module _ (d : Reached) (r_is : r ≡ Ok d) where
     there : (place : Place) × (directory_at (names_in names path) (root_place i.tree) ≡ ok place) × IsReached g vs place d
     there = subst (Leads g vs (directory_at (names_in names path) (root_place i.tree))) r_is h
 
@@ -70,14 +66,14 @@ module _ (g : Geometry) (vs : Views) (path : List ℕ) (i : Image) (names name e
     is_reached : target_at asked i.tree ≡ ok target
     is_reached = target_is asked i.tree (taken path names name extension) refl there.0 there.1
 
-    module _ (k : ℕ) (k_is : k ≡ key name extension) (s : Spot) (f : (t : Items) → TreeAt g vs d.start t → IsPlace g vs.pages k t s) where
+    module _ (k : ℕ) (k_is : k ≡ key name extension) (s : Option Spot) (f : (t : Items) → TreeAt g vs d.start t → IsPlace g vs.pages k t s) where
       abbrev items : Items
       items = there.0.items
 
       placed : IsPlace g vs.pages (key name extension) items s
       placed = subst (λ (n : ℕ). IsPlace g vs.pages n items s) k_is (f items there.2.tree)
 
-      pub path_absent : s ≡ spot.Absent → PathAbsent g vs (ok (taken path names name extension)) i d name extension
+      pub path_absent : s ≡ None → PathAbsent g vs (ok (taken path names name extension)) i d name extension
       path_absent q = record {
         target = target;
         reached = is_reached;
@@ -87,22 +83,13 @@ module _ (g : Geometry) (vs : Views) (path : List ℕ) (i : Image) (names name e
         absent = go (find (key name extension) items) refl (subst (IsPlace g vs.pages (key name extension) items) q placed);
       }
         where
-          go : (x : Found) → find (key name extension) items ≡ x → search.Absent ≡ entry_of x → find (key name extension) items ≡ nothing
+          go : (x : Found) → find (key name extension) items ≡ x → None ≡ entry_of x → find (key name extension) items ≡ nothing
           go nothing e z = e
           go (a_file l ls) e z = absurd (let z : ◌≡◌ {A = ℕ} 0 1 = cc in omega arith)
           go (a_directory l b) e z = absurd (let z : ◌≡◌ {A = ℕ} 0 1 = cc in omega arith)
 
-      pub entry_at : (p : Slot) (m : ℕ) (e : Entry) → s ≡ spot.At p m e → EntryAt g vs (ok (taken path names name extension)) i d p m e
-      entry_at p m e q = record { target = target; reached = is_reached; directory = there.2; at = subst (IsPlace g vs.pages (key name extension) items) q placed }
-
--- ---- by what the path was taken apart into
-module _ (g : Geometry) (vs : Views) (path : List ℕ) (parsed : Parsed) where
-  pub looks_malformed : parsed ≡ parts.Malformed → LooksUp g vs (parsed_path path parsed) lookup.Malformed
-  looks_malformed e i c = target_malformed (parsed_path path parsed) i.tree 14 0 (ap (parsed_path path) e)
-
-  pub looks_taken : (names name extension : ℕ) → parsed ≡ parts.Path names name extension → (r : PathLookup)
-      → LooksUp g vs (ok (taken path names name extension)) r → LooksUp g vs (parsed_path path parsed) r
-  looks_taken names name extension e r h = subst (λ (p : Parsed). LooksUp g vs (parsed_path path p) r) (sym e) h
+      pub entry_at : (x : Spot) → s ≡ Some x → EntryAt g vs (ok (taken path names name extension)) i d x.slot x.stamps x.entry
+      entry_at x q = record { target = target; reached = is_reached; directory = there.2; at = subst (IsPlace g vs.pages (key name extension) items) q placed }
 
 -- ---- what is found: under a file's key a file, and its chain stands; under a directory's a directory
 module _ {g : Geometry} {vs : Views} {asked : Res Path} {i : Image} {d : Reached} {s : Slot} {m : ℕ} {e : Entry} (at : EntryAt g vs asked i d s m e) where
@@ -118,7 +105,7 @@ module _ {g : Geometry} {vs : Views} {asked : Res Path} {i : Image} {d : Reached
   pub file_at_lem : at.target.to.extension ≤ 99 → FileAt g vs asked i d s m e
   file_at_lem low = go (find (file_key to) holder) refl (find_stands g vs tree.levels (file_key to) holder tree.stands.below) at.at.found
     where
-      go : (x : Found) → find (file_key to) holder ≡ x → FoundAt g vs tree.levels (file_key to) x → search.Found e ≡ entry_of x → FileAt g vs asked i d s m e
+      go : (x : Found) → find (file_key to) holder ≡ x → FoundAt g vs tree.levels (file_key to) x → Some e ≡ entry_of x → FileAt g vs asked i d s m e
       go nothing j b z = absurd (let z : ◌≡◌ {A = ℕ} 0 1 = cc in omega arith)
       go (a_directory l b) j st z = absurd (no_directory (file_key to) to.name to.extension l refl low st.0 st.2)
       go (a_file l ls) j b z =
@@ -142,7 +129,7 @@ module _ {g : Geometry} {vs : Views} {asked : Res Path} {i : Image} {d : Reached
       under zero b c u = absurd u
       under (suc n) b c u = record { levels = n; stands = record { chained = c; below = u } }
 
-      go : (x : Found) → find (file_key to) holder ≡ x → FoundAt g vs tree.levels (file_key to) x → search.Found e ≡ entry_of x → SubdirectoryAt g vs asked i d s m e
+      go : (x : Found) → find (file_key to) holder ≡ x → FoundAt g vs tree.levels (file_key to) x → Some e ≡ entry_of x → SubdirectoryAt g vs asked i d s m e
       go nothing j b z = absurd (let z : ◌≡◌ {A = ℕ} 0 1 = cc in omega arith)
       go (a_file l ls) j b z = absurd (no_file (file_key to) to.name l (ap (key to.name) is) b.0 b.2)
       go (a_directory l b) j st z =
@@ -160,21 +147,19 @@ module _ {g : Geometry} {vs : Views} {asked : Res Path} {i : Image} {d : Reached
           }
 
 -- ---- of a path that was asked for
-module _ (g : Geometry) (vs : Views) (path : List ℕ) (r : PathLookup) where
+module _ (g : Geometry) (vs : Views) (path : List ℕ) (r : Result PathLookup Refusal) where
   pub looks_file : LooksUp g vs (path_of path) r → Looks g vs path r
   looks_file h i c = go r (h i c)
     where
-      go : (x : PathLookup) → AtPath g vs (path_of path) i (EntryAt g vs (path_of path) i) x → AtPath g vs (path_of path) i (FileAt g vs (path_of path) i) x
-      go lookup.Malformed a = a
-      go lookup.Nowhere a = a
-      go (lookup.Absent d name extension) a = a
-      go (lookup.At d s m e) a = file_at_lem a (file_low path a.target.to (reached (path_of path) i.tree a.target a.reached).formed)
+      go : (x : Result PathLookup Refusal) → AtPath g vs (path_of path) i (EntryAt g vs (path_of path) i) x → AtPath g vs (path_of path) i (FileAt g vs (path_of path) i) x
+      go (Err z) a = a
+      go (Ok (lookup.Absent d name extension)) a = a
+      go (Ok (lookup.At d x)) a = file_at_lem a (file_low path a.target.to (reached (path_of path) i.tree a.target a.reached).formed)
 
   pub looks_directory : LooksUp g vs (directory_path_of path) r → LooksFor g vs path r
   looks_directory h i c = go r (h i c)
     where
-      go : (x : PathLookup) → AtPath g vs (directory_path_of path) i (EntryAt g vs (directory_path_of path) i) x → AtPath g vs (directory_path_of path) i (SubdirectoryAt g vs (directory_path_of path) i) x
-      go lookup.Malformed a = a
-      go lookup.Nowhere a = a
-      go (lookup.Absent d name extension) a = a
-      go (lookup.At d s m e) a = subdirectory_at a (directory_extension path a.target.to (reached (directory_path_of path) i.tree a.target a.reached).formed)
+      go : (x : Result PathLookup Refusal) → AtPath g vs (directory_path_of path) i (EntryAt g vs (directory_path_of path) i) x → AtPath g vs (directory_path_of path) i (SubdirectoryAt g vs (directory_path_of path) i) x
+      go (Err z) a = a
+      go (Ok (lookup.Absent d name extension)) a = a
+      go (Ok (lookup.At d x)) a = subdirectory_at a (directory_extension path a.target.to (reached (directory_path_of path) i.tree a.target a.reached).formed)

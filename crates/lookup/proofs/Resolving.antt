@@ -1,4 +1,7 @@
 -- What stands under a key, and the names of a path followed one by one.
+use Rattle.std.specs.Prelude.{Some, None, Result, Ok, Err}
+use Rattle.refusals.specs.declared.Refusal.{Refusal}
+use Rattle.refusals.specs.declared.Fault.TheVariants.{Absent}
 use mathlib.Core.Path.{◌≡◌, refl, ap, ap₂, sym, ◌∙◌, subst}
 use mathlib.Core.Bool.{Bool, true, false, ◌||◌}
 use mathlib.Core.List.{List, [], ◌∷◌}
@@ -22,10 +25,7 @@ use Rattle.rules.specs.WellFormed.{Under}
 use Rattle.rules.specs.Paths.{names_in, directory_key, Found, nothing, a_file, a_directory, find, Place, step_down, in_directory, directory_at}
 use Rattle.chain.specs.KnownChain.{ChainAt}
 use Rattle.listing.specs.KnownTree.{Chained, Below}
-use Rattle.lookup.specs.declared.Search.TheVariants as search
 use Rattle.lookup.specs.declared.Reached.{Reached}
-use Rattle.lookup.specs.declared.Resolved.{Resolved}
-use Rattle.lookup.specs.declared.Resolved.TheVariants as resolved
 use Rattle.lookup.specs.Searches.{entered, entry_of, TreeAt, HasTree, IsReached, Leads}
 
 -- ---- what is found stands
@@ -112,7 +112,7 @@ has_tree_from {g} {vs} {d} start n q tree = rw q (record { tree = d; at = tree }
 
 module _ (g : Geometry) (vs : Views) (from : Reached) (path : List ℕ) (at names : ℕ) where
   -- none is left
-  pub lead_here : names ≡ 0 → (p : Place) → IsReached g vs p from → Leads g vs (directory_at (names_in names (drop at path)) p) (resolved.Directory from)
+  pub lead_here : names ≡ 0 → (p : Place) → IsReached g vs p from → Leads g vs (directory_at (names_in names (drop at path)) p) (Ok from)
   unfolding directory_at
   lead_here z p T = (p, ap (λ (n : ℕ). directory_at (names_in n (drop at path)) p) z, T)
 
@@ -132,10 +132,10 @@ module _ (g : Geometry) (vs : Views) (from : Reached) (path : List ℕ) (at name
         ∙ ap (λ (n : ℕ). in_directory (find n p.items) (onward p)) (sym k_is)
 
     -- it is absent
-    pub lead_absent : (p : Place) → search.Absent ≡ entry_of (find k p.items) → Leads g vs (directory_at (names_in names (drop at path)) p) resolved.Absent
+    pub lead_absent : (p : Place) → None ≡ entry_of (find k p.items) → Leads g vs (directory_at (names_in names (drop at path)) p) (Err (record { 0 = Absent; 1 = 0 }))
     lead_absent p e = one_name p ∙ go (find k p.items) e
       where
-        go : (f : Found) → search.Absent ≡ entry_of f → in_directory f (onward p) ≡ err 15 0
+        go : (f : Found) → None ≡ entry_of f → in_directory f (onward p) ≡ err 15 0
         go nothing e = refl
         go (a_file l ls) e = refl
         go (a_directory l d) e = absurd (let z : ◌≡◌ {A = ℕ} 0 1 = cc in omega arith)
@@ -148,19 +148,19 @@ module _ (g : Geometry) (vs : Views) (from : Reached) (path : List ℕ) (at name
       pub entry_is : e ≡ directory_entry label items
       pub tree : TreeAt g vs e.start items
 
-    pub lead_next : (t : Items) → TreeAt g vs from.start t → (e : Entry) → search.Found e ≡ entry_of (find k t) → Next t e
+    pub lead_next : (t : Items) → TreeAt g vs from.start t → (e : Entry) → Some e ≡ entry_of (find k t) → Next t e
     lead_next t T e q = go (find k t) refl (find_stands g vs T.levels k t T.stands.below) q
       where
         under : (n : ℕ) (d : Items) → Chained g vs.pages (start_of d) d → Under n (λ less. Below g vs less d) → TreeAt g vs (start_of d) d
         under zero d c u = absurd u
         under (suc n) d c u = record { levels = n; stands = record { chained = c; below = u } }
 
-        go : (f : Found) → find k t ≡ f → FoundAt g vs T.levels k f → search.Found e ≡ entry_of f → Next t e
+        go : (f : Found) → find k t ≡ f → FoundAt g vs T.levels k f → Some e ≡ entry_of f → Next t e
         go nothing i s q = absurd (let z : ◌≡◌ {A = ℕ} 0 1 = cc in omega arith)
         go (a_file l ls) i s q = absurd (no_file k x l k_is s.0 s.2)
         go (a_directory l d) i s q =
             let j : e ≡ directory_entry l d = cc in
             record { label = l; items = d; is = i; entry_is = j; tree = subst (λ (n : ℕ). TreeAt g vs n d) (sym (ap (λ (y : Entry). y.start) j)) (under T.levels d s.1 s.3) }
 
-    pub lead_on : (p : Place) (e : Entry) (n : Next p.items e) (r : Resolved) → Leads g vs (onward p n.label n.items) r → Leads g vs (directory_at (names_in names (drop at path)) p) r
+    pub lead_on : (p : Place) (e : Entry) (n : Next p.items e) (r : Result Reached Refusal) → Leads g vs (onward p n.label n.items) r → Leads g vs (directory_at (names_in names (drop at path)) p) r
     lead_on p e n r h = subst (λ (q : Res Place). Leads g vs q r) (sym (one_name p ∙ ap (λ (f : Found). in_directory f (onward p)) n.is)) h

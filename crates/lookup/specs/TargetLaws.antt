@@ -1,6 +1,7 @@
 -- What stands at a path: the case that a lookup turns out to be, and whether the file that is there may be written.
-use Rattle.std.specs.Prelude.{◌≡◌, List, ℕ, ◌≤◌, ◌<◌}
+use Rattle.std.specs.Prelude.{Result, ◌≡◌, List, ℕ, ◌≤◌, ◌<◌}
 use Rattle.std.proofs.Common.{ap, subst, arith, eq-eqb, ne_eqb}
+use Rattle.refusals.specs.declared.Refusal.{Refusal}
 use Rattle.geometry.specs.declared.Geometry.{Geometry}
 use Rattle.rules.specs.declared.Entry.{Entry}
 use Rattle.rules.specs.Result.{Res, ok, err}
@@ -16,11 +17,11 @@ use Rattle.lookup.specs.declared.Reached.{Reached}
 use Rattle.lookup.specs.declared.PathLookup.{PathLookup}
 use Rattle.lookup.specs.Targets.{FileAt, SubdirectoryAt, AtPath, Looks, LooksFor}
 
-pub looks_as : (g : Geometry) (vs : Views) (path : List ℕ) (i : Image) (r : PathLookup) → Looks g vs path r → check g vs ≡ ok i → (x : PathLookup) → r ≡ x
+pub looks_as : (g : Geometry) (vs : Views) (path : List ℕ) (i : Image) (r : Result PathLookup Refusal) → Looks g vs path r → check g vs ≡ ok i → (x : Result PathLookup Refusal) → r ≡ x
     → AtPath g vs (path_of path) i (FileAt g vs (path_of path) i) x
 looks_as g vs path i r h accepted x e = subst (AtPath g vs (path_of path) i (FileAt g vs (path_of path) i)) e (h i accepted)
 
-pub looks_for_as : (g : Geometry) (vs : Views) (path : List ℕ) (i : Image) (r : PathLookup) → LooksFor g vs path r → check g vs ≡ ok i → (x : PathLookup) → r ≡ x
+pub looks_for_as : (g : Geometry) (vs : Views) (path : List ℕ) (i : Image) (r : Result PathLookup Refusal) → LooksFor g vs path r → check g vs ≡ ok i → (x : Result PathLookup Refusal) → r ≡ x
     → AtPath g vs (directory_path_of path) i (SubdirectoryAt g vs (directory_path_of path) i) x
 looks_for_as g vs path i r h accepted x e = subst (AtPath g vs (directory_path_of path) i (SubdirectoryAt g vs (directory_path_of path) i)) e (h i accepted)
 

@@ -1,8 +1,10 @@
 -- For contracts: what stands at a path of an accepted image, a file's or a directory's.
-use Rattle.std.specs.Prelude.{◌≡◌, List, ℕ}
+use Rattle.std.specs.Prelude.{Result, Ok, Err, ◌≡◌, List, ℕ}
+use Rattle.refusals.specs.declared.Refusal.{Refusal}
 use Rattle.geometry.specs.declared.Geometry.{Geometry}
 use Rattle.rules.specs.declared.Entry.{Entry}
-use Rattle.rules.specs.Result.{Res, ok, err}
+use Rattle.rules.specs.Answers.{refused}
+use Rattle.rules.specs.Result.{Res, ok}
 use Rattle.rules.specs.Chain.{Views, Link}
 use Rattle.rules.specs.Tree.{Label, Items, file_entry, directory_entry, Image}
 use Rattle.rules.specs.Check.{check}
@@ -55,19 +57,18 @@ module _ (g : Geometry) (vs : Views) (asked : Res Path) (i : Image) where
     pub tree : TreeAt g vs e.start items
     pub at : PlaceOf g vs.pages (file_key target.to) target.place.items s stamped e
 
-  -- document 01's numbers: a malformed path is 14, a directory that is absent 15; `At` says what stands there
-  abbrev pub AtPath : (Reached → Slot → ℕ → Entry → Type 0) → PathLookup → Type 0
-  AtPath At lookup.Malformed = target_at asked i.tree ≡ err 14 0
-  AtPath At lookup.Nowhere = target_at asked i.tree ≡ err 15 0
-  AtPath At (lookup.Absent d name extension) = PathAbsent d name extension
-  AtPath At (lookup.At d s m e) = At d s m e
+  -- a refusal is the rule's; `At` says what stands there
+  abbrev pub AtPath : (Reached → Slot → ℕ → Entry → Type 0) → Result PathLookup Refusal → Type 0
+  AtPath At (Err z) = target_at asked i.tree ≡ refused z
+  AtPath At (Ok (lookup.Absent d name extension)) = PathAbsent d name extension
+  AtPath At (Ok (lookup.At d x)) = At d x.slot x.stamps x.entry
 
 -- for whatever reading is accepted: an entry, a file, a directory
-abbrev pub LooksUp : Geometry → Views → Res Path → PathLookup → Type 0
+abbrev pub LooksUp : Geometry → Views → Res Path → Result PathLookup Refusal → Type 0
 LooksUp g vs asked r = (i : Image) → check g vs ≡ ok i → AtPath g vs asked i (EntryAt g vs asked i) r
 
-abbrev pub Looks : Geometry → Views → List ℕ → PathLookup → Type 0
+abbrev pub Looks : Geometry → Views → List ℕ → Result PathLookup Refusal → Type 0
 Looks g vs path r = (i : Image) → check g vs ≡ ok i → AtPath g vs (path_of path) i (FileAt g vs (path_of path) i) r
 
-abbrev pub LooksFor : Geometry → Views → List ℕ → PathLookup → Type 0
+abbrev pub LooksFor : Geometry → Views → List ℕ → Result PathLookup Refusal → Type 0
 LooksFor g vs path r = (i : Image) → check g vs ≡ ok i → AtPath g vs (directory_path_of path) i (SubdirectoryAt g vs (directory_path_of path) i) r

@@ -4,10 +4,10 @@ ghost use Rattle.rules.specs.Chain.{views_of};
 ghost use Rattle.lookup.specs.Searches.{HasTree};
 ghost use Rattle.lookup.specs.Spaces.{Spaces};
 
-use entries::{Next, Slot};
+use entries::Slot;
 use geometry::Geometry;
 
-// The page of a directory that a new entry goes to.
+// The page of a directory that a new entry goes to. No Option: both cases hand back a place.
 #[derive(Clone, Copy)]
 pub enum Space {
     // the first page with space
@@ -28,7 +28,7 @@ pub fn find_space(image: &[u8], g: Geometry, start: usize) -> Space
         if slot.count < room {
             return Space::At(slot);
         }
-        let Next::At(later) = slot.next_page(image, g) else {
+        let Some(later) = slot.next_page(image, g) else {
             return Space::Full(slot);
         };
         slot = later;

@@ -1,11 +1,12 @@
 -- The call: the check's fault first, and what a make that is done leaves.
+use Rattle.refusals.specs.declared.Refusal.{Refusal}
+use Rattle.std.specs.Prelude.{Result, Some}
 use mathlib.Core.Path.{◌≡◌, ap}
 use mathlib.Core.List.{List, ◌++◌}
 use Prim.Native.Nat.{ℕ, ◌<◌, ◌*◌}
 use lib.ListN.{length, get_or, drop}
 use Rattle.owners.specs.Records.{records_of}
 use Rattle.geometry.specs.declared.Geometry.{Geometry}
-use Rattle.geometry.specs.declared.Shape.TheVariants.{Fits}
 use Rattle.geometry.specs.Geometry.{geometry_of}
 use Rattle.geometry.specs.NumberLaws.{bytes_from}
 use Rattle.rules.specs.Result.{Res, ok, err}
@@ -16,8 +17,7 @@ use Rattle.rules.specs.Put.{put_at}
 use Rattle.rules.specs.Directories.{make_directory, make_call}
 use Rattle.rules.specs.Promises.{Makes}
 use Rattle.editing_theorems.proofs.Promised.{make_stated}
-use Rattle.rules.specs.declared.Edited.{Edited}
-use Rattle.rules.specs.Answers.{edit_result}
+use Rattle.rules.specs.Answers.{answer_of}
 use Rattle.volume.specs.Edits.{EditLeaves}
 use Rattle.volume.proofs.EditLaws.{changed_leaves}
 
@@ -26,14 +26,14 @@ unfolding put_at
 make_fault g path image n p e = simp (e, then_err)
 
 module _ (P N : ℕ) (image table path : List ℕ) where
-  pub made : (g : Geometry) → geometry_of P N (length image) (length table) ≡ Fits g → (part : List ℕ) → length part ≡ 4 * g.pages → ((i : ℕ) → get_or (part ++ drop (4 * g.pages) table) i 0 < 256)
-      → (r : Edited) (after : List ℕ) → EditLeaves g image (make_directory g path image) r after (records_of part) → (edit_result r, after, part ++ drop (4 * g.pages) table) ≡ make_call P N image table path
+  pub made : (g : Geometry) → geometry_of P N (length image) (length table) ≡ Some g → (part : List ℕ) → length part ≡ 4 * g.pages → ((i : ℕ) → get_or (part ++ drop (4 * g.pages) table) i 0 < 256)
+      → (r : Result (Unit {0}) Refusal) (after : List ℕ) → EditLeaves g image (make_directory g path image) r after (records_of part) → (answer_of r, after, part ++ drop (4 * g.pages) table) ≡ make_call P N image table path
   unfolding make_call
   made g e part l h r after k = changed_leaves P N image table g e part l h (λ g. make_directory g path image) r after k
 
-  pub make_is : (h : (i : ℕ) → get_or image i 0 < 256) (path_fits : (i : ℕ) → get_or path i 0 < 256) (r : Edited) (after t : List ℕ) → (edit_result r, after, t) ≡ make_call P N image table path
-      → Makes P N image table path (edit_result r ≡ ok tt) (λ x. edit_result r ≡ x) after
+  pub make_is : (h : (i : ℕ) → get_or image i 0 < 256) (path_fits : (i : ℕ) → get_or path i 0 < 256) (r : Result (Unit {0}) Refusal) (after t : List ℕ) → (answer_of r, after, t) ≡ make_call P N image table path
+      → Makes P N image table path (answer_of r ≡ ok tt) (λ x. answer_of r ≡ x) after
   make_is h path_fits r after t e =
-      let q : edit_result r ≡ (make_call P N image table path).0 = ap (λ (x : Res (Unit {0}) × List ℕ × List ℕ). x.0) e in
+      let q : answer_of r ≡ (make_call P N image table path).0 = ap (λ (x : Res (Unit {0}) × List ℕ × List ℕ). x.0) e in
       let a : after ≡ (make_call P N image table path).1 = ap (λ (x : Res (Unit {0}) × List ℕ × List ℕ). x.1) e in
       rw (q, a) (make_stated P N image table (bytes_from image h) path (bytes_from path path_fits))

@@ -1,5 +1,7 @@
 -- A making by path: its refusals, and that the directory put in its place is the rule's.
-use mathlib.Core.Path.{◌≡◌, refl, ap, ap₂, sym, ◌∙◌, subst}
+use Rattle.std.specs.Prelude.{Err, Result, Ok}
+use Rattle.refusals.specs.declared.Refusal.{Refusal}
+use mathlib.Core.Path.{◌≡◌, refl, ap, sym, ◌∙◌, subst}
 use mathlib.Core.List.{List}
 use Prim.Native.Nat.{ℕ, ◌+◌, ◌<◌}
 use native.Mathlib.Omega.{arith}
@@ -18,20 +20,15 @@ use Rattle.rules.specs.Paths.{directory_path_of}
 use Rattle.rules.specs.Directories.{make_target, new_directory, make_directory}
 use Rattle.rules.specs.Candidate.{Absent, EmptyDirectory}
 use Rattle.rules.specs.Demand2.{empty_directory}
-use Rattle.rules.specs.declared.Edited.TheVariants as edited
 use Rattle.reading_theorems.specs.SubControlLaws.{length_sub}
 use Rattle.editing_theorems.proofs.PutDone.{PutCall}
 use Rattle.editing_theorems.proofs.PutCalls.{a_making}
 use Rattle.lookup.specs.declared.Reached.{Reached}
 use Rattle.edit.specs.declared.NewFile.{NewFile}
-use Rattle.edit.specs.declared.Outcome.{Outcome}
-use Rattle.edit.specs.declared.Outcome.TheVariants as outcome
 use Rattle.edit.specs.OldChains.{FreesOld}
 use Rattle.edit.specs.Plans.{PlainPutting, PutsFile}
 use Rattle.volume.specs.Edits.{Answered, TableOf}
 use Rattle.put.proofs.RequestPuts as request
-use Rattle.make.specs.declared.Vacancy.{Vacancy}
-use Rattle.make.specs.declared.Vacancy.TheVariants as vacancy
 use Rattle.make.specs.Vacancies.{Room, IsVacant, Vacant, PathMade}
 
 -- a control field fills its size
@@ -46,12 +43,12 @@ module _ (g : Geometry) (image : List ℕ) (table : List OwnerRecord) (path : Li
   abbrev C : PutCall (directory_path_of path) Absent EmptyDirectory (make_target path) new_directory empty_directory
   C = a_making path (bytes_from path path_fits)
 
-  module _ (r : Vacancy) (h : Vacant g image path r) (budget : Budget) where
-    pub refused : (n p : ℕ) → r ≡ vacancy.Refused n p → PathMade g image path budget image (outcome.Refused n p)
-    refused n p e = request.refused C g image table fit T budget n p (λ i c. subst (λ (x : Vacancy). IsVacant g image path i x) e (h i c))
+  module _ (r : Result (Reached × NewFile) Refusal) (h : Vacant g image path r) (budget : Budget) where
+    pub refuses : (z : Refusal) → r ≡ Err z → PathMade g image path budget image (Err z)
+    refuses z e = request.refuses C g image table fit T budget z (λ i c. subst (λ (x : Result (Reached × NewFile) Refusal). IsVacant g image path i x) e (h i c))
 
     -- ---- the directory at its place, no chain being replaced
-    module _ (d : Reached) (f : NewFile) (e : r ≡ vacancy.At d f) where
+    module _ (d : Reached) (f : NewFile) (e : r ≡ Ok (d, f)) where
       room : Room g image path T.tree d f
       room = subst (IsVacant g image path T.tree) e (h T.tree T.accepted)
 
@@ -65,13 +62,13 @@ module _ (g : Geometry) (image : List ℕ) (table : List OwnerRecord) (path : Li
         pub to_make : PlainPutting g image table control f
         to_make = subst (λ (b : List ℕ). PlainPutting g image table b f) control_is (request.to_put C g image table fit T budget f room.place table none_freed)
 
-        pub make_at : (after : List ℕ) (o : Outcome) → PutsFile g image table control f budget after o → PathMade g image path budget after o
+        pub make_at : (after : List ℕ) (o : Result Budget Refusal) → PutsFile g image table control f budget after o → PathMade g image path budget after o
         make_at after o k = request.put_at_lem C g image table fit T budget f room.place table none_freed after o
             (subst (λ (b : List ℕ). PutsFile g image table b f budget after o) (sym control_is) k)
 
-  module _ (budget : Budget) (b : budget ≡ unlimited) (after : List ℕ) (o : Outcome) (h : PathMade g image path budget after o) where
-    pub answer_done : (left : Budget) → o ≡ outcome.Done left → Answered image (make_directory g path image) edited.Done after
+  module _ (budget : Budget) (b : budget ≡ unlimited) (after : List ℕ) (o : Result Budget Refusal) (h : PathMade g image path budget after o) where
+    pub answer_done : (left : Budget) → o ≡ Ok left → Answered image (make_directory g path image) (Ok tt) after
     answer_done left e = request.answer_done C g image table fit T budget b after o h left e
 
-    pub answer_refused : (n p : ℕ) → o ≡ outcome.Refused n p → Answered image (make_directory g path image) (edited.Refused n p) after
-    answer_refused n p e = request.answer_refused C g image table fit T budget b after o h n p e
+    pub answer_refused : (z : Refusal) → o ≡ Err z → Answered image (make_directory g path image) (Err z) after
+    answer_refused z e = request.answer_refused C g image table fit T budget b after o h z e

@@ -1,5 +1,6 @@
 -- The bitmap file written page by page: the writes that are left give the whole, and the pages to come stand as they did.
 use mathlib.Core.Bool.{true, false}
+use Rattle.std.specs.Prelude.{Ok}
 use mathlib.Core.Path.{◌≡◌, ap, ap₂, sym, ◌∙◌, subst}
 use mathlib.Core.List.{List, [], ◌∷◌, ◌++◌}
 use Prim.Native.Nat.{ℕ, ◌+◌, ◌*◌, ◌≤◌, ◌<◌}
@@ -26,8 +27,6 @@ use Rattle.editing_theorems.specs.AfterWrites.{write_pages, WriteFits}
 use Rattle.editing_theorems.specs.BudgetedWrites.{one_fit, one_elsewhere}
 use Rattle.editing_theorems.specs.HeldPackets.{pages_linked, packets_same}
 use Rattle.chain.specs.declared.Cursor.{Cursor}
-use Rattle.chain.specs.declared.Step.{Step}
-use Rattle.chain.specs.declared.Step.TheVariants as step
 use Rattle.chain.specs.Steps.{first_step, step_of}
 use Rattle.chain.proofs.Following.{Following, follow, Passed, passes, page_known, stepped, all_passed, follow_on}
 use Rattle.marks.specs.Marks.{marks_from}
@@ -80,7 +79,7 @@ first_small N (link p b ∷ ls) z h = h p (omega (arith, hit_same p))
 
 -- ---- one page written
 module _ {g : Geometry} {table : List OwnerRecord} {under total : ℕ} {target : Progress} {image : List ℕ} {budget : Budget} {c : Cursor} (W : Writing g table under total target image budget c)
-    {size : ℕ} {d : Cursor} {s : Step} (m : s ≡ step.Page size d) (o : s ≡ step_of g (view_of g image) c) where
+    {size : ℕ} {d : Cursor} (o : Ok (size, d) ≡ step_of g (view_of g image) c) where
   abbrev v : View
   v = view_of g image
 
@@ -90,7 +89,7 @@ module _ {g : Geometry} {table : List OwnerRecord} {under total : ℕ} {target :
   pub page_room : (c.page < g.pages) × (size + g.width + 3 ≤ g.size)
   unfolding view_of
   page_room =
-      let k = stepped g v c below size d (sym m ∙ o) in
+      let k = stepped g v c below size d o in
       let r = right_packet g.width c.page (page_of g c.page image) k.0 d.page k.1 in
       (below, omega (arith, r.room, k.2, page_length g image c.page W.fit below))
 
@@ -127,13 +126,13 @@ module _ {g : Geometry} {table : List OwnerRecord} {under total : ℕ} {target :
       module _ (after : List ℕ) (left : Budget)
           (w : ◌≡◌ {A = Progress} (record { image = after; budget = left }) (write_one g (write c.page (take size (marks ++ drop size buffer)) d.page) (record { image = image; budget = budget }))) where
         abbrev b : List ℕ
-        b = (passes g image W.fit total c W.more W.following size d s m o).0
+        b = (passes g image W.fit total c W.more W.following size d o).0
 
         abbrev P : Passed c d W.more b
-        P = (passes g image W.fit total c W.more W.following size d s m o).1
+        P = (passes g image W.fit total c W.more W.following size d o).1
 
         long : length b ≡ size
-        long = (passes g image W.fit total c W.more W.following size d s m o).2
+        long = (passes g image W.fit total c W.more W.following size d o).2
 
         abbrev from : Progress
         from = record { image = image; budget = budget }

@@ -1,4 +1,6 @@
 -- Page 0: its packet copied, four bytes of its control field put, and what the field tells.
+use Rattle.std.specs.Prelude.{Option, Some}
+use Rattle.std.specs.Option.{IsSome}
 use mathlib.Core.Path.{◌≡◌, refl, ap, ap₂, sym, ◌∙◌}
 use mathlib.Core.List.{List, [], ◌∷◌, ◌++◌, append_assoc}
 use Prim.Native.Nat.{ℕ, suc, ◌+◌, ◌-◌, ◌*◌, ◌^◌, ◌≤◌, ◌<◌}
@@ -12,12 +14,11 @@ use Rattle.geometry.specs.Number.{number, number_bytes}
 use Rattle.geometry.specs.NumberLaws.{length_number}
 use Rattle.geometry.specs.Page.{page_of, overwritten}
 use Rattle.geometry.specs.PageLaws.{page_length}
-use Rattle.packet.specs.declared.Judged.{Judged}
-use Rattle.packet.specs.declared.Judged.TheVariants.{Whole, Bad}
+use Rattle.packet.specs.declared.Whole.{Whole}
 use Rattle.packet.specs.Packet.{good, packet_of, view_of, write}
 use Rattle.packet.specs.declared.Budget.{Budget}
 use Rattle.packet.specs.Budgets.{Progress, write_one}
-use Rattle.packet.specs.Judged.{frame_of, judged}
+use Rattle.packet.specs.Judged.{frame_of, whole, judged}
 use Rattle.packet.specs.Reading.{Right, right_packet, frame_right}
 use Rattle.rules.specs.Chain.{Link, first}
 use Rattle.rules.specs.Tree.{Map, in_root, in_file, is_local}
@@ -47,29 +48,32 @@ module _ (g : Geometry) (image : List ℕ) (fit : Fit g image) (b : List ℕ) (n
         let k : take (length b) (drop 1 page) ≡ b = ap (λ (l : List ℕ). take (length b) (drop 1 l)) e ∙ sym first_right.bytes_are in
         sym (take-append-drop (length b) (drop 1 page)) ∙ ap (λ (l : List ℕ). l ++ drop (length b) (drop 1 page)) k
 
-    module _ (r : Judged) (o : r ≡ judged (frame_of g.width page)) where
-      first_known : r ≡ Whole (length b) next
+    module _ (r : Option Whole) (o : r ≡ judged (frame_of g.width page)) where
+      first_known : r ≡ whole (length b) next
       unfolding view_of
       first_known = o ∙ ap judged (frame_right g.width 0 page b next (ap (packet_of g.width 0) e ∙ q))
 
-      pub first_never : r ≡ Bad → ⊥
-      first_never z = let k : Bad ≡ Whole (length b) next = sym z ∙ first_known in let y : ◌≡◌ {A = ℕ} 0 1 = cc in omega arith
+      pub first_some : IsSome r
+      first_some = rw first_known refl
 
-      module _ (size n : ℕ) (m : r ≡ Whole size n) where
-        size_is : size ≡ length b
-        size_is = let k : Whole size n ≡ Whole (length b) next = sym m ∙ first_known in cc
+      module _ (x : Whole) (m : r ≡ Some x) where
+        told : x ≡ record { length = length b; next = next }
+        told = let k : Some x ≡ whole (length b) next = sym m ∙ first_known in cc
 
-        pub first_inside : size + 1 ≤ length page
+        size_is : x.length ≡ length b
+        size_is = ap (λ (y : Whole). y.length) told
+
+        pub first_inside : x.length + 1 ≤ length page
         first_inside = omega (arith, ap length e, first_right.room, size_is)
 
-        module _ (bytes : List ℕ) (i : bytes ≡ take size (drop 1 page)) where
+        module _ (bytes : List ℕ) (i : bytes ≡ take x.length (drop 1 page)) where
           bytes_is : bytes ≡ b
           bytes_is = i ∙ ap₂ (λ (k : ℕ) (l : List ℕ). take k (drop 1 l)) size_is e ∙ sym first_right.bytes_are
 
           pub first_place : 0 + length bytes ≤ 256
           first_place = omega (arith, ap length bytes_is, first_room, fit.valid.most)
 
-          pub first_copied : (before after : List ℕ) → after ≡ overwritten 0 bytes before → (Whole size n ≡ judged (good b next)) × (after ≡ b ++ drop (length b) before)
+          pub first_copied : (before after : List ℕ) → after ≡ overwritten 0 bytes before → (Some x ≡ judged (good b next)) × (after ≡ b ++ drop (length b) before)
           unfolding overwritten
           first_copied before after w = (sym m ∙ first_known, w ∙ ap (λ (l : List ℕ). l ++ drop (length l) before) bytes_is)
 
@@ -111,7 +115,7 @@ module _ (n : ℕ) (bits rest more marks : List ℕ) (four : length bits ≡ 4) 
   field_put = ap (take (length (root_control n bits in_root ++ rest))) put_is ∙ take_at (root_control n marks in_root ++ rest) more (length (root_control n bits in_root ++ rest)) same_size
 
 -- ---- page 0 written
-module _ (g : Geometry) (image : List ℕ) (fit : Fit g image) (table : List OwnerRecord) (below : ℕ) (buffer copied : List ℕ) (r : Judged) (C : CopiesRoot g (view_of g image) r buffer copied)
+module _ (g : Geometry) (image : List ℕ) (fit : Fit g image) (table : List OwnerRecord) (below : ℕ) (buffer copied : List ℕ) (r : Whole) (C : CopiesRoot g (view_of g image) r buffer copied)
     (bits rest : List ℕ) (next : ℕ) (L : LocalMapAt g (view_of g image) bits rest next) where
   abbrev n : ℕ
   n = g.width
@@ -119,23 +123,20 @@ module _ (g : Geometry) (image : List ℕ) (fit : Fit g image) (table : List Own
   abbrev root : List ℕ → List ℕ
   root xs = root_control n xs in_root ++ rest
 
-  known : r ≡ Whole (length (root bits)) next
+  known : r ≡ record { length = length (root bits); next = next }
   unfolding CopiesRoot
-  known = (C (root bits) next L.packet).0
+  known = let k : Some r ≡ whole (length (root bits)) next = (C (root bits) next L.packet).0 in cc
 
   copied_is : copied ≡ root bits ++ drop (length (root bits)) buffer
   unfolding CopiesRoot
   copied_is = (C (root bits) next L.packet).1
 
-  pub root_never : r ≡ Bad → ⊥
-  root_never z = let k : Bad ≡ Whole (length (root bits)) next = sym z ∙ known in let y : ◌≡◌ {A = ℕ} 0 1 = cc in omega arith
+  module _ {marks : List ℕ} (f : marks ≡ marks_from table below 0 (length (take (n + 2 + 4 - (n + 2)) (drop (n + 2) copied)))) where
+    size_told : r.length ≡ length (root bits)
+    size_told = ap (λ (y : Whole). y.length) known
 
-  module _ {size k : ℕ} (m : r ≡ Whole size k) {marks : List ℕ} (f : marks ≡ marks_from table below 0 (length (take (n + 2 + 4 - (n + 2)) (drop (n + 2) copied)))) where
-    size_told : size ≡ length (root bits)
-    size_told = let e : Whole size k ≡ Whole (length (root bits)) next = sym m ∙ known in cc
-
-    next_told : k ≡ next
-    next_told = let e : Whole size k ≡ Whole (length (root bits)) next = sym m ∙ known in cc
+    next_told : r.next ≡ next
+    next_told = ap (λ (y : Whole). y.next) known
 
     four : n + 2 + 4 - (n + 2) ≡ 4
     four = omega arith
@@ -153,23 +154,23 @@ module _ (g : Geometry) (image : List ℕ) (fit : Fit g image) (table : List Own
     abbrev put : List ℕ
     put = take (n + 2) copied ++ (marks ++ drop (n + 2 + 4 - (n + 2)) (drop (n + 2) copied))
 
-    pub root_put : take size put ≡ root (marks_from table below 0 4)
+    pub root_put : take r.length put ≡ root (marks_from table below 0 4)
     root_put =
-        let a : take size put ≡ take size (take (n + 2) copied ++ (marks ++ drop 4 (drop (n + 2) copied))) = ap (λ (j : ℕ). take size (take (n + 2) copied ++ (marks ++ drop j (drop (n + 2) copied)))) four in
+        let a : take r.length put ≡ take r.length (take (n + 2) copied ++ (marks ++ drop 4 (drop (n + 2) copied))) = ap (λ (j : ℕ). take r.length (take (n + 2) copied ++ (marks ++ drop j (drop (n + 2) copied)))) four in
         a ∙ ap₂ (λ (j : ℕ) (l : List ℕ). take j (take (n + 2) l ++ (marks ++ drop 4 (drop (n + 2) l)))) size_told copied_is
         ∙ field_put n bits rest (drop (length (root bits)) buffer) marks L.four (ap length marks_are ∙ length_marks table below 4 0) ∙ ap root marks_are
 
     -- it is as long as before
-    pub root_size : length (take size put) ≡ size
+    pub root_size : length (take r.length put) ≡ r.length
     root_size = ap length root_put ∙ same_size n bits rest [] (marks_from table below 0 4) L.four (length_marks table below 4 0) ∙ sym size_told
 
-    pub root_there : size ≤ length put
-    root_there = omega (arith, root_size, length-take size put)
+    pub root_there : r.length ≤ length put
+    root_there = omega (arith, root_size, length-take r.length put)
 
-    pub root_fits : length (take size put) + n + 3 ≤ g.size
+    pub root_fits : length (take r.length put) + n + 3 ≤ g.size
     root_fits = omega (arith, root_size, size_told, first_room g image fit (root bits) next L.packet)
 
-    pub root_written : (budget : Budget) (after : Progress) → after ≡ write_one g (write 0 (take size put) k) (record { image = image; budget = budget })
+    pub root_written : (budget : Budget) (after : Progress) → after ≡ write_one g (write 0 (take r.length put) r.next) (record { image = image; budget = budget })
         → after ≡ write_one g (write 0 (root (marks_from table below 0 4)) next) (record { image = image; budget = budget })
     root_written budget after w = w ∙ ap₂ (λ (l : List ℕ) (j : ℕ). write_one g (write 0 l j) (record { image = image; budget = budget })) root_put next_told
 

@@ -1,11 +1,11 @@
 -- For contracts: the pages that the bitmap stands in, and those pages with the bytes of an owner table.
-use Rattle.std.specs.Prelude.{◌≡◌, Bool, List, ◌++◌, ℕ, ◌≤◌, length, drop}
+use Rattle.std.specs.Prelude.{◌≡◌, Some, Bool, List, ◌++◌, ℕ, ◌≤◌, length, drop}
 use Rattle.geometry.specs.declared.Geometry.{Geometry}
 use Rattle.geometry.specs.Geometry.{bitmap_size}
 use Rattle.packet.specs.Packet.{good, View, view_of, Write, write}
 use Rattle.packet.specs.declared.Budget.{Budget}
 use Rattle.packet.specs.Budgets.{Progress, write_one, write_all}
-use Rattle.packet.specs.declared.Judged.{Judged}
+use Rattle.packet.specs.declared.Whole.{Whole}
 use Rattle.packet.specs.Judged.{judged}
 use Rattle.rules.specs.PageSets.{Once}
 use Rattle.rules.specs.Chain.{Link, pages, first, content, linked}
@@ -32,8 +32,8 @@ pub record HasLocal (g : Geometry) (v : View) : Type 0 where
   pub stands : LocalMapAt g v bits rest next
 
 -- the answer tells page 0's packet, and the buffer has its bytes at the front
-unfoldable pub CopiesRoot : Geometry → View → Judged → List ℕ → List ℕ → Type 0
-CopiesRoot g v r before after = (b : List ℕ) (next : ℕ) → v 0 ≡ good b next → (r ≡ judged (good b next)) × (after ≡ b ++ drop (length b) before)
+unfoldable pub CopiesRoot : Geometry → View → Whole → List ℕ → List ℕ → Type 0
+CopiesRoot g v r before after = (b : List ℕ) (next : ℕ) → v 0 ≡ good b next → (Some r ≡ judged (good b next)) × (after ≡ b ++ drop (length b) before)
 
 -- page 0 written again with four bytes of the table
 unfoldable pub WritesLocal : Geometry → List OwnerRecord → ℕ → List ℕ → Budget → List ℕ → Budget → Type 0

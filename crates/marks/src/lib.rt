@@ -9,12 +9,12 @@ ghost use Rattle.packet.specs.Budgets.{Open};
 ghost use Rattle.marks.specs.Marks.{byte_marks, marks_from};
 ghost use Rattle.marks.specs.MapPages.{HasLocal, CopiesRoot, WritesLocal, HasMapFile, WritesFile, HasRoot, WritesMap, TellsLocal, TellsStart};
 
-use chain::{Cursor, Step};
+use chain::Cursor;
 use geometry::{
     BITMAP_CONTROL_PAST, BITMAP_FIELD_BYTES, BITMAP_FIELD_END, BITMAP_FIELD_PAST, Geometry,
     LENGTH_BYTES, LOCAL_BITMAP, MOST_PAGE_BYTES,
 };
-use packet::{Budget, Judged};
+use packet::{Budget, Whole};
 
 // Where bitmap control stands in page 0, past the map address, and where the four bitmap bytes end.
 const CONTROL_AT: usize = LENGTH_BYTES + BITMAP_CONTROL_PAST;
@@ -46,28 +46,21 @@ pub fn fill(bytes: &mut [u8], k: usize, table: &[u8], below: usize)
     requires { k + 8 * length bytes.old ≤ 1073741824 }
     ensures { bytes.new ≡ marks_from (records_of table.now) below k (length bytes.old) }
 {
-    let mut i = 0;
-    while i < bytes.len() {
-        bytes[i] = byte_of(table, below, k + 8 * i);
-        i += 1;
+    for (i, byte) in bytes.iter_mut().enumerate() {
+        *byte = byte_of(table, below, k + 8 * i);
     }
 }
 
 // Copies the data bytes of page 0's packet, which is known to be right, to the front of a buffer.
-fn copy_root(image: &[u8], g: Geometry, buffer: &mut [u8]) -> Judged
+fn copy_root(image: &[u8], g: Geometry, buffer: &mut [u8]) -> Whole
     requires fit { Fit g image.now }
     requires buffer_len { (length buffer.old ≡ 256) × HasLocal g (view_of g image.now) }
     ensures { CopiesRoot g (view_of g image.now) result buffer.old buffer.new }
 {
     let page = geometry::page_of(image, g, 0);
-    match packet::frame(page, g.width) {
-        // page 0 is known to hold a right packet
-        Judged::Bad => Judged::Bad,
-        Judged::Whole { length, next } => {
-            geometry::put_bytes(buffer, 0, packet::data_of(page, length));
-            Judged::Whole { length, next }
-        }
-    }
+    let packet = packet::frame(page, g.width).unwrap();
+    geometry::put_bytes(buffer, 0, packet::data_of(page, packet.length));
+    packet
 }
 
 // Writes page 0 with the bitmap's four bytes from the table, in a buffer.
@@ -85,14 +78,9 @@ fn write_root(
 {
     let at = g.width + BITMAP_FIELD_PAST;
     let end = at + BITMAP_FIELD_BYTES;
-    match copy_root(image, g, buffer) {
-        // page 0 is known to hold a right packet
-        Judged::Bad => budget,
-        Judged::Whole { length, next } => {
-            fill(&mut buffer[at..end], 0, table, below);
-            budget.write(image, g, 0, &buffer[..length], next)
-        }
-    }
+    let packet = copy_root(image, g, buffer);
+    fill(&mut buffer[at..end], 0, table, below);
+    budget.write(image, g, 0, &buffer[..packet.length], packet.next)
 }
 
 // Writes the bitmap in the root's control field from the table; all else of page 0's packet stays.
@@ -123,23 +111,16 @@ fn write_pages(
     let mut c = Cursor::new(start, start);
     loop {
         let page = c.page;
-        match c.step(image, g, true) {
-            // the chain is known to stand
-            Step::Refused(_, _) => {
-                return left;
-            }
-            Step::Page(size, next) => {
-                fill(&mut buffer[..size], 8 * c.bytes, table, below);
-                left = left.write(image, g, page, &buffer[..size], next.page);
-                if left.stopped {
-                    return left;
-                }
-                if next.page == 0 {
-                    return left;
-                }
-                c = next;
-            }
+        let (size, next) = c.follow(image, g);
+        fill(&mut buffer[..size], 8 * c.bytes, table, below);
+        left = left.write(image, g, page, &buffer[..size], next.page);
+        if left.stopped {
+            return left;
         }
+        if next.page == 0 {
+            return left;
+        }
+        c = next;
     }
 }
 

@@ -1,41 +1,38 @@
 -- The mend: refused as the check refuses, or the bitmap written from the pages in use; and what the call leaves.
+use Rattle.refusals.specs.declared.Refusal.{Refusal}
+use Rattle.std.specs.Prelude.{Result, Ok, Err, Some, Option, None}
 use mathlib.Core.Path.{◌≡◌, ap, ap₂, sym, ◌∙◌, subst}
-use mathlib.Core.Bool.{true, false, false≢true}
+use mathlib.Core.Bool.{true, false≢true}
 use mathlib.Core.List.{List, ◌++◌}
 use Prim.Native.Nat.{ℕ, ◌*◌, ◌<◌}
 use lib.ListN.{length, get_or, drop}
 use Rattle.owners.specs.Records.{records_of}
 use Rattle.geometry.specs.declared.Geometry.{Geometry}
-use Rattle.geometry.specs.declared.Shape.TheVariants.{Fits}
 use Rattle.geometry.specs.Geometry.{geometry_of, Fit}
 use Rattle.geometry.specs.Number.{Bytes}
 use Rattle.geometry.specs.NumberLaws.{bytes_from}
 use Rattle.packet.specs.Packet.{view_of, after_writes}
 use Rattle.packet.specs.declared.Budget.{Budget}
-use Rattle.packet.specs.Budgets.{Progress, unlimited, write_all}
+use Rattle.packet.specs.Budgets.{Progress, unlimited}
 use Rattle.packet.specs.BudgetLaws.{all_free_lem}
-use Rattle.rules.specs.declared.Checked.{Checked}
-use Rattle.rules.specs.declared.Checked.TheVariants as w
 use Rattle.rules.specs.declared.Totals.{Totals}
-use Rattle.rules.specs.declared.Mended.{Mended}
-use Rattle.rules.specs.Result.{Res, ok, err}
-use Rattle.rules.proofs.ResultLaws.{ok_inj, on_then, on_refuse, then_ok, refuse_true}
+use Rattle.rules.specs.Result.{Res, ok}
+use Rattle.rules.proofs.ResultLaws.{on_then, on_refuse, then_ok, refuse_true}
 use Rattle.rules.specs.Chain.{views_of}
-use Rattle.rules.specs.Tree.{Image, used}
-use Rattle.rules.specs.Owners.{OwnerRecord, owners}
-use Rattle.rules.specs.Check.{Scan, scan, check}
+use Rattle.rules.specs.Tree.{used}
+use Rattle.rules.specs.Owners.{OwnerRecord}
+use Rattle.rules.specs.Check.{Scan, scan}
 use Rattle.rules.specs.WellFormed.{WellFormedWith}
-use Rattle.rules.specs.Answers.{mend_result}
+use Rattle.rules.specs.Answers.{answer_of}
+use Rattle.rules.specs.Answers as answers
 use Rattle.rules.specs.Calls.{Effect}
-use Rattle.rules.specs.Careful.{all_mendable, unowned, mend_writes, mend, mend_call, cleared_of}
+use Rattle.rules.specs.Careful.{all_mendable, mend_writes, mend, mend_call, cleared_of}
 use Rattle.rules.specs.CarefulPromises.{IsDone, Mends}
 use Rattle.reading_theorems.specs.Accepted.{scanned_iff}
-use Rattle.careful_theorems.proofs.CarefulCalls.{Alike, mended, refused, mend_alike, accepted_mendable, mend_stated}
+use Rattle.careful_theorems.proofs.CarefulCalls.{mended, refused, mend_alike, accepted_mendable, mend_stated}
 use Rattle.owners.specs.Owned.{Represents}
 use Rattle.owners.specs.OwnerLaws.{represents_owners}
 use Rattle.owners.specs.BitLaws.{marks_none}
-use Rattle.bitmap.specs.declared.Survey.{Survey}
-use Rattle.bitmap.specs.declared.Survey.TheVariants as survey
 use Rattle.marks.specs.MapPages.{HasRoot, WritesMap}
 use Rattle.marks.specs.RootLaws.{root_held}
 use Rattle.volume.specs.Scans.{TableChecked}
@@ -43,36 +40,36 @@ use Rattle.volume.specs.Surveyed.{TableSurveyed}
 use Rattle.volume.specs.Edits.{effect_of, EffectLeaves}
 use Rattle.volume.proofs.EditLaws.{effective_leaves}
 
-module _ (g : Geometry) (image : List ℕ) (fit : Fit g image) (bytes : Bytes image) (r : Survey) (u : List OwnerRecord) (S : TableSurveyed g (views_of g image) r u) where
+module _ (g : Geometry) (image : List ℕ) (fit : Fit g image) (bytes : Bytes image) (r : Option ℕ) (u : List OwnerRecord) (S : TableSurveyed g (views_of g image) r u) where
   -- ---- refused
-  module _ (e : r ≡ survey.Uncovered) where
-    uncovered : TableSurveyed g (views_of g image) survey.Uncovered u
-    uncovered = subst (λ (x : Survey). TableSurveyed g (views_of g image) x u) e S
+  module _ (e : r ≡ None) where
+    uncovered : TableSurveyed g (views_of g image) None u
+    uncovered = subst (λ (x : Option ℕ). TableSurveyed g (views_of g image) x u) e S
 
     -- a mend that is done had its marks
     marked : (x : Effect ℕ) → mend g image ≡ ok x → (s : Scan) × (scan g (views_of g image) ≡ ok s) × (all_mendable g.pages s.raw (used s.image) 0 (8 * length s.raw) ≡ true)
     unfolding mend
     marked x h = on_then _ _ _ h λ s q h. on_refuse _ _ _ _ _ h λ a _. (s, q, a)
 
-    pub never : {C : Type 0} (c : Checked) (v : List OwnerRecord) (t : Totals) → TableChecked g (views_of g image) c v → c ≡ w.Done t → C
+    pub never : {C : Type 0} (c : Result Totals Refusal) (v : List OwnerRecord) (t : Totals) → TableChecked g (views_of g image) c v → c ≡ Ok t → C
     never c v t k q =
-        let d = subst (λ (x : Checked). TableChecked g (views_of g image) x v) q k in
+        let d = subst (λ (x : Result Totals Refusal). TableChecked g (views_of g image) x v) q k in
         let m = accepted_mendable g image fit bytes d.0 d.1 in
         absurd (false≢true (sym (uncovered m.0 m.1) ∙ m.2))
 
-    pub refused_as : (c : Checked) (v : List OwnerRecord) (n p : ℕ) → TableChecked g (views_of g image) c v → c ≡ w.Refused n p → EffectLeaves {A = ℕ} g image (mend g image) (err n p) image v
-    refused_as c v n p k q =
-        let d = subst (λ (x : Checked). TableChecked g (views_of g image) x v) q k in
-        let z : mend g image ≡ err n p = elim (mend_alike g image fit bytes n p d.0) [
+    pub refuses_as : (c : Result Totals Refusal) (v : List OwnerRecord) (y : Refusal) → TableChecked g (views_of g image) c v → c ≡ Err y → EffectLeaves {A = ℕ} g image (mend g image) (answers.refused y) image v
+    refuses_as c v y k q =
+        let d = subst (λ (x : Result Totals Refusal). TableChecked g (views_of g image) x v) q k in
+        let z : mend g image ≡ answers.refused y = elim (mend_alike g image fit bytes _ _ d.0) [
           | mended x h ↦ let m = marked x h in absurd (false≢true (sym (uncovered m.0 m.1) ∙ m.2))
           | refused h ↦ h
         ] in
         record { answers = sym (ap (effect_of image) z); check = c; checked = k }
 
   -- ---- done
-  module _ (n : ℕ) (e : r ≡ survey.Unowned n) where
-    covered : TableSurveyed g (views_of g image) (survey.Unowned n) u
-    covered = subst (λ (x : Survey). TableSurveyed g (views_of g image) x u) e S
+  module _ (n : ℕ) (e : r ≡ Some n) where
+    covered : TableSurveyed g (views_of g image) (Some n) u
+    covered = subst (λ (x : Option ℕ). TableSurveyed g (views_of g image) x u) e S
 
     abbrev s : Scan
     s = covered.0
@@ -96,19 +93,19 @@ module _ (g : Geometry) (image : List ℕ) (fit : Fit g image) (bytes : Bytes im
       unfolding mend
       rule_is = simp (covered.1, then_ok, covered.2, refuse_true) (ap₂ (λ (a : ℕ) (i : List ℕ). ok (record { answer = a; image = i })) (sym covered.3) (sym after_is))
 
-      pub mended_as : (c : Checked) (v : List OwnerRecord) → TableChecked g (views_of g after) c v → EffectLeaves {A = ℕ} g image (mend g image) (ok n) after v
+      pub mended_as : (c : Result Totals Refusal) (v : List OwnerRecord) → TableChecked g (views_of g after) c v → EffectLeaves {A = ℕ} g image (mend g image) (ok n) after v
       mended_as c v t = record { answers = sym (ap (effect_of image) rule_is); check = c; checked = t }
 
 -- ---- any image
 module _ (P N : ℕ) (image table : List ℕ) where
-  pub mend_left : (g : Geometry) → geometry_of P N (length image) (length table) ≡ Fits g → (part : List ℕ) → length part ≡ 4 * g.pages → ((i : ℕ) → get_or (part ++ drop (4 * g.pages) table) i 0 < 256)
-      → (r : Mended) (after : List ℕ) → EffectLeaves g image (mend g image) (mend_result r) after (records_of part) → (mend_result r, after, part ++ drop (4 * g.pages) table) ≡ mend_call P N image table
+  pub mend_left : (g : Geometry) → geometry_of P N (length image) (length table) ≡ Some g → (part : List ℕ) → length part ≡ 4 * g.pages → ((i : ℕ) → get_or (part ++ drop (4 * g.pages) table) i 0 < 256)
+      → (r : Result ℕ Refusal) (after : List ℕ) → EffectLeaves g image (mend g image) (answer_of r) after (records_of part) → (answer_of r, after, part ++ drop (4 * g.pages) table) ≡ mend_call P N image table
   unfolding mend_call
-  mend_left g e part l h r after x = effective_leaves P N image table g e part l h (λ g. mend g image) (mend_result r) after x
+  mend_left g e part l h r after x = effective_leaves P N image table g e part l h (λ g. mend g image) (answer_of r) after x
 
-  pub mend_is : (h : (i : ℕ) → get_or image i 0 < 256) (r : Mended) (after t : List ℕ)
-      → (mend_result r, after, t) ≡ mend_call P N image table → Mends P N image table (IsDone (mend_result r)) (λ x. mend_result r ≡ x) (cleared_of (mend_result r)) after
+  pub mend_is : (h : (i : ℕ) → get_or image i 0 < 256) (r : Result ℕ Refusal) (after t : List ℕ)
+      → (answer_of r, after, t) ≡ mend_call P N image table → Mends P N image table (IsDone (answer_of r)) (λ x. answer_of r ≡ x) (cleared_of (answer_of r)) after
   mend_is h r after t e =
-      let q : mend_result r ≡ (mend_call P N image table).0 = ap (λ (x : Res ℕ × List ℕ × List ℕ). x.0) e in
+      let q : answer_of r ≡ (mend_call P N image table).0 = ap (λ (x : Res ℕ × List ℕ × List ℕ). x.0) e in
       let a : after ≡ (mend_call P N image table).1 = ap (λ (x : Res ℕ × List ℕ × List ℕ). x.1) e in
       rw (q, a) (mend_stated P N image table (bytes_from image h))

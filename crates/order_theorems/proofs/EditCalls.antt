@@ -1,9 +1,7 @@
 -- One edit whose call answers 0: what it did to paths and pages.
-use Rattle.std.specs.Prelude.{◌≡◌, refl, List, ◌++◌, ℕ, ◌+◌, ◌*◌, length}
+use Rattle.std.specs.Prelude.{Option, Some, None, ◌≡◌, refl, List, ◌++◌, ℕ, ◌+◌, ◌*◌, length}
 use Rattle.std.proofs.Common.{ap, sym, ◌∙◌, subst, length-append}
 use Rattle.geometry.specs.declared.Geometry.{Geometry}
-use Rattle.geometry.specs.declared.Shape.{Shape}
-use Rattle.geometry.specs.declared.Shape.TheVariants.{Fits, Invalid}
 use Rattle.geometry.specs.Geometry.{width_for, geometry_of}
 use Rattle.geometry.specs.ShapeLaws.{geometry_is, least_table}
 use Rattle.geometry.specs.Number.{Bytes}
@@ -85,19 +83,19 @@ delete_done g path image now p = record {
 -- ---- a call that is done fits its sizes
 module _ (P N : ℕ) (image table : List ℕ) where
   -- sizes that are not right are refused with 1
-  invalid : (e : FileEdit) → shape P N image table ≡ Invalid → (edit_call P N image table e).0 ≡ err 1 0
+  invalid : (e : FileEdit) → shape P N image table ≡ None → (edit_call P N image table e).0 ≡ err 1 0
   invalid (a_put path bytes) f = ap (λ (x : Res (Unit {0}) × List ℕ × List ℕ). x.0) (put_invalid P N image table f path bytes)
   invalid (a_delete path) f = ap (λ (x : Res (Unit {0}) × List ℕ × List ℕ). x.0) (delete_invalid P N image table f path)
 
-  edit_fits : (e : FileEdit) → (edit_call P N image table e).0 ≡ ok tt → shape P N image table ≡ Fits (sizes P N)
+  edit_fits : (e : FileEdit) → (edit_call P N image table e).0 ≡ ok tt → shape P N image table ≡ Some (sizes P N)
   edit_fits e h = go (shape P N image table) refl
     where
-      go : (s : Shape) → shape P N image table ≡ s → shape P N image table ≡ Fits (sizes P N)
-      go Invalid f = clash (sym (invalid e f) ∙ h)
-      go (Fits g) f = f ∙ ap Fits (geometry_is P N (length image) (length table) g f)
+      go : (s : Option Geometry) → shape P N image table ≡ s → shape P N image table ≡ Some (sizes P N)
+      go None f = clash (sym (invalid e f) ∙ h)
+      go (Some g) f = f ∙ ap Some (geometry_is P N (length image) (length table) g f)
 
   -- any owner table that is long enough
-  pub edit_right : (e : FileEdit) → (edit_call P N image table e).0 ≡ ok tt → geometry_of P N (length image) (4 * N) ≡ Fits (sizes P N)
+  pub edit_right : (e : FileEdit) → (edit_call P N image table e).0 ≡ ok tt → geometry_of P N (length image) (4 * N) ≡ Some (sizes P N)
   edit_right e h = least_table P N (length image) (length table) (sizes P N) (edit_fits e h)
 
   pub edit_done : Bytes image → (e : FileEdit) → EditBytes e → (edit_call P N image table e).0 ≡ ok tt → Done (sizes P N) e image (edit_call P N image table e).1

@@ -1,10 +1,8 @@
 -- Two edits of different file paths, done in either order, agree: from what each call states.
-use Rattle.std.specs.Prelude.{◌≡◌, refl, List, ℕ, ◌*◌, leb, length}
+use Rattle.std.specs.Prelude.{Option, Some, None, ◌≡◌, refl, List, ℕ, ◌*◌, leb, length}
 use Rattle.std.proofs.Math.Path.{ap}
 use Rattle.std.proofs.Common.{sym, ◌∙◌, subst, arith}
 use Rattle.geometry.specs.declared.Geometry.{Geometry}
-use Rattle.geometry.specs.declared.Shape.{Shape}
-use Rattle.geometry.specs.declared.Shape.TheVariants.{Fits, Invalid}
 use Rattle.geometry.specs.Geometry.{geometry_of}
 use Rattle.geometry.specs.ShapeLaws.{geometry_is}
 use Rattle.geometry.specs.Number.{Bytes}
@@ -44,10 +42,10 @@ module _ (P N : ℕ) (one other : List ℕ) (sized : length one ≡ length other
       answer : Res (List ℕ) × List ℕ → Res (List ℕ)
       answer x = x.0
 
-      go : (s : Shape) → shape P N one table ≡ s → shape P N other table ≡ shape P N one table
+      go : (s : Option Geometry) → shape P N one table ≡ s → shape P N other table ≡ shape P N one table
           → (asked P N one table (read_bytes path out)).0 ≡ (asked P N other table (read_bytes path out)).0
-      go Invalid e f = ap answer (asked_invalid P N one table e (read_bytes path out)) ∙ sym (ap answer (asked_invalid P N other table (f ∙ e) (read_bytes path out)))
-      go (Fits g) e f =
+      go None e f = ap answer (asked_invalid P N one table e (read_bytes path out)) ∙ sym (ap answer (asked_invalid P N other table (f ∙ e) (read_bytes path out)))
+      go (Some g) e f =
           let k : g ≡ sizes P N = geometry_is P N (length one) (length table) g e in
           let a : told (sizes P N) one ≡ read_bytes path out i = ap (λ (r : Res Image). and_then r (read_bytes path out)) p ∙ then_ok i (read_bytes path out) in
           let b : told (sizes P N) other ≡ read_bytes path out j = ap (λ (r : Res Image). and_then r (read_bytes path out)) q ∙ then_ok j (read_bytes path out) in

@@ -1,7 +1,6 @@
 -- Document 02, A13: two edits of different file paths, each a put or a delete, done in either order.
-use Rattle.std.specs.Prelude.{◌≡◌, List, ℕ, ◌*◌, length}
+use Rattle.std.specs.Prelude.{Some, ◌≡◌, List, ℕ, ◌*◌, length}
 use Rattle.geometry.specs.declared.Geometry.{Geometry}
-use Rattle.geometry.specs.declared.Shape.TheVariants.{Fits}
 use Rattle.geometry.specs.Geometry.{geometry_of}
 use Rattle.geometry.specs.Number.{Bytes}
 use Rattle.rules.specs.Result.{Res, ok}
@@ -63,7 +62,7 @@ pub record BothDone (P N : ℕ) (image : List ℕ) (first second : FileEdit) (af
 pub record Agree (P N : ℕ) (a b : FileEdit) (one other : List ℕ) : Type 0 where
   -- both accepted, in the geometry of these sizes; an owner table of four bytes a page is enough
   pub geometry : Geometry
-  pub right : geometry_of P N (length one) (4 * N) ≡ Fits geometry
+  pub right : geometry_of P N (length one) (4 * N) ≡ Some geometry
   pub sized : length one ≡ length other
   pub tree : Image
   pub accepted : Accepted geometry one tree

@@ -17,6 +17,7 @@ ghost use Rattle.answers.specs.ExportedAnswers.{make_answer, remove_answer, care
 use answers::{
     OwfsAdded, OwfsAnswer, OwfsEntry, OwfsLength, OwfsMended, OwfsReport, OwfsTotals, OwfsWrites,
 };
+use reports::Report;
 
 // The CRC-16 register after the bytes of a slice, not inverted.
 #[unsafe(no_mangle)]
@@ -211,7 +212,7 @@ pub extern "C" fn owfs_report_start(limit: i32, margin: u16) -> OwfsReport
     ensures value { result ≡ start_answer limit margin }
     ensures tells { Tells limit margin [] (report_of result) }
 {
-    answers::tell_report(reports::start(limit, margin))
+    OwfsReport::from(reports::start(limit, margin))
 }
 
 // Starts a report with a weight: version 1 or 2 with its K. Any other version is one that there is not, and every well-formed file then gets 25.
@@ -226,7 +227,7 @@ pub extern "C" fn owfs_report_start_weighted(
     ensures tells_with { TellsWith limit margin (asked_version version knee) [] (report_of result) }
 {
     let asked = answers::asked_version(version, knee);
-    answers::tell_report(reports::start_weighted(limit, margin, asked))
+    OwfsReport::from(reports::start_weighted(limit, margin, asked))
 }
 
 // Adds a count file to a report, or refuses it and answers the report that was given.
@@ -237,5 +238,5 @@ pub extern "C" fn owfs_report_add(report: OwfsReport, file: &[u8]) -> OwfsAdded
     ensures adds_weighted { AddsWeighted (report_of report) file.now (added_of result) }
     ensures report_value { report_of result.report ≡ report_after (report_of report) (added_of result) }
 {
-    answers::tell_added(reports::add(answers::report_of(report), file), report)
+    answers::tell_added(reports::add(Report::from(report), file), report)
 }

@@ -1,11 +1,9 @@
 -- For contracts: the free pages from a page on, and the bound below which the lowest of them lie.
-use Rattle.std.specs.Prelude.{◌≡◌, List, [], ◌∷◌, ◌++◌, ℕ, zero, suc, ◌+◌, ◌-◌, ◌≤◌, ◌<◌, length, take}
+use Rattle.std.specs.Prelude.{◌≡◌, List, [], ◌∷◌, ◌++◌, ℕ, zero, suc, ◌+◌, ◌-◌, ◌≤◌, ◌<◌, length, take, Option, Some, None}
 use Rattle.geometry.specs.Choose.{choose}
 use Rattle.rules.specs.PageSets.{mem, free_pages}
 use Rattle.rules.specs.Owners.{OwnerRecord}
 use Rattle.owners.specs.Owned.{Represents}
-use Rattle.owners.specs.declared.Room.{Room}
-use Rattle.owners.specs.declared.Room.TheVariants as room
 
 -- the pages that are not in use among the n from page k on, rising
 unfoldable pub free_among : List ℕ → ℕ → ℕ → List ℕ
@@ -31,9 +29,9 @@ pub record RoomBelow (used : List ℕ) (N need below : ℕ) : Type 0 where
   pub lowest : free_pages used below ≡ take need (free_pages used N)
 
 -- there are so many free pages, or not
-abbrev pub RoomIs : List ℕ → ℕ → ℕ → Room → Type 0
-RoomIs used N need (room.Below b) = RoomBelow used N need b
-RoomIs used N need room.Full = length (free_pages used N) < need
+abbrev pub RoomIs : List ℕ → ℕ → ℕ → Option ℕ → Type 0
+RoomIs used N need (Some b) = RoomBelow used N need b
+RoomIs used N need None = length (free_pages used N) < need
 
-unfoldable pub Rooms : List OwnerRecord → ℕ → Room → Type 0
+unfoldable pub Rooms : List OwnerRecord → ℕ → Option ℕ → Type 0
 Rooms table need r = (used : List ℕ) → Represents table used → RoomIs used (length table) need r

@@ -9,22 +9,11 @@ ghost use Rattle.owners.specs.Free.{NextFree, Rooms};
 
 use geometry::{RECORD_BYTES, ROOT_OWNER};
 
-// Room for new pages: the free pages below this page are enough, and the last of them is the page before it; or there is none.
-#[derive(Clone, Copy)]
-pub enum Room {
-    Below(usize),
-    Full,
-}
-
 // Makes every page free.
 pub fn clear(table: &mut [u8])
     ensures { table.new ≡ replicate (length table.old) 0 }
 {
-    let mut i = 0;
-    while i < table.len() {
-        table[i] = 0;
-        i += 1;
-    }
+    table.fill(0);
 }
 
 // The pages that a table has records of.
@@ -40,7 +29,7 @@ fn owner_of(table: &[u8], page: usize) -> usize
     ensures { result ≡ owner_at (records_of table.now) page }
 {
     let at = RECORD_BYTES * page;
-    geometry::wide(table[at]) + 256 * geometry::wide(table[at + 1])
+    usize::from(u16::from_le_bytes([table[at], table[at + 1]]))
 }
 
 // Whether a page has an owner; a page past the table has none.
@@ -57,13 +46,7 @@ pub fn is_owned(table: &[u8], page: usize) -> bool
 pub fn bit(table: &[u8], page: usize, below: usize) -> usize
     ensures { (result ≡ page_bit (records_of table.now) below page) × (result ≤ 1) }
 {
-    if page < below {
-        return 1;
-    }
-    if is_owned(table, page) {
-        return 1;
-    }
-    0
+    usize::from(page < below || is_owned(table, page))
 }
 
 // Gives a page an owner and its place in the owner's chain.
@@ -72,10 +55,8 @@ pub fn claim(table: &mut [u8], page: usize, owner: usize, place: usize)
     ensures { records_of table.new ≡ set (records_of table.old) page (held owner place) }
 {
     let at = RECORD_BYTES * page;
-    table[at] = (owner % 256) as u8;
-    table[at + 1] = (owner / 256) as u8;
-    table[at + 2] = (place % 256) as u8;
-    table[at + 3] = (place / 256) as u8;
+    table[at..at + 2].copy_from_slice(&(owner as u16).to_le_bytes());
+    table[at + 2..at + 4].copy_from_slice(&(place as u16).to_le_bytes());
 }
 
 // Gives every page below a bound an owner.
@@ -83,10 +64,8 @@ pub fn claim_below(table: &mut [u8], below: usize)
     requires { 4 * below ≤ length table.old }
     ensures { ClaimsBelow (records_of table.old) below (records_of table.new) }
 {
-    let mut page = 0;
-    while page < below {
+    for page in 0..below {
         claim(table, page, ROOT_OWNER, 0);
-        page += 1;
     }
 }
 
@@ -103,29 +82,26 @@ pub fn next_free(table: &[u8], from: usize) -> usize
     ensures { NextFree (records_of table.now) from result }
 {
     let pages = pages_of(table);
-    let mut page = from;
-    while page < pages {
-        if bit(table, page, 0) == 0 {
-            return page;
-        }
-        page += 1;
-    }
-    pages
+    (from..pages)
+        .find(|page| !is_owned(table, *page))
+        .unwrap_or(pages)
 }
 
-// Room for so many new pages among the lowest free ones.
-pub fn find_room(table: &[u8], need: usize) -> Room
+// Room for so many new pages: a bound below which just so many pages are free, as low as it can be; none where too few are free.
+pub fn find_room(table: &[u8], need: usize) -> Option<usize>
     ensures { Rooms (records_of table.now) need result }
 {
-    let pages = pages_of(table);
-    let mut left = need;
-    let mut page = 0;
-    while 0 < left {
-        if pages <= page {
-            return Room::Full;
-        }
-        left -= 1 - bit(table, page, 0);
-        page += 1;
+    if need == 0 {
+        return Some(0);
     }
-    Room::Below(page)
+    let mut left = need;
+    for page in 0..pages_of(table) {
+        if !is_owned(table, page) {
+            left -= 1;
+            if left == 0 {
+                return Some(page + 1);
+            }
+        }
+    }
+    None
 }

@@ -12,37 +12,37 @@ use borrow.Author.Tests.{le-leb, lt-leb, leb-true, eq-eqb, ne_eqb}
 use Rattle.crc16.specs.Crc16.{crc16}
 use Rattle.geometry.specs.ChooseLaws.{choose_true, choose_false}
 use Rattle.geometry.specs.Number.{number}
-use Rattle.packet.specs.declared.Judged.{Judged}
-use Rattle.packet.specs.declared.Judged.TheVariants.{Whole, Bad}
+use Rattle.std.specs.Prelude.{Option, Some, None}
+use Rattle.packet.specs.declared.Whole.{Whole}
 use Rattle.packet.specs.Packet.{Packet, bad, good, check_of, pointer_of, is_packet, packet_of}
-use Rattle.packet.specs.Judged.{frame_of, judged}
+use Rattle.packet.specs.Judged.{frame_of, whole, judged}
 
 -- a packet by its length alone
 module _ (n len : ℕ) (b : List ℕ) (e : len ≡ get_or b 0 0) where
-  pub too_small : len < n → Bad ≡ judged (frame_of n b)
+  pub too_small : len < n → None ≡ judged (frame_of n b)
   unfolding frame_of
   too_small h = simp (frame_of, ← e, lt-leb n len h, choose_false)
 
-  pub too_long : n ≤ len → length b < len + 3 → Bad ≡ judged (frame_of n b)
+  pub too_long : n ≤ len → length b < len + 3 → None ≡ judged (frame_of n b)
   unfolding frame_of
   too_long h k = simp (frame_of, ← e, le-leb n len h, lt-leb (len + 3) (length b) k, choose_false)
 
-  pub framed : n ≤ len → len + 3 ≤ length b → (next : ℕ) → next ≡ number (take n (drop (len + 1 - n) b)) → Whole (len - n) next ≡ judged (frame_of n b)
+  pub framed : n ≤ len → len + 3 ≤ length b → (next : ℕ) → next ≡ number (take n (drop (len + 1 - n) b)) → whole (len - n) next ≡ judged (frame_of n b)
   unfolding frame_of pointer_of
   framed h k next q =
       let l : length (take (len - n) (drop 1 b)) ≡ len - n = length-take-le (len - n) (drop 1 b) (simp length-drop (omega arith)) in
-      simp (frame_of, ← e, le-leb n len h, le-leb (len + 3) (length b) k, choose_true, pointer_of, ← q) (ap (λ (y : ℕ). Whole y next) (sym l))
+      simp (frame_of, ← e, le-leb n len h, le-leb (len + 3) (length b) k, choose_true, pointer_of, ← q) (ap (λ (y : ℕ). whole y next) (sym l))
 
 -- what a frame says of its page
-judged_bad : (k : Packet) → judged k ≡ Bad → k ≡ bad
+judged_bad : (k : Packet) → judged k ≡ None → k ≡ bad
 judged_bad bad e = refl
 judged_bad (good c m) e = absurd (let z : ◌≡◌ {A = ℕ} 0 1 = cc in omega arith)
 
-judged_whole : (k : Packet) (size next : ℕ) → judged k ≡ Whole size next → (c : List ℕ) × (k ≡ good c next) × (length c ≡ size)
-judged_whole bad size next e = absurd (let z : ◌≡◌ {A = ℕ} 0 1 = cc in omega arith)
-judged_whole (good c m) size next e = let q : m ≡ next = cc in (c, ap (good c) q, cc)
+judged_whole : (k : Packet) (x : Whole) → judged k ≡ Some x → (c : List ℕ) × (k ≡ good c x.next) × (length c ≡ x.length)
+judged_whole bad x e = absurd (let z : ◌≡◌ {A = ℕ} 0 1 = cc in omega arith)
+judged_whole (good c m) x e = let i : record { length = length c; next = m } ≡ x = cc in (c, ap (λ (y : Whole). good c y.next) i, ap (λ (y : Whole). y.length) i)
 
-module _ (n p : ℕ) (b : List ℕ) (r : Judged) (f : r ≡ judged (frame_of n b)) where
+module _ (n p : ℕ) (b : List ℕ) (r : Option Whole) (f : r ≡ judged (frame_of n b)) where
   frame_tests : (s t : Bool) → leb n (get_or b 0 0) ≡ s → leb (get_or b 0 0 + 3) (length b) ≡ t → (k : Packet) → frame_of n b ≡ k
       → ((k ≡ bad) × (is_packet n p b ≡ false)) ⊎ ((s ≡ true) × (t ≡ true) × (k ≡ good (take (get_or b 0 0 - n) (drop 1 b)) (pointer_of n (get_or b 0 0) b)))
   unfolding frame_of is_packet
@@ -54,7 +54,7 @@ module _ (n p : ℕ) (b : List ℕ) (r : Judged) (f : r ≡ judged (frame_of n b
       ⊎ ((leb n (get_or b 0 0) ≡ true) × (leb (get_or b 0 0 + 3) (length b) ≡ true) × (frame_of n b ≡ good (take (get_or b 0 0 - n) (drop 1 b)) (pointer_of n (get_or b 0 0) b)))
   cases = frame_tests (leb n (get_or b 0 0)) (leb (get_or b 0 0 + 3) (length b)) refl refl (frame_of n b) refl
 
-  pub no_frame : r ≡ Bad → Bad ≡ judged (packet_of n p b)
+  pub no_frame : r ≡ None → None ≡ judged (packet_of n p b)
   unfolding packet_of
   no_frame z = elim cases [
     | inl q ↦ simp (packet_of, q.1, choose_false)
@@ -62,45 +62,45 @@ module _ (n p : ℕ) (b : List ℕ) (r : Judged) (f : r ≡ judged (frame_of n b
   ]
 
   -- a frame fits its page
-  pub record Framed (size next : ℕ) : Type 0 where
+  pub record Framed (x : Whole) : Type 0 where
     pub least : n ≤ get_or b 0 0
     pub most : get_or b 0 0 + 3 ≤ length b
-    pub whole : get_or b 0 0 ≡ size + n
-    pub bytes : size ≡ length (take (get_or b 0 0 - n) (drop 1 b))
-    pub points : next ≡ pointer_of n (get_or b 0 0) b
+    pub whole : get_or b 0 0 ≡ x.length + n
+    pub bytes : x.length ≡ length (take (get_or b 0 0 - n) (drop 1 b))
+    pub points : x.next ≡ pointer_of n (get_or b 0 0) b
 
-  pub frame_fits : (size next : ℕ) → r ≡ Whole size next → Framed size next
-  frame_fits size next z = elim cases [
-    | inl q ↦ absurd (let e = judged_whole (frame_of n b) size next (sym f ∙ z) in let g = q.0 in let h = e.1 in let y : ◌≡◌ {A = ℕ} 0 1 = cc in omega arith)
-    | inr q ↦ let e = judged_whole (frame_of n b) size next (sym f ∙ z) in
+  pub frame_fits : (x : Whole) → r ≡ Some x → Framed x
+  frame_fits x z = elim cases [
+    | inl q ↦ absurd (let e = judged_whole (frame_of n b) x (sym f ∙ z) in let g = q.0 in let h = e.1 in let y : ◌≡◌ {A = ℕ} 0 1 = cc in omega arith)
+    | inr q ↦ let e = judged_whole (frame_of n b) x (sym f ∙ z) in
         let i = leb-true n (get_or b 0 0) q.0 in
         let j = leb-true (get_or b 0 0 + 3) (length b) q.1 in
         let l : length (take (get_or b 0 0 - n) (drop 1 b)) ≡ get_or b 0 0 - n = length-take-le (get_or b 0 0 - n) (drop 1 b) (simp length-drop (omega arith)) in
         let g = q.2 in
         let h = e.1 in
         let c : e.0 ≡ take (get_or b 0 0 - n) (drop 1 b) = cc in
-        let m : size ≡ length (take (get_or b 0 0 - n) (drop 1 b)) = sym e.2 ∙ ap length c in
+        let m : x.length ≡ length (take (get_or b 0 0 - n) (drop 1 b)) = sym e.2 ∙ ap length c in
         record { least = i; most = j; whole = omega arith; bytes = m; points = cc }
   ]
 
   -- then the check decides
-  module _ (size next : ℕ) (z : r ≡ Whole size next) (x w : ℕ) (s : x ≡ number (take 2 (drop (size + n + 1) b))) (d : w ≡ crc16 p (take (size + n + 1) b)) where
-    k : Framed size next
-    k = frame_fits size next z
+  module _ (x : Whole) (z : r ≡ Some x) (u w : ℕ) (s : u ≡ number (take 2 (drop (x.length + n + 1) b))) (d : w ≡ crc16 p (take (x.length + n + 1) b)) where
+    k : Framed x
+    k = frame_fits x z
 
-    x_is : x ≡ number (take 2 (drop (get_or b 0 0 + 1) b))
-    x_is = s ∙ ap (λ (i : ℕ). number (take 2 (drop (i + 1) b))) (sym k.whole)
+    u_is : u ≡ number (take 2 (drop (get_or b 0 0 + 1) b))
+    u_is = s ∙ ap (λ (i : ℕ). number (take 2 (drop (i + 1) b))) (sym k.whole)
 
     w_is : 65535 - w ≡ check_of p (take (get_or b 0 0 + 1) b)
     unfolding check_of
     w_is = ap (λ (i : ℕ). 65535 - i) (d ∙ ap (λ (i : ℕ). crc16 p (take (i + 1) b)) (sym k.whole))
 
-    pub wrong_check : (x ≡ 65535 - w → ⊥) → Bad ≡ judged (packet_of n p b)
+    pub wrong_check : (u ≡ 65535 - w → ⊥) → None ≡ judged (packet_of n p b)
     unfolding packet_of is_packet
-    wrong_check t = simp (packet_of, is_packet, le-leb n (get_or b 0 0) k.least, le-leb (get_or b 0 0 + 3) (length b) k.most, ← x_is, ← w_is, ne_eqb x (65535 - w) t, choose_false)
+    wrong_check t = simp (packet_of, is_packet, le-leb n (get_or b 0 0) k.least, le-leb (get_or b 0 0 + 3) (length b) k.most, ← u_is, ← w_is, ne_eqb u (65535 - w) t, choose_false)
 
-    pub right_check : x ≡ 65535 - w → Whole size next ≡ judged (packet_of n p b)
+    pub right_check : u ≡ 65535 - w → Some x ≡ judged (packet_of n p b)
     unfolding packet_of is_packet
     right_check t =
-        simp (packet_of, is_packet, le-leb n (get_or b 0 0) k.least, le-leb (get_or b 0 0 + 3) (length b) k.most, ← x_is, ← w_is, eq-eqb x (65535 - w) t, choose_true)
-        (ap₂ Whole k.bytes k.points)
+        simp (packet_of, is_packet, le-leb n (get_or b 0 0) k.least, le-leb (get_or b 0 0 + 3) (length b) k.most, ← u_is, ← w_is, eq-eqb u (65535 - w) t, choose_true)
+        (ap₂ whole k.bytes k.points)

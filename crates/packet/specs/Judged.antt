@@ -1,13 +1,15 @@
 -- For contracts: what the code answers of a packet, and a packet whose check is not computed.
-use Rattle.std.specs.Prelude.{◌&&◌, List, ℕ, ◌+◌, ◌-◌, leb, length, get_or, take, drop}
+use Rattle.std.specs.Prelude.{Option, Some, None, ◌&&◌, List, ℕ, ◌+◌, ◌-◌, leb, length, get_or, take, drop}
 use Rattle.geometry.specs.Choose.{choose}
-use Rattle.packet.specs.declared.Judged.{Judged}
-use Rattle.packet.specs.declared.Judged.TheVariants.{Whole, Bad}
+use Rattle.packet.specs.declared.Whole.{Whole}
 use Rattle.packet.specs.Packet.{Packet, bad, good, pointer_of}
 
-abbrev pub judged : Packet → Judged
-judged bad = Bad
-judged (good bytes next) = Whole (length bytes) next
+abbrev pub whole : ℕ → ℕ → Option Whole
+whole size next = Some (record { length = size; next = next })
+
+abbrev pub judged : Packet → Option Whole
+judged bad = None
+judged (good bytes next) = whole (length bytes) next
 
 -- the packet in a page by its length alone
 unfoldable pub frame_of : ℕ → List ℕ → Packet

@@ -3,7 +3,7 @@
 
 ghost use Rattle.std.specs.Prelude.{◌≡◌, ◌+◌, ◌*◌, ◌≤◌, ◌<◌, length, take, drop};
 ghost use Rattle.geometry.specs.Geometry.{Fit};
-ghost use Rattle.packet.specs.Packet.{packet_of, written, write_page, write, same_list, is_packet_of};
+ghost use Rattle.packet.specs.Packet.{packet_of, written, write_page, write, is_packet_of};
 ghost use Rattle.packet.specs.Judged.{frame_of, judged};
 ghost use Rattle.packet.specs.Budgets.{Progress, unlimited, with_limit, write_one};
 
@@ -12,49 +12,43 @@ use geometry::{CHECK_BYTES, FRAME_BYTES, Geometry, LENGTH_BYTES};
 // A register inverted is what is left of this number without it.
 const INVERTED: usize = 0xFFFF;
 
-// What a page holds.
+// What a packet says of itself: so many data bytes, and its continuation pointer.
 #[derive(Clone, Copy)]
-pub enum Judged {
-    // a right packet, with so many data bytes and that continuation pointer
-    Whole { length: usize, next: usize },
-    // length or check wrong
-    Bad,
+pub struct Whole {
+    pub length: usize,
+    pub next: usize,
 }
 
-// Length and pointer of the packet in a page; its check is not computed.
-pub fn frame(page: &[u8], n: usize) -> Judged
+// Length and pointer of the packet in a page, if its length is right; its check is not computed.
+pub fn frame(page: &[u8], n: usize) -> Option<Whole>
     requires { (1 ≤ n) × (n ≤ 2) × (0 < length page.now) }
     ensures { result ≡ judged (frame_of n page.now) }
 {
-    let size = geometry::wide(page[0]);
+    let size = usize::from(page[0]);
     if size < n {
-        return Judged::Bad;
+        return None;
     }
     if page.len() < size + FRAME_BYTES {
-        return Judged::Bad;
+        return None;
     }
-    Judged::Whole {
+    Some(Whole {
         length: size - n,
         next: geometry::number_at(page, size + LENGTH_BYTES - n, n),
-    }
+    })
 }
 
-// Judges the packet in the page with number p: its length, then its check.
-pub fn judge(page: &[u8], p: usize, n: usize) -> Judged
+// Length and pointer of the packet in the page with number p, if its length and then its check are right.
+pub fn judge(page: &[u8], p: usize, n: usize) -> Option<Whole>
     requires { (1 ≤ n) × (n ≤ 2) × (p < 65536) × (0 < length page.now) }
     ensures { result ≡ judged (packet_of n p page.now) }
 {
-    match frame(page, n) {
-        Judged::Bad => Judged::Bad,
-        Judged::Whole { length, next } => {
-            let end = length + n + LENGTH_BYTES;
-            let register = crc16::crc_of(p as u16, &page[..end]);
-            if geometry::number_at(page, end, CHECK_BYTES) != INVERTED - (register as usize) {
-                return Judged::Bad;
-            }
-            Judged::Whole { length, next }
-        }
+    let packet = frame(page, n)?;
+    let end = packet.length + n + LENGTH_BYTES;
+    let register = crc16::crc_of(p as u16, &page[..end]);
+    if geometry::number_at(page, end, CHECK_BYTES) != INVERTED - usize::from(register) {
+        return None;
     }
+    Some(packet)
 }
 
 // The data bytes of a packet.
@@ -78,7 +72,7 @@ pub fn write_packet(page: &mut [u8], p: usize, n: usize, bytes: &[u8], next: usi
     geometry::put_bytes(page, LENGTH_BYTES, bytes);
     geometry::put_number(page, start, n, next);
     let sum = crc16::crc_of(p as u16, &page[..end]);
-    geometry::put_number(page, end, CHECK_BYTES, INVERTED - (sum as usize));
+    geometry::put_number(page, end, CHECK_BYTES, INVERTED - usize::from(sum));
 }
 
 // The same in a page of an image.
@@ -92,40 +86,18 @@ pub fn write_page(image: &mut [u8], g: Geometry, p: usize, bytes: &[u8], next: u
     write_packet(&mut image[at..end], p, g.width, bytes, next);
 }
 
-// Whether two slices have the same bytes.
-fn same_bytes(a: &[u8], b: &[u8]) -> bool
-    ensures { result ≡ same_list a.now b.now }
-{
-    if a.len() != b.len() {
-        return false;
-    }
-    let mut i = 0;
-    while i < a.len() {
-        if a[i] != b[i] {
-            return false;
-        }
-        i += 1;
-    }
-    true
-}
-
 // Whether the page with number p holds a right packet with these bytes and this pointer.
 fn holds(page: &[u8], p: usize, n: usize, bytes: &[u8], next: usize) -> bool
     requires { (1 ≤ n) × (n ≤ 2) × (p < 65536) × (0 < length page.now) }
     ensures { result ≡ is_packet_of (packet_of n p page.now) bytes.now next }
 {
-    match judge(page, p, n) {
-        Judged::Bad => false,
-        Judged::Whole {
-            length,
-            next: pointer,
-        } => {
-            if pointer != next {
-                return false;
-            }
-            same_bytes(data_of(page, length), bytes)
-        }
+    let Some(packet) = judge(page, p, n) else {
+        return false;
+    };
+    if packet.next != next {
+        return false;
     }
+    data_of(page, packet.length) == bytes
 }
 
 // How many page writes are allowed yet.

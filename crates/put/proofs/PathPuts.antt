@@ -1,4 +1,6 @@
 -- A put by path: where the file goes, and that what is put there is the rule's.
+use Rattle.std.specs.Prelude.{Err, Result, Ok}
+use Rattle.refusals.specs.declared.Refusal.{Refusal}
 use mathlib.Core.Path.{◌≡◌, subst}
 use mathlib.Core.List.{List}
 use Prim.Native.Nat.{ℕ, ◌<◌}
@@ -15,19 +17,14 @@ use Rattle.rules.specs.Owners.{OwnerRecord}
 use Rattle.rules.specs.Paths.{path_of, a_file, Target}
 use Rattle.rules.specs.Put.{put_target, put}
 use Rattle.owners.specs.Owned.{Represents}
-use Rattle.rules.specs.declared.Edited.TheVariants as edited
 use Rattle.rules.specs.Candidate.{NotReadOnly, PutFile}
 use Rattle.editing_theorems.specs.PutLaws.{Asked}
 use Rattle.editing_theorems.proofs.PutDone.{PutCall}
 use Rattle.editing_theorems.proofs.PutCalls.{a_put_lem}
 use Rattle.edit.specs.declared.NewFile.{NewFile}
-use Rattle.edit.specs.declared.Outcome.{Outcome}
-use Rattle.edit.specs.declared.Outcome.TheVariants as outcome
 use Rattle.edit.specs.OldChains.{HasOld, FreesOld}
 use Rattle.edit.specs.Plans.{PlainPutting, PutsFile}
 use Rattle.volume.specs.Edits.{Answered, TableOf}
-use Rattle.put.specs.declared.Placed.{Placed}
-use Rattle.put.specs.declared.Placed.TheVariants as placed
 use Rattle.put.specs.Places.{ItemPlace, IsPlaced, Places, PathPut}
 use Rattle.put.proofs.RequestPuts as request
 
@@ -46,12 +43,12 @@ module _ (g : Geometry) (image : List ℕ) (table : List OwnerRecord) (path byte
   pub table_used : (x : Target) (t : put_target path T.tree.tree ≡ ok x) → Represents table (used T.tree)
   table_used x t = request.table_used C g image table fit T x t
 
-  module _ (r : Placed) (h : Places g image path r) (budget : Budget) where
-    pub refused : (n p : ℕ) → r ≡ placed.Refused n p → PathPut g image path bytes budget image (outcome.Refused n p)
-    refused n p e = request.refused C g image table fit T budget n p (λ i c. subst (λ (x : Placed). IsPlaced g image (put_target path) i x) e (h i c))
+  module _ (r : Result NewFile Refusal) (h : Places g image path r) (budget : Budget) where
+    pub refuses : (z : Refusal) → r ≡ Err z → PathPut g image path bytes budget image (Err z)
+    refuses z e = request.refuses C g image table fit T budget z (λ i c. subst (λ (x : Result NewFile Refusal). IsPlaced g image (put_target path) i x) e (h i c))
 
     -- ---- the file at its place, the chain that it replaces free
-    module _ (f : NewFile) (e : r ≡ placed.At f) where
+    module _ (f : NewFile) (e : r ≡ Ok f) where
       abbrev place : ItemPlace g image (put_target path) T.tree f
       place = subst (IsPlaced g image (put_target path) T.tree) e (h T.tree T.accepted)
 
@@ -62,12 +59,12 @@ module _ (g : Geometry) (image : List ℕ) (table : List OwnerRecord) (path byte
         pub to_put : PlainPutting g image u bytes f
         to_put = request.to_put C g image table fit T budget f place u freed_old
 
-        pub put_at_lem : (after : List ℕ) (o : Outcome) → PutsFile g image u bytes f budget after o → PathPut g image path bytes budget after o
+        pub put_at_lem : (after : List ℕ) (o : Result Budget Refusal) → PutsFile g image u bytes f budget after o → PathPut g image path bytes budget after o
         put_at_lem after o k = request.put_at_lem C g image table fit T budget f place u freed_old after o k
 
-  module _ (budget : Budget) (b : budget ≡ unlimited) (after : List ℕ) (o : Outcome) (h : PathPut g image path bytes budget after o) where
-    pub answer_done : (left : Budget) → o ≡ outcome.Done left → Answered image (put g path bytes image) edited.Done after
+  module _ (budget : Budget) (b : budget ≡ unlimited) (after : List ℕ) (o : Result Budget Refusal) (h : PathPut g image path bytes budget after o) where
+    pub answer_done : (left : Budget) → o ≡ Ok left → Answered image (put g path bytes image) (Ok tt) after
     answer_done left e = request.answer_done C g image table fit T budget b after o h left e
 
-    pub answer_refused : (n p : ℕ) → o ≡ outcome.Refused n p → Answered image (put g path bytes image) (edited.Refused n p) after
-    answer_refused n p e = request.answer_refused C g image table fit T budget b after o h n p e
+    pub answer_refused : (z : Refusal) → o ≡ Err z → Answered image (put g path bytes image) (Err z) after
+    answer_refused z e = request.answer_refused C g image table fit T budget b after o h z e

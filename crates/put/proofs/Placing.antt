@@ -1,4 +1,7 @@
 -- Where a file's entry goes: to the first page with space or a page that joins, or to the place of the file it replaces.
+use Rattle.refusals.specs.declared.Refusal.{Refusal}
+use Rattle.std.specs.Prelude.{Result, Ok, Err}
+use Rattle.refusals.specs.declared.Fault.TheVariants as fault
 use mathlib.Core.Path.{◌≡◌, refl, ap, ap₂, sym, ◌∙◌, subst}
 use mathlib.Core.Bool.{Bool, true, false}
 use mathlib.Core.List.{List, [], ◌∷◌, ◌++◌}
@@ -10,15 +13,14 @@ use Rattle.geometry.specs.Choose.{choose}
 use Rattle.geometry.specs.ChooseLaws.{choose_false}
 use Rattle.packet.specs.Packet.{View, view_of}
 use Rattle.rules.specs.declared.Entry.{Entry}
-use Rattle.rules.specs.Result.{ok, err}
+use Rattle.rules.specs.Result.{ok}
 use Rattle.rules.specs.PageSets.{bit, count}
 use Rattle.rules.proofs.PageSetLaws.{hit_same}
 use Rattle.rules.specs.Chain.{Views, views_of, Link, link, first}
-use Rattle.rules.specs.Tree.{Label, key_of, Items, file, new_page, entry, entry_tokens, tokens, file_entry, keys, Image}
+use Rattle.rules.specs.Tree.{Label, key_of, Items, new_page, entry, entry_tokens, tokens, file_entry, keys, Image}
 use Rattle.rules.specs.Check.{check}
-use Rattle.rules.specs.Paths.{Path, path_of, file_key, file_label, Found, nothing, find, target_of}
+use Rattle.rules.specs.Paths.{path_of, file_key, file_label, nothing}
 use Rattle.rules.specs.Put.{new_item, writable, put_target}
-use Rattle.rules.specs.Candidate.{chain_pages}
 use Rattle.rules.proofs.EditLaws.{none_found, found_file, new_tokens}
 use Rattle.rules.specs.EditLaws.{new_entry}
 use Rattle.rules.proofs.TargetLaws.{reached, put_target_none, put_target_hidden, put_target_is, put_target_kept}
@@ -28,9 +30,10 @@ use Rattle.editing_theorems.specs.PutDirectory.{file_number_lem, extra_old, extr
 use Rattle.chain.specs.KnownChain.{ChainAt}
 use Rattle.entries.specs.declared.Slot.{Slot}
 use Rattle.lookup.specs.declared.Reached.{Reached}
+use Rattle.lookup.specs.declared.Spot.{Spot}
 use Rattle.lookup.specs.declared.PathLookup.{PathLookup}
 use Rattle.lookup.specs.declared.PathLookup.TheVariants as lookup
-use Rattle.lookup.specs.Searches.{TreeAt, HasTree}
+use Rattle.lookup.specs.Searches.{HasTree}
 use Rattle.lookup.specs.Targets.{PathAbsent, FileAt, Looks}
 use Rattle.lookup.specs.TargetLaws.{looks_as, bit_clear, is_writable, not_writable}
 use Rattle.lookup.specs.declared.space.Space.{Space}
@@ -38,9 +41,6 @@ use Rattle.lookup.specs.declared.space.Space.TheVariants as space
 use Rattle.lookup.specs.PlaceLaws.{entry_shape, entry_replaced, entry_first}
 use Rattle.lookup.specs.Spaces.{SpaceAt, NoSpace, IsSpace, Spaces}
 use Rattle.edit.specs.declared.NewFile.{NewFile}
-use Rattle.edit.specs.Plans.{EntryPlace}
-use Rattle.put.specs.declared.Placed.{Placed}
-use Rattle.put.specs.declared.Placed.TheVariants as placed
 use Rattle.put.specs.Places.{NewEntryIs, ItemPlace, IsPlaced}
 
 -- ---- a new file
@@ -152,31 +152,28 @@ module _ (g : Geometry) (image path : List ℕ) (i : Image) (r : Reached) (s : S
   }
 
 -- ---- by path: each refusal in its place
-module _ (g : Geometry) (image path : List ℕ) (r : PathLookup) (look : Looks g (views_of g image) path r) (i : Image) (accepted : check g (views_of g image) ≡ ok i) where
+module _ (g : Geometry) (image path : List ℕ) (r : Result PathLookup Refusal) (look : Looks g (views_of g image) path r) (i : Image) (accepted : check g (views_of g image) ≡ ok i) where
   abbrev vs : Views
   vs = views_of g image
 
-  pub malformed : r ≡ lookup.Malformed → IsPlaced g image (put_target path) i (placed.Refused 14 0)
-  malformed e = put_target_none path i.tree 14 0 (looks_as g vs path i r look accepted lookup.Malformed e)
+  pub not_there : (z : Refusal) → r ≡ Err z → IsPlaced g image (put_target path) i (Err z)
+  not_there z e = put_target_none path i.tree _ _ (looks_as g vs path i r look accepted (Err z) e)
 
-  pub nowhere : r ≡ lookup.Nowhere → IsPlaced g image (put_target path) i (placed.Refused 15 0)
-  nowhere e = put_target_none path i.tree 15 0 (looks_as g vs path i r look accepted lookup.Nowhere e)
-
-  module _ {d : Reached} {name extension : ℕ} (e : r ≡ lookup.Absent d name extension) where
+  module _ {d : Reached} {name extension : ℕ} (e : r ≡ Ok (lookup.Absent d name extension)) where
     gap : PathAbsent g (views_of g image) (path_of path) i d name extension
-    gap = looks_as g vs path i r look accepted (lookup.Absent d name extension) e
+    gap = looks_as g vs path i r look accepted (Ok (lookup.Absent d name extension)) e
 
     pub has_tree : HasTree g (views_of g image) d.start
     has_tree = record { tree = gap.target.place.items; at = gap.directory.tree }
 
-    pub new_hidden : d.hidden ≡ true → IsPlaced g image (put_target path) i (placed.Refused 22 0)
+    pub new_hidden : d.hidden ≡ true → IsPlaced g image (put_target path) i (Err (record { 0 = fault.Hidden; 1 = 0 }))
     new_hidden h = put_target_hidden path i.tree gap.target gap.reached (gap.directory.hidden_is ∙ h)
 
     may_write : writable nothing ≡ ok tt
     unfolding writable
     may_write = refl
 
-    pub new_place : d.hidden ≡ false → (f : NewFile) → NewEntryIs g image d.start name extension f → IsPlaced g image (put_target path) i (placed.At f)
+    pub new_place : d.hidden ≡ false → (f : NewFile) → NewEntryIs g image d.start name extension f → IsPlaced g image (put_target path) i (Ok f)
     new_place h f n = record {
       goal = gap.target;
       reached = put_target_is path i.tree gap.target gap.reached (gap.directory.hidden_is ∙ h) (ap writable gap.absent ∙ may_write);
@@ -185,20 +182,29 @@ module _ (g : Geometry) (image path : List ℕ) (r : PathLookup) (look : Looks g
       pages_are = rw gap.absent refl;
     }
 
-  module _ (d : Reached) (s : Slot) (stamps : ℕ) (e : Entry) (q : r ≡ lookup.At d s stamps e) where
-    there : FileAt g (views_of g image) (path_of path) i d s stamps e
-    there = looks_as g vs path i r look accepted (lookup.At d s stamps e) q
+  module _ (d : Reached) (x : Spot) (q : r ≡ Ok (lookup.At d x)) where
+    abbrev s : Slot
+    s = x.slot
 
-    pub old_hidden : d.hidden ≡ true → IsPlaced g image (put_target path) i (placed.Refused 22 0)
+    abbrev stamps : ℕ
+    stamps = x.stamps
+
+    abbrev e : Entry
+    e = x.entry
+
+    there : FileAt g (views_of g image) (path_of path) i d s stamps e
+    there = looks_as g vs path i r look accepted (Ok (lookup.At d x)) q
+
+    pub old_hidden : d.hidden ≡ true → IsPlaced g image (put_target path) i (Err (record { 0 = fault.Hidden; 1 = 0 }))
     old_hidden h = put_target_hidden path i.tree there.target there.reached (there.directory.hidden_is ∙ h)
 
     pub under : s.at < s.count
     under = there.at.under
 
     module _ (seen : d.hidden ≡ false) where
-      pub read_only : 127 < e.extension → IsPlaced g image (put_target path) i (placed.Refused 16 0)
+      pub read_only : 127 < e.extension → IsPlaced g image (put_target path) i (Err (record { 0 = fault.ReadOnly; 1 = 0 }))
       read_only h = put_target_kept path i.tree there.target there.reached (there.directory.hidden_is ∙ seen) 16 0 (ap writable there.found ∙ not_writable there h)
 
       pub old_place : e.extension ≤ 127
-          → IsPlaced g image (put_target path) i (placed.At (record { name = e.name; extension = e.extension; replaces = e.start; slot = s; first = s.at; last = s.at + 1; extra = 0 }))
+          → IsPlaced g image (put_target path) i (Ok (record { name = e.name; extension = e.extension; replaces = e.start; slot = s; first = s.at; last = s.at + 1; extra = 0 }))
       old_place h = over g image path i d s stamps e there seen h

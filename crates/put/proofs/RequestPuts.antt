@@ -1,4 +1,7 @@
 -- A call that puts something: each refusal in its place; what it writes; without a limit the answer and the image are the rule's.
+use Rattle.rules.specs.Answers.{refused}
+use Rattle.std.specs.Prelude.{Err, Result, Ok}
+use Rattle.refusals.specs.declared.Refusal.{Refusal}
 use mathlib.Core.Path.{◌≡◌, refl, ap, sym, ◌∙◌, subst}
 use mathlib.Core.List.{List}
 use Prim.Native.Nat.{ℕ}
@@ -8,12 +11,12 @@ use Rattle.geometry.specs.Geometry.{Fit}
 use Rattle.packet.specs.Packet.{view_of, Write, after_writes}
 use Rattle.packet.specs.declared.Budget.{Budget}
 use Rattle.packet.specs.Budgets.{unlimited}
-use Rattle.rules.specs.Result.{Res, ok, err, and_then}
+use Rattle.rules.specs.Result.{Res, ok, and_then}
 use Rattle.rules.proofs.ResultLaws.{ok_inj, then_ok, then_err, then_assoc, then_cong}
 use Rattle.rules.specs.PageSets.{count, free_pages}
 use Rattle.rules.specs.Chain.{views_of, Link, pages}
 use Rattle.rules.specs.Tree.{Label, Items, Image, used}
-use Rattle.rules.specs.Owners.{OwnerRecord, owners}
+use Rattle.rules.specs.Owners.{OwnerRecord}
 use Rattle.rules.specs.Check.{check}
 use Rattle.rules.specs.Paths.{Path, file_key, Found, find, Place, Target}
 use Rattle.rules.specs.Put.{kept_pages, put_edit, plain_edit, put_at}
@@ -22,12 +25,9 @@ use Rattle.owners.specs.OwnerLaws.{represents_owners, represents_freed}
 use Rattle.editing_theorems.specs.PutLaws.{Asked, kept_old, free_clear}
 use Rattle.editing_theorems.proofs.PutDone.{PutCall, asked_at}
 use Rattle.edit.specs.declared.NewFile.{NewFile}
-use Rattle.edit.specs.declared.Outcome.{Outcome}
-use Rattle.edit.specs.declared.Outcome.TheVariants as outcome
 use Rattle.edit.specs.OutcomeLaws.{whole_done, whole_refused}
 use Rattle.edit.specs.OldChains.{links_of, HasOld, FreesOld}
 use Rattle.edit.specs.Plans.{PlainPutting, Outcomes, put_writes, PutsFile}
-use Rattle.rules.specs.declared.Edited.TheVariants as edited
 use Rattle.volume.specs.Edits.{leaves, Answered, TableOf}
 use Rattle.put.specs.Places.{ItemPlace, RequestPut}
 
@@ -47,11 +47,11 @@ module _ {asked : Res Path} {Allowed Wanted : Found → Type 0} {target : Items 
   same_tree i h = ok_inj (sym accepted ∙ h)
 
   module _ (budget : Budget) where
-    pub refused : (n p : ℕ) → ((i : Image) → check g (views_of g image) ≡ ok i → target i.tree ≡ err n p) → RequestPut g image target (bytes_at g) budget image (outcome.Refused n p)
-    refused n p z i c = (simp (z i c, then_err), refl)
+    pub refuses : (x : Refusal) → ((i : Image) → check g (views_of g image) ≡ ok i → target i.tree ≡ refused x) → RequestPut g image target (bytes_at g) budget image (Err x)
+    refuses x z i c = (simp (z i c, then_err), refl)
 
     -- what a put of it at its place gives
-    given : (x : Target) (t : target tree.tree ≡ ok x) (after : List ℕ) (o : Outcome) → Outcomes g (put_writes g (bytes_at g x.place) tree x) image budget after o
+    given : (x : Target) (t : target tree.tree ≡ ok x) (after : List ℕ) (o : Result Budget Refusal) → Outcomes g (put_writes g (bytes_at g x.place) tree x) image budget after o
         → RequestPut g image target (bytes_at g) budget after o
     given x t after o w i c = subst (λ (j : Image). Outcomes g (and_then (target j.tree) (λ y. put_writes g (bytes_at g y.place) j y)) image budget after o) (same_tree i c)
         (subst (λ (z : Res Target). Outcomes g (and_then z (λ y. put_writes g (bytes_at g y.place) tree y)) image budget after o) (sym t)
@@ -78,7 +78,7 @@ module _ {asked : Res Path} {Allowed Wanted : Found → Type 0} {target : Items 
               clear = free_clear g image b stands a;
             }
 
-        pub put_at_lem : (after : List ℕ) (o : Outcome) → PutsFile g image u (bytes_at g place.goal.place) f budget after o → RequestPut g image target (bytes_at g) budget after o
+        pub put_at_lem : (after : List ℕ) (o : Result Budget Refusal) → PutsFile g image u (bytes_at g place.goal.place) f budget after o → RequestPut g image target (bytes_at g) budget after o
         unfolding to_put
         put_at_lem after o k = given place.goal place.reached after o (k to_put)
 
@@ -95,14 +95,14 @@ module _ {asked : Res Path} {Allowed Wanted : Found → Type 0} {target : Items 
       = simp (accepted, then_ok) in
       s ∙ sym (then_assoc _ _ _ ∙ then_cong _ _ _ (λ x _. then_assoc _ _ _ ∙ then_cong _ _ _ (λ e _. then_ok _ _)))
 
-  module _ (budget : Budget) (b : budget ≡ unlimited) (after : List ℕ) (o : Outcome) (h : RequestPut g image target (bytes_at g) budget after o) where
-    outcome_as : (x : Outcome) → o ≡ x → Outcomes g (and_then (target tree.tree) (writes tree)) image budget after x
-    outcome_as x e = subst (λ (y : Outcome). Outcomes g (and_then (target tree.tree) (writes tree)) image budget after y) e (h tree accepted)
+  module _ (budget : Budget) (b : budget ≡ unlimited) (after : List ℕ) (o : Result Budget Refusal) (h : RequestPut g image target (bytes_at g) budget after o) where
+    outcome_as : (x : Result Budget Refusal) → o ≡ x → Outcomes g (and_then (target tree.tree) (writes tree)) image budget after x
+    outcome_as x e = subst (λ (y : Result Budget Refusal). Outcomes g (and_then (target tree.tree) (writes tree)) image budget after y) e (h tree accepted)
 
-    pub answer_done : (left : Budget) → o ≡ outcome.Done left → Answered image (put_at g target (bytes_at g) image) edited.Done after
-    answer_done left e = sym (ap (leaves image) (rule_is ∙ whole_done g _ image budget b after left (outcome_as (outcome.Done left) e)))
+    pub answer_done : (left : Budget) → o ≡ Ok left → Answered image (put_at g target (bytes_at g) image) (Ok tt) after
+    answer_done left e = sym (ap (leaves image) (rule_is ∙ whole_done g _ image budget b after left (outcome_as (Ok left) e)))
 
-    pub answer_refused : (n p : ℕ) → o ≡ outcome.Refused n p → Answered image (put_at g target (bytes_at g) image) (edited.Refused n p) after
-    answer_refused n p e =
-        let k = outcome_as (outcome.Refused n p) e in
-        ap (λ (x : List ℕ). (err n p, x)) k.1 ∙ sym (ap (leaves image) (rule_is ∙ whole_refused g _ image budget b after n p k))
+    pub answer_refused : (z : Refusal) → o ≡ Err z → Answered image (put_at g target (bytes_at g) image) (Err z) after
+    answer_refused z e =
+        let k = outcome_as (Err z) e in
+        ap (λ (x : List ℕ). (refused z, x)) k.1 ∙ sym (ap (leaves image) (rule_is ∙ whole_refused g _ image budget b after z k))

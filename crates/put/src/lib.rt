@@ -12,25 +12,17 @@ ghost use Rattle.rules.specs.Calls.{put_call};
 ghost use Rattle.rules.specs.Promises.{Puts};
 ghost use Rattle.listing.specs.KnownTree.{HasImage};
 ghost use Rattle.lookup.specs.Searches.{HasTree};
-ghost use Rattle.rules.specs.Answers.{edit_result};
+ghost use Rattle.rules.specs.Answers.{answer_of};
 ghost use Rattle.volume.specs.Edits.{TableOf, EditLeaves};
 ghost use Rattle.put.specs.Places.{NewEntryIs, Places, PathPut};
 
 use directory::extensions::extension_of;
-use edit::{NewFile, Outcome};
-use geometry::{Geometry, RECORD_BYTES, Shape};
+use edit::NewFile;
+use geometry::{Geometry, RECORD_BYTES};
 use lookup::PathLookup;
 use lookup::space::Space;
 use packet::Budget;
-use rules::{Checked, Edited};
-
-// Where the file of a path goes.
-#[derive(Clone, Copy)]
-pub enum Placed {
-    At(NewFile),
-    // 14, 15, 22, 16
-    Refused(u8, usize),
-}
+use refusals::{Fault, Refusal};
 
 // Where an entry goes that its directory does not have, a file's or a directory's: to the first page with space, else to a page that joins.
 pub fn new_entry(image: &[u8], g: Geometry, start: usize, name: u32, extension: u8) -> NewFile
@@ -60,35 +52,34 @@ pub fn new_entry(image: &[u8], g: Geometry, start: usize, name: u32, extension: 
     }
 }
 
-// Finds where the file of a path goes. The image is accepted.
-pub fn place_file(image: &[u8], g: Geometry, path: &[u8]) -> Placed
+// Finds where the file of a path goes. The image is accepted. 14, 15, 22, 16.
+pub fn place_file(image: &[u8], g: Geometry, path: &[u8]) -> Result<NewFile, Refusal>
     requires fit { Fit g image.now }
     requires has_image { HasImage g (views_of g image.now) }
     ensures { Places g image.now path.now result }
 {
-    match lookup::find_file(image, g, path) {
-        PathLookup::Malformed => Placed::Refused(14, 0),
-        PathLookup::Nowhere => Placed::Refused(15, 0),
+    match lookup::find_file(image, g, path)? {
         PathLookup::Absent(directory, name, extension) => {
             if directory.hidden {
-                return Placed::Refused(22, 0);
+                return Err(Refusal(Fault::Hidden, 0));
             }
-            Placed::At(new_entry(image, g, directory.start, name, extension))
+            Ok(new_entry(image, g, directory.start, name, extension))
         }
-        PathLookup::At(holder, slot, _, e) => {
+        PathLookup::At(holder, spot) => {
             if holder.hidden {
-                return Placed::Refused(22, 0);
+                return Err(Refusal(Fault::Hidden, 0));
             }
+            let e = spot.entry;
             if extension_of(e.extension).attribute != 0 {
-                return Placed::Refused(16, 0);
+                return Err(Refusal(Fault::ReadOnly, 0));
             }
-            Placed::At(NewFile {
+            Ok(NewFile {
                 name: e.name,
                 extension: e.extension,
                 replaces: e.start,
-                slot,
-                first: slot.at,
-                last: slot.at + 1,
+                slot: spot.slot,
+                first: spot.slot.at,
+                last: spot.slot.at + 1,
                 extra: 0,
             })
         }
@@ -103,37 +94,33 @@ fn put_path(
     bytes: &[u8],
     table: &mut [u8],
     budget: Budget,
-) -> Outcome
+) -> Result<Budget, Refusal>
     requires fit { Fit g image.old }
     requires table_len { (length table.old ≡ 4 * g.pages) × TableOf g image.old (records_of table.old) × Open budget }
     ensures { PathPut g image.old path.now bytes.now budget image.new result }
 {
-    match place_file(image, g, path) {
-        Placed::Refused(number, page) => Outcome::Refused(number, page),
-        Placed::At(file) => {
-            edit::release_old(image, g, file.replaces, table);
-            edit::put_file(image, g, file, bytes, table, budget)
-        }
-    }
+    let file = place_file(image, g, path)?;
+    edit::release_old(image, g, file.replaces, table);
+    edit::put_file(image, g, file, bytes, table, budget)
 }
 
 // Puts into an image whose geometry is known: the check, the put, then the table of the image as it then stands.
-fn put_in(image: &mut [u8], g: Geometry, path: &[u8], bytes: &[u8], table: &mut [u8]) -> Edited
+fn put_in(
+    image: &mut [u8],
+    g: Geometry,
+    path: &[u8],
+    bytes: &[u8],
+    table: &mut [u8],
+) -> Result<(), Refusal>
     requires fit { Fit g image.old }
     requires table_len { length table.old ≡ 4 * g.pages }
     ensures { EditLeaves g image.old (putRule g path.now bytes.now image.old) result image.new (records_of table.new) }
 {
-    match volume::check_table(image, g, table) {
-        Checked::Refused(number, page) => Edited::Refused(number, page),
-        Checked::Done(_) => {
-            let outcome = put_path(image, g, path, bytes, table, Budget::unlimited());
-            volume::check_table(image, g, table);
-            match outcome {
-                Outcome::Done(_) => Edited::Done,
-                Outcome::Refused(number, page) => Edited::Refused(number, page),
-            }
-        }
-    }
+    volume::check_table(image, g, table)?;
+    let outcome = put_path(image, g, path, bytes, table, Budget::unlimited());
+    let _ = volume::check_table(image, g, table);
+    outcome?;
+    Ok(())
 }
 
 // Puts bytes at a path: makes the file or replaces it. Fills the owner table as a check of the image as it then stands.
@@ -144,15 +131,11 @@ pub fn put(
     path: &[u8],
     bytes: &[u8],
     table: &mut [u8],
-) -> Edited
-    ensures table_after { (edit_result result, image.new, table.new) ≡ put_call size pages image.old table.old path.now bytes.now }
-    ensures puts { Puts size pages image.old table.old path.now bytes.now (edit_result result ≡ ok tt) (λ x. edit_result result ≡ x) image.new }
+) -> Result<(), Refusal>
+    ensures table_after { (answer_of result, image.new, table.new) ≡ put_call size pages image.old table.old path.now bytes.now }
+    ensures puts { Puts size pages image.old table.old path.now bytes.now (answer_of result ≡ ok tt) (λ x. answer_of result ≡ x) image.new }
 {
-    match Geometry::new(size, pages, image.len(), table.len()) {
-        Shape::Invalid => Edited::Refused(1, 0),
-        Shape::Fits(g) => {
-            let end = RECORD_BYTES * g.pages;
-            put_in(image, g, path, bytes, &mut table[..end])
-        }
-    }
+    let g = Geometry::new(size, pages, image.len(), table.len())?;
+    let end = RECORD_BYTES * g.pages;
+    put_in(image, g, path, bytes, &mut table[..end])
 }

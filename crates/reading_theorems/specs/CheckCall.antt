@@ -1,8 +1,7 @@
 -- The calls: check answers 0 exactly when the image is well formed in its geometry; list and read are answered from its tree.
-use Rattle.std.specs.Prelude.{◌≡◌, refl, List, ℕ, length}
+use Rattle.std.specs.Prelude.{Option, Some, None, ◌≡◌, refl, List, ℕ, length}
 use Rattle.std.proofs.Common.{ap, sym, ◌∙◌}
-use Rattle.geometry.specs.declared.Shape.{Shape}
-use Rattle.geometry.specs.declared.Shape.TheVariants.{Fits, Invalid}
+use Rattle.geometry.specs.declared.Geometry.{Geometry}
 use Rattle.geometry.specs.Geometry.{geometry_of}
 use Rattle.geometry.specs.Number.{Bytes}
 use Rattle.geometry.specs.ShapeLaws.{fit_of}
@@ -28,9 +27,9 @@ module _ (P N : ℕ) (image table : List ℕ) (bytes : Bytes image) where
     pub asked_answered : (x : A) → (asked P N image table question).0 ≡ ok x → WellFormedAt P N image table
     asked_answered x q = go (geometry_of P N (length image) (length table)) refl
       where
-        go : (s : Shape) → geometry_of P N (length image) (length table) ≡ s → WellFormedAt P N image table
-        go Invalid e = clash (sym (ap (λ (y : Res A × List ℕ). y.0) (asked_invalid P N image table e question)) ∙ q)
-        go (Fits g) e = on_then _ _ _ (sym (ap (λ (y : Res A × List ℕ). y.0) (asked_fits P N image table g e question)) ∙ q) λ i a _.
+        go : (s : Option Geometry) → geometry_of P N (length image) (length table) ≡ s → WellFormedAt P N image table
+        go None e = clash (sym (ap (λ (y : Res A × List ℕ). y.0) (asked_invalid P N image table e question)) ∙ q)
+        go (Some g) e = on_then _ _ _ (sym (ap (λ (y : Res A × List ℕ). y.0) (asked_fits P N image table g e question)) ∙ q) λ i a _.
             record { geometry = g; right = e; reading = i; formed = (accepted_iff g image (fit_of P N image table g e) bytes i).0 a }
 
     pub asked_tells : TellsTree P N image table question (λ r. (asked P N image table question).0 ≡ r) (IsOk (asked P N image table question).0)

@@ -15,8 +15,7 @@ use Rattle.rules.specs.PageSets.{hit, count, Within}
 use Rattle.rules.proofs.PageSetLaws.{hit_same, range_le}
 use Rattle.rules.specs.Chain.{Views, first, content, linked, any_page}
 use Rattle.rules.proofs.ChainLaws.{packet_good, first_nonzero, any_passes, walk_accepts}
-use Rattle.rules.specs.Tree.{Items, end, page, file, dir, start_of, tokens, token_bytes, token_links, directory_links, all_pages}
-use Rattle.rules.specs.Tree.{Map, in_root, in_file, map_pages, Image, used}
+use Rattle.rules.specs.Tree.{Items, end, page, file, dir, start_of, tokens, token_bytes, token_links, directory_links, all_pages, Map, in_root, in_file, map_pages, Image, used}
 use Rattle.rules.specs.Control.{root_control, the_root, root_page}
 use Rattle.rules.specs.Bitmap.{map_size}
 use Rattle.rules.proofs.BitmapLaws.{bits_complete}

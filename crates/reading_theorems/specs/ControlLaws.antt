@@ -15,8 +15,7 @@ use Rattle.rules.specs.Result.{ok}
 use Rattle.rules.proofs.ResultLaws.{ok_inj, on_refuse, refuse_inv, then_ok, refuse_true}
 use Rattle.rules.specs.Chain.{Link, first}
 use Rattle.rules.specs.Tree.{Map, in_root, in_file, is_local}
-use Rattle.rules.specs.Control.{marker, place_bytes, bitmap_field, root_control, whole_entries}
-use Rattle.rules.specs.Control.{Head, control_at, field_at, most_local, local_allowed, place_zeros, head_of, map_start, map_count}
+use Rattle.rules.specs.Control.{marker, place_bytes, bitmap_field, root_control, whole_entries, Head, control_at, field_at, most_local, local_allowed, place_zeros, head_of, map_start, map_count}
 use Rattle.reading_theorems.specs.ByteLaws.{number_back, bytes_are, number_front, byte_at, zero_bytes, zero_number}
 
 -- ---- whole entries

@@ -17,8 +17,7 @@ use Rattle.rules.proofs.PageSetLaws.{count_append, free_test}
 use Rattle.rules.specs.Chain.{Views, Link, link, pages, first, linked, Test, any_page}
 use Rattle.rules.proofs.ChainLaws.{Passes, IsChain, walk_sound}
 use Rattle.rules.specs.Names.{key, valid_name, file_number, directory_number, extended}
-use Rattle.rules.specs.Tree.{Label, label_of, Items, end, page, file, dir, start_of, own_pages, inner_pages, all_pages, keys}
-use Rattle.rules.specs.Tree.{Token, new_page, entry, tokens, token_links, directory_links, link_tokens}
+use Rattle.rules.specs.Tree.{Label, label_of, Items, end, page, file, dir, start_of, own_pages, inner_pages, all_pages, keys, Token, new_page, entry, tokens, token_links, directory_links, link_tokens}
 use Rattle.rules.specs.Control.{Parent, sub_control, sub_page}
 use Rattle.rules.specs.WellFormed.{HasPackets, HasBelow, EntryFits, Named, Entries}
 use Rattle.rules.specs.Check.{Part, chain, directory, part_pages, add, stamp_label, stamp, followed, Judge, judge_file, judge_entry, judge_entries, judge_directory, judge_sub}

@@ -1,8 +1,12 @@
 -- A removal by path: each refusal in its place, and the directory that can be removed.
-use mathlib.Core.Path.{◌≡◌, refl, ap, sym, ◌∙◌, subst}
+use Rattle.refusals.specs.declared.Refusal.{Refusal}
+use Rattle.rules.specs.Answers.{refused}
+use Rattle.std.specs.Prelude.{Result, Ok, Err}
+use Rattle.refusals.specs.declared.Fault.TheVariants as fault
+use mathlib.Core.Path.{◌≡◌, refl, ap, sym, ◌∙◌}
 use mathlib.Core.Bool.{true, false}
 use mathlib.Core.List.{List, [], ◌∷◌}
-use Prim.Native.Nat.{ℕ, suc, ◌+◌}
+use Prim.Native.Nat.{ℕ, ◌+◌}
 use native.Mathlib.Omega.{arith}
 use lib.ListN.{length}
 use borrow.Author.Tests.{eq-eqb, ne_eqb}
@@ -30,11 +34,11 @@ use Rattle.entries.specs.EntrySlots.{CountsEntries}
 use Rattle.entries.proofs.TokenLaws.{token_keys, token_keys_lem}
 use Rattle.listing.specs.KnownTree.{Chained}
 use Rattle.lookup.specs.declared.Reached.{Reached}
+use Rattle.lookup.specs.declared.Spot.{Spot}
 use Rattle.lookup.specs.declared.PathLookup.{PathLookup}
 use Rattle.lookup.specs.declared.PathLookup.TheVariants as lookup
 use Rattle.lookup.specs.Targets.{PathAbsent, SubdirectoryAt, LooksFor}
 use Rattle.lookup.specs.TargetLaws.{looks_for_as}
-use Rattle.edit.specs.declared.Outcome.TheVariants as outcome
 use Rattle.rules.specs.Owners.{OwnerRecord}
 use Rattle.volume.specs.Edits.{TableOf}
 use Rattle.delete.specs.Deletes.{CanDelete, Unlinks, Removes}
@@ -82,48 +86,51 @@ some_counted (page p t) h = some_counted t h
 some_counted (file l ls t) h = absurd (omega (arith, h, stamp_more l.stamps (entry (file_entry l ls) ∷ tokens t)))
 some_counted (dir l d t) h = absurd (omega (arith, h, stamp_more l.stamps (entry (directory_entry l d) ∷ tokens t)))
 
-module _ (g : Geometry) (image : List ℕ) (table : List OwnerRecord) (path : List ℕ) (T : TableOf g image table) (r : PathLookup) (h : LooksFor g (views_of g image) path r) (budget : Budget) where
+module _ (g : Geometry) (image : List ℕ) (table : List OwnerRecord) (path : List ℕ) (T : TableOf g image table) (r : Result PathLookup Refusal) (h : LooksFor g (views_of g image) path r) (budget : Budget) where
   open T use {tree, accepted}
 
   abbrev vs : Views
   vs = views_of g image
 
   -- a refusal of the target
-  abbrev Refuses : ℕ → Type 0
-  Refuses n = Removes g image (removal_target path) budget image (outcome.Refused n 0)
+  refuses : (z : Refusal) → ((i : Image) → check g (views_of g image) ≡ ok i → removal_target path i.tree ≡ refused z) → Removes g image (removal_target path) budget image (Err z)
+  refuses z e = removing.refuses g image (removal_target path) budget z e
 
-  refused : (n : ℕ) → ((i : Image) → check g (views_of g image) ≡ ok i → removal_target path i.tree ≡ err n 0) → Refuses n
-  refused n e = removing.refused g image (removal_target path) budget n 0 e
+  pub not_there : (z : Refusal) → r ≡ Err z → Removes g image (removal_target path) budget image (Err z)
+  not_there z e = refuses z (λ i c. removal_target_none path i.tree _ _ (looks_for_as g vs path i r h c (Err z) e))
 
-  pub malformed : r ≡ lookup.Malformed → Removes g image (removal_target path) budget image (outcome.Refused 14 0)
-  malformed e = refused 14 (λ i c. removal_target_none path i.tree 14 0 (looks_for_as g vs path i r h c lookup.Malformed e))
-
-  pub nowhere : r ≡ lookup.Nowhere → Removes g image (removal_target path) budget image (outcome.Refused 15 0)
-  nowhere e = refused 15 (λ i c. removal_target_none path i.tree 15 0 (looks_for_as g vs path i r h c lookup.Nowhere e))
-
-  pub absent : (d : Reached) (name extension : ℕ) → r ≡ lookup.Absent d name extension → Removes g image (removal_target path) budget image (outcome.Refused 15 0)
-  absent d name extension e = refused 15 λ i c.
-      let m : PathAbsent g vs (directory_path_of path) i d name extension = looks_for_as g vs path i r h c (lookup.Absent d name extension) e in
+  pub absent : (d : Reached) (name extension : ℕ) → r ≡ Ok (lookup.Absent d name extension) → Removes g image (removal_target path) budget image (Err (record { 0 = fault.Absent; 1 = 0 }))
+  absent d name extension e = refuses (record { 0 = fault.Absent; 1 = 0 }) λ i c.
+      let m : PathAbsent g vs (directory_path_of path) i d name extension = looks_for_as g vs path i r h c (Ok (lookup.Absent d name extension)) e in
       removal_target_absent path i.tree m.target m.reached 15 0 (ap present_directory m.absent ∙ no_directory)
 
-  module _ (d : Reached) (s : Slot) (stamps : ℕ) (e : Entry) (q : r ≡ lookup.At d s stamps e) where
+  module _ (d : Reached) (x : Spot) (q : r ≡ Ok (lookup.At d x)) where
+    abbrev s : Slot
+    s = x.slot
+
+    abbrev stamps : ℕ
+    stamps = x.stamps
+
+    abbrev e : Entry
+    e = x.entry
+
     at_directory : (i : Image) → check g (views_of g image) ≡ ok i → SubdirectoryAt g vs (directory_path_of path) i d s stamps e
-    at_directory i c = looks_for_as g vs path i r h c (lookup.At d s stamps e) q
+    at_directory i c = looks_for_as g vs path i r h c (Ok (lookup.At d x)) q
 
     abbrev there : SubdirectoryAt g (views_of g image) (directory_path_of path) tree d s stamps e
-    there = looks_for_as g vs path tree r h accepted (lookup.At d s stamps e) q
+    there = looks_for_as g vs path tree r h accepted (Ok (lookup.At d x)) q
 
     same_extension : (i : Image) (c : check g (views_of g image) ≡ ok i) → e.extension ≡ (at_directory i c).label.extension
     same_extension i c = ap (λ (x : Entry). x.extension) (at_directory i c).entry_is
 
-    pub below_hidden : d.hidden ≡ true → Removes g image (removal_target path) budget image (outcome.Refused 22 0)
-    below_hidden k = refused 22 λ i c.
+    pub below_hidden : d.hidden ≡ true → Removes g image (removal_target path) budget image (Err (record { 0 = fault.Hidden; 1 = 0 }))
+    below_hidden k = refuses (record { 0 = fault.Hidden; 1 = 0 }) λ i c.
         let m = at_directory i c in
         removal_target_below path i.tree m.target m.reached (ap present_directory m.found ∙ a_directory_lem m.label m.items) (m.directory.hidden_is ∙ k)
 
     module _ (z : d.hidden ≡ false) where
-      pub hidden : attribute e.extension ≡ 1 → Removes g image (removal_target path) budget image (outcome.Refused 22 0)
-      hidden k = refused 22 λ i c.
+      pub hidden : attribute e.extension ≡ 1 → Removes g image (removal_target path) budget image (Err (record { 0 = fault.Hidden; 1 = 0 }))
+      hidden k = refuses (record { 0 = fault.Hidden; 1 = 0 }) λ i c.
           let m = at_directory i c in
           removal_target_hidden path i.tree m.target m.reached (m.directory.hidden_is ∙ z) (ap present_directory m.found ∙ a_directory_lem m.label m.items) 22 0
           (ap shown_directory m.found ∙ directory_hidden m.label m.items (sym (ap attribute (same_extension i c)) ∙ k))
@@ -145,8 +152,8 @@ module _ (g : Geometry) (image : List ℕ) (table : List OwnerRecord) (path : Li
           seen : shown_directory (find (file_key (at_directory i c).target.to) (at_directory i c).target.place.items) ≡ ok tt
           seen = let m = at_directory i c in ap shown_directory m.found ∙ directory_shown m.label m.items (λ j. k (ap attribute (same_extension i c) ∙ j))
 
-        pub not_empty : (n ≡ 0 → ⊥) → Removes g image (removal_target path) budget image (outcome.Refused 20 0)
-        not_empty y = refused 20 λ i c.
+        pub not_empty : (n ≡ 0 → ⊥) → Removes g image (removal_target path) budget image (Err (record { 0 = fault.NotEmpty; 1 = 0 }))
+        not_empty y = refuses (record { 0 = fault.NotEmpty; 1 = 0 }) λ i c.
             let m = at_directory i c in
             removal_target_kept path i.tree m.target m.reached (m.directory.hidden_is ∙ z) (ap present_directory m.found ∙ a_directory_lem m.label m.items) 20 0 (seen i c)
             (ap without_entries m.found ∙ has_entries m.label m.items (λ j. y (n_is i c ∙ none_counted m.items j)))
@@ -173,6 +180,6 @@ module _ (g : Geometry) (image : List ℕ) (table : List OwnerRecord) (path : Li
           to_remove = removal_target_is path tree.tree there.target there.reached (there.directory.hidden_is ∙ z)
               (ap present_directory there.found ∙ a_directory_lem there.label there.items) (seen tree accepted) (ap without_entries there.found ∙ has_none there.label there.items no_entries_lem)
 
-          pub done : (after : List ℕ) (left : Budget) → Unlinks g image table s stamps e budget after left → Removes g image (removal_target path) budget after (outcome.Done left)
+          pub done : (after : List ℕ) (left : Budget) → Unlinks g image table s stamps e budget after left → Removes g image (removal_target path) budget after (Ok left)
           unfolding can_remove
           done after left u = removing.removed g image table T (removal_target path) budget can_remove refl to_remove after left u

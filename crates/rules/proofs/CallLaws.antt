@@ -1,10 +1,8 @@
 -- A refusal changes no byte, not of the image and not of the output, and refusal 1 leaves the owner table too; the numbers and pages that the calls' refusals tell.
-use Rattle.std.specs.Prelude.{◌≡◌, Bool, List, ℕ, ◌+◌, ◌<◌}
+use Rattle.std.specs.Prelude.{Option, Some, None, ◌≡◌, Bool, List, ℕ, ◌+◌, ◌<◌}
 use Rattle.std.proofs.Math.Path.{refl}
 use Rattle.std.proofs.Common.{sym, arith}
 use Rattle.geometry.specs.declared.Geometry.{Geometry}
-use Rattle.geometry.specs.declared.Shape.{Shape}
-use Rattle.geometry.specs.declared.Shape.TheVariants.{Fits, Invalid}
 use Rattle.rules.specs.Result.{Res, ok, err, and_then}
 use Rattle.rules.proofs.ResultLaws.{clash, on_refused}
 use Rattle.rules.specs.Chain.{views_of}
@@ -31,11 +29,11 @@ module _ (P N : ℕ) (image table : List ℕ) where
   effect_refused g (err m q) n p e = refl
 
   -- a call that may change the image, in any geometry
-  pub effective_refused : {A : Type 0} (s : Shape) (call : Geometry → Res (Effect A)) (n p : ℕ)
+  pub effective_refused : {A : Type 0} (s : Option Geometry) (call : Geometry → Res (Effect A)) (n p : ℕ)
       → (in_geometry s (err 1 0, image, table) (λ g. effect P N image table g (call g))).0 ≡ err n p
       → (in_geometry s (err 1 0, image, table) (λ g. effect P N image table g (call g))).1 ≡ image
-  effective_refused Invalid call n p e = refl
-  effective_refused (Fits g) call n p e = effect_refused g (call g) n p e
+  effective_refused None call n p e = refl
+  effective_refused (Some g) call n p e = effect_refused g (call g) n p e
 
   pub changed_refused : (edit : Geometry → Res (List ℕ)) (n p : ℕ) → (changed P N image table edit).0 ≡ err n p → (changed P N image table edit).1 ≡ image
   changed_refused edit n p e = effective_refused (shape P N image table) (λ g. plainly (edit g)) n p e
@@ -57,15 +55,15 @@ module _ (P N : ℕ) (image table : List ℕ) where
   read_refused path out n p e = filled_refused out (asked P N image table (read_bytes path out)).0 n p e
 
   -- ---- a question about an image in its geometry
-  pub asked_fits : {A : Type 0} (g : Geometry) → shape P N image table ≡ Fits g → (question : Image → Res A)
+  pub asked_fits : {A : Type 0} (g : Geometry) → shape P N image table ≡ Some g → (question : Image → Res A)
       → asked P N image table question ≡ (and_then (check g (views_of g image)) question, table_after g.pages (check g (views_of g image)) table)
   asked_fits g e question = rw e refl
 
-  pub asked_invalid : {A : Type 0} → shape P N image table ≡ Invalid → (question : Image → Res A) → asked P N image table question ≡ (err 1 0, table)
+  pub asked_invalid : {A : Type 0} → shape P N image table ≡ None → (question : Image → Res A) → asked P N image table question ≡ (err 1 0, table)
   asked_invalid e question = rw e refl
 
   -- ---- refusal 1: the sizes are not those of an image, or the table is too short
-  module _ (wrong : shape P N image table ≡ Invalid) where
+  module _ (wrong : shape P N image table ≡ None) where
     pub check_invalid : check_call P N image table ≡ (err 1 0, table)
     unfolding check_call
     check_invalid = rw wrong refl

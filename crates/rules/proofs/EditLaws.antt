@@ -5,7 +5,6 @@ use Rattle.geometry.specs.Choose.{choose}
 use Rattle.geometry.specs.ChooseLaws.{choose_true, choose_false, on_choose}
 use Rattle.rules.specs.PageSets.{bit, hit, count}
 use Rattle.rules.proofs.PageSetLaws.{hit_same, same, other, hits, count_append}
-use Rattle.rules.specs.declared.Entry.{Entry}
 use Rattle.rules.specs.Chain.{Link, first, pages}
 use Rattle.rules.specs.Tree.{Label, key_of, width, Items, end, page, file, dir, entry, stamp_tokens, tokens, own_pages, inner_pages, all_pages, keys}
 use Rattle.rules.specs.Paths.{Found, nothing, a_file, a_directory, find}

@@ -13,3 +13,4 @@ pub mod FuelLaws
 pub mod CallLaws
 pub mod CarefulLaws
 pub mod DigitLaws
+pub mod AnswerLaws

@@ -9,7 +9,7 @@ use Rattle.rules.proofs.StampLaws.{stamps_followed, with_stamps}
 use Rattle.rules.specs.Check.{Part, chain, directory, add, stamp, followed}
 use Rattle.rules.specs.Listing.{lines_of}
 use Rattle.rules.specs.Paths.{Found, a_file, a_directory, find}
-use Rattle.rules.specs.TreeLaws.{page_tokens, last_page}
+use Rattle.rules.specs.TreeLaws.{page_tokens}
 
 -- entries of one page in a row
 pub entries_join : (xs ys : List Entry) (ts : List Token) → entry_tokens xs ++ (entry_tokens ys ++ ts) ≡ entry_tokens (xs ++ ys) ++ ts

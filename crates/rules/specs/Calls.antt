@@ -1,8 +1,6 @@
 -- The six calls: for every input the answer and all lent memory afterwards. A refusal changes no byte of the image and none of the output.
-use Rattle.std.specs.Prelude.{Bool, List, ◌++◌, ℕ, leb, length, drop}
+use Rattle.std.specs.Prelude.{Option, Some, None, Bool, List, ◌++◌, ℕ, leb, length, drop}
 use Rattle.geometry.specs.declared.Geometry.{Geometry}
-use Rattle.geometry.specs.declared.Shape.{Shape}
-use Rattle.geometry.specs.declared.Shape.TheVariants.{Fits, Invalid}
 use Rattle.geometry.specs.Geometry.{geometry_of}
 use Rattle.rules.specs.declared.Totals.{Totals}
 use Rattle.rules.specs.declared.Line.{Line}
@@ -18,9 +16,9 @@ use Rattle.rules.specs.Put.{put}
 use Rattle.rules.specs.Delete.{delete}
 
 -- a call over an image in its geometry, else refusal 1 with what it then leaves
-abbrev pub in_geometry : {A : Type 0} → Shape → A → (Geometry → A) → A
-in_geometry Invalid other call = other
-in_geometry (Fits g) other call = call g
+abbrev pub in_geometry : {A : Type 0} → Option Geometry → A → (Geometry → A) → A
+in_geometry None other call = other
+in_geometry (Some g) other call = call g
 
 -- what a path's file reads; 15 for a file that is absent
 unfoldable pub bytes_of : Found → Res (List ℕ)
@@ -59,7 +57,7 @@ plainly (ok after) = ok (record { answer = tt; image = after })
 plainly (err n p) = err n p
 
 module _ (P N : ℕ) (image table : List ℕ) where
-  abbrev pub shape : Shape
+  abbrev pub shape : Option Geometry
   shape = geometry_of P N (length image) (length table)
 
   -- the table after a call that leaves an image

@@ -1,7 +1,6 @@
 -- Document 01, "Words of demand 3", over byte images.
-use Rattle.std.specs.Prelude.{◌≡◌, false, ◌↔◌, ◌⊎◌, List, [], ◌∷◌, ◌++◌, ℕ, ◌≤◌, length}
+use Rattle.std.specs.Prelude.{Some, ◌≡◌, false, ◌↔◌, ◌⊎◌, List, [], ◌∷◌, ◌++◌, ℕ, ◌≤◌, length}
 use Rattle.geometry.specs.declared.Geometry.{Geometry}
-use Rattle.geometry.specs.declared.Shape.TheVariants.{Fits}
 use Rattle.geometry.specs.Geometry.{geometry_of}
 use Rattle.geometry.specs.Number.{Bytes}
 use Rattle.rules.specs.declared.Entry.{Entry}
@@ -21,7 +20,7 @@ Accepted g image i = check g (views_of g image) ≡ ok i
 -- and none of them hidden (document 02, A6), and what stands at the path allowed
 pub record OnlyRoom (P N : ℕ) (image table : List ℕ) (asked : Res Path) (Allowed : Found → Type 0) : Type 0 where
   pub geometry : Geometry
-  pub right : geometry_of P N (length image) (length table) ≡ Fits geometry
+  pub right : geometry_of P N (length image) (length table) ≡ Some geometry
   pub tree : Image
   pub accepted : Accepted geometry image tree
   pub to : Path

@@ -1,7 +1,6 @@
 -- Document 02, A4: what the careful calls and the mend state of their answers.
-use Rattle.std.specs.Prelude.{◌≡◌, false, List, ◌∷◌, ◌++◌, ℕ, zero, suc, ◌+◌, ◌*◌, ◌≤◌, ◌<◌, length, take, drop}
+use Rattle.std.specs.Prelude.{Some, ◌≡◌, false, List, ◌∷◌, ◌++◌, ℕ, zero, suc, ◌+◌, ◌*◌, ◌≤◌, ◌<◌, length, take, drop}
 use Rattle.geometry.specs.declared.Geometry.{Geometry}
-use Rattle.geometry.specs.declared.Shape.TheVariants.{Fits}
 use Rattle.geometry.specs.Geometry.{geometry_of}
 use Rattle.geometry.specs.Number.{Bytes}
 use Rattle.geometry.specs.Page.{page_of}
@@ -128,7 +127,7 @@ pub record CarefullyPut (g : Geometry) (k : ℕ) (path bytes image : List ℕ) (
 module _ (P N : ℕ) (image table : List ℕ) where
   -- done, a careful call leaves what `Left` says in its geometry; refused, it changes no byte, its counts are 0 and no write is left
   pub record Carefully (Left : Geometry → Type 0) (is_done : Type 0) (told : WriteCount) (after : List ℕ) : Type 0 where
-    pub done : (g : Geometry) → geometry_of P N (length image) (length table) ≡ Fits g → is_done → Left g
+    pub done : (g : Geometry) → geometry_of P N (length image) (length table) ≡ Some g → is_done → Left g
     pub refused : (is_done → ⊥) → (after ≡ image) × (told ≡ no_writes)
 
   abbrev pub CarefullyPuts : ℕ → List ℕ → List ℕ → Type 0 → WriteCount → List ℕ → Type 0
@@ -139,7 +138,7 @@ module _ (P N : ℕ) (image table : List ℕ) where
 
   -- a mend is done exactly where the first half of the check finds no fault, every page in use is marked and no bit from N up is set; a refusal is the check's, and changes no byte
   pub record Mends (is_done : Type 0) (tells : Res ℕ → Type 0) (cleared : ℕ) (after : List ℕ) : Type 0 where
-    pub done : (g : Geometry) → geometry_of P N (length image) (length table) ≡ Fits g → is_done → MendDone g image cleared after
-    pub exactly : (g : Geometry) → geometry_of P N (length image) (length table) ≡ Fits g → (s : Scan) → scan g (views_of g image) ≡ ok s → Covers g.pages s.raw (used s.image) → is_done
+    pub done : (g : Geometry) → geometry_of P N (length image) (length table) ≡ Some g → is_done → MendDone g image cleared after
+    pub exactly : (g : Geometry) → geometry_of P N (length image) (length table) ≡ Some g → (s : Scan) → scan g (views_of g image) ≡ ok s → Covers g.pages s.raw (used s.image) → is_done
     pub refused : (is_done → ⊥) → (after ≡ image) × (cleared ≡ 0)
-    pub fault : (g : Geometry) → geometry_of P N (length image) (length table) ≡ Fits g → (n p : ℕ) → check g (views_of g image) ≡ err n p → (is_done → ⊥) → tells (err n p)
+    pub fault : (g : Geometry) → geometry_of P N (length image) (length table) ≡ Some g → (n p : ℕ) → check g (views_of g image) ≡ err n p → (is_done → ⊥) → tells (err n p)

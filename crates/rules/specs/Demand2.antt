@@ -1,7 +1,6 @@
 -- Demand 2, over byte images: what a call that is done leaves.
-use Rattle.std.specs.Prelude.{◌≡◌, Bool, List, [], ◌∷◌, ℕ, ◌+◌, max, eqb, length, drop}
+use Rattle.std.specs.Prelude.{Some, ◌≡◌, Bool, List, [], ◌∷◌, ℕ, ◌+◌, max, eqb, length, drop}
 use Rattle.geometry.specs.declared.Geometry.{Geometry}
-use Rattle.geometry.specs.declared.Shape.TheVariants.{Fits}
 use Rattle.geometry.specs.Geometry.{geometry_of, data_capacity}
 use Rattle.geometry.specs.Choose.{choose}
 use Rattle.geometry.specs.Number.{Bytes}
@@ -24,7 +23,7 @@ use Rattle.rules.specs.Candidate.{at_path, chain_pages, found_entry, stamps_of, 
 -- the image is well formed in the geometry that the sizes give
 pub record WellFormedAt (P N : ℕ) (image table : List ℕ) : Type 0 where
   pub geometry : Geometry
-  pub right : geometry_of P N (length image) (length table) ≡ Fits geometry
+  pub right : geometry_of P N (length image) (length table) ≡ Some geometry
   pub reading : Image
   pub formed : WellFormed geometry image reading
 

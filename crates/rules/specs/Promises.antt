@@ -1,7 +1,6 @@
 -- What the calls state of their answers: demands 2 and 3. `is_done` says that the answer is done, `told x` that it tells x.
-use Rattle.std.specs.Prelude.{◌≡◌, Bool, ◌↔◌, ◌⊎◌, List, ℕ, length}
+use Rattle.std.specs.Prelude.{Some, ◌≡◌, Bool, ◌↔◌, ◌⊎◌, List, ℕ, length}
 use Rattle.geometry.specs.declared.Geometry.{Geometry}
-use Rattle.geometry.specs.declared.Shape.TheVariants.{Fits}
 use Rattle.geometry.specs.Geometry.{geometry_of}
 use Rattle.rules.specs.Result.{Res, err}
 use Rattle.rules.specs.Tree.{Image}
@@ -22,7 +21,7 @@ module _ (P N : ℕ) (image table : List ℕ) where
 
   -- an edit: done, it leaves what `Left` says in its geometry; refused, it changes no byte
   pub record Leaves (Left : Geometry → Type 0) (is_done : Type 0) (after : List ℕ) : Type 0 where
-    pub done : (g : Geometry) → geometry_of P N (length image) (length table) ≡ Fits g → is_done → Left g
+    pub done : (g : Geometry) → geometry_of P N (length image) (length table) ≡ Some g → is_done → Left g
     pub refused : (is_done → ⊥) → after ≡ image
 
   -- format: it refuses with 1 or 4 alone

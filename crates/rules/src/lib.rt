@@ -34,51 +34,9 @@ pub struct Line {
     pub length: usize,
 }
 
-// What a check answers: the totals, or the number of a refusal of document 01 and its page.
-#[derive(Clone, Copy)]
-pub enum Checked {
-    Done(Totals),
-    Refused(u8, usize),
-}
-
-// What an edit answers: done, or the number of a refusal of document 01 and its page.
-#[derive(Clone, Copy)]
-pub enum Edited {
-    Done,
-    Refused(u8, usize),
-}
-
-// What listing answers: a line, or the number of a refusal of document 01 and its page.
-#[derive(Clone, Copy)]
-pub enum Listed {
-    Entry(Line),
-    Refused(u8, usize),
-}
-
-// What reading answers: the bytes read, or the number of a refusal of document 01 and its page.
-#[derive(Clone, Copy)]
-pub enum Length {
-    Done(usize),
-    Refused(u8, usize),
-}
-
 // How many page writes a careful call has made, and whether any are left.
 #[derive(Clone, Copy)]
 pub struct WriteCount {
     pub made: usize,
     pub left: bool,
-}
-
-// What a careful edit answers: its page writes, or the number of a refusal of document 01 and its page.
-#[derive(Clone, Copy)]
-pub enum Halted {
-    Done(WriteCount),
-    Refused(u8, usize),
-}
-
-// What a mend answers: the marks cleared, or the number of a refusal of document 01 and its page.
-#[derive(Clone, Copy)]
-pub enum Mended {
-    Done(usize),
-    Refused(u8, usize),
 }

@@ -1,4 +1,5 @@
 -- A chain's bytes laid packet by packet: what is held and what is to come give the whole.
+use Rattle.std.specs.Prelude.{Ok}
 use mathlib.Core.Path.{◌≡◌, refl, ap, sym, ◌∙◌, subst}
 use mathlib.Core.List.{List, [], ◌∷◌, ◌++◌, append-nil}
 use Prim.Native.Nat.{ℕ, ◌+◌, ◌*◌, ◌≤◌, ◌<◌}
@@ -11,8 +12,6 @@ use Rattle.packet.specs.Packet.{good, View, view_of, Write, write, write_page, a
 use Rattle.packet.specs.Reading.{right_packet}
 use Rattle.rules.specs.Chain.{Link, link, content, first, linked}
 use Rattle.chain.specs.declared.Cursor.{Cursor}
-use Rattle.chain.specs.declared.Step.{Step}
-use Rattle.chain.specs.declared.Step.TheVariants as step
 use Rattle.chain.specs.Steps.{first_step, step_of}
 use Rattle.chain.specs.KnownChain.{ChainAt}
 use Rattle.chain.proofs.Following.{Following, follow, Passed, passes_data, all_passed, follow_on}
@@ -41,10 +40,10 @@ packet_few g image f p b n e =
     omega (arith, r.room, length-take g.size (drop (p * g.size) image), capacity_is g)
 
 module _ (g : Geometry) (image : List ℕ) (fit : Fit g image) (to : ℕ) (second₀ : List ℕ) (ls : List Link) (second buffer : List ℕ) (f : Filling) (c : Cursor)
-    (R : Running g (view_of g image) to second₀ ls second buffer f c) (size : ℕ) (d : Cursor) (s : Step) (m : s ≡ step.Page size d) (o : s ≡ step_of g (view_of g image) c)
+    (R : Running g (view_of g image) to second₀ ls second buffer f c) (size : ℕ) (d : Cursor) (o : Ok (size, d) ≡ step_of g (view_of g image) c)
     (page : List ℕ) (e : page ≡ page_of g c.page image) (bytes : List ℕ) (i : bytes ≡ take size (drop 1 page)) where
   passed : Passed c d R.more bytes
-  passed = passes_data g image fit (length ls) c R.more R.following size d s m o page e bytes i
+  passed = passes_data g image fit (length ls) c R.more R.following size d o page e bytes i
 
   few : length bytes ≤ data_capacity g
   few = go R.more R.following.chain passed.split

@@ -5,7 +5,7 @@ ghost use Rattle.geometry.specs.Geometry.{Fit};
 ghost use Rattle.packet.specs.Packet.{view_of};
 ghost use Rattle.runs.specs.Runs.{Ready, Takes, KnownRun, LaysRun};
 
-use chain::{Cursor, Step};
+use chain::Cursor;
 use geometry::{Geometry, MOST_PAGE_BYTES};
 
 // A packet being filled: the bytes held in the buffer, and the page it will go to.
@@ -60,21 +60,15 @@ pub fn copy_run(image: &[u8], g: Geometry, start: usize, second: &mut [u8], to: 
     let mut c = Cursor::new(start, start);
     loop {
         let at = c.page;
-        match c.step(image, g, true) {
-            Step::Refused(_, _) => {
-                return f.page;
-            }
-            Step::Page(size, next) => {
-                let bytes = packet::data_of(geometry::page_of(image, g, at), size);
-                f = take_in(second, g, capacity, &mut buffer, f, bytes);
-                if next.page == 0 {
-                    let page = f.page;
-                    let held = f.held;
-                    packet::write_page(second, g, page, &buffer[..held], 0);
-                    return page + 1;
-                }
-                c = next;
-            }
+        let (size, next) = c.follow(image, g);
+        let bytes = packet::data_of(geometry::page_of(image, g, at), size);
+        f = take_in(second, g, capacity, &mut buffer, f, bytes);
+        if next.page == 0 {
+            let page = f.page;
+            let held = f.held;
+            packet::write_page(second, g, page, &buffer[..held], 0);
+            return page + 1;
         }
+        c = next;
     }
 }

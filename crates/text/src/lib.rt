@@ -4,11 +4,12 @@
 
 ghost use Rattle.std.specs.Prelude.{◌≡◌, [], ◌∷◌, ◌++◌, ◌+◌, ◌^◌, ◌≤◌, length};
 ghost use Rattle.geometry.specs.Number.{number_bytes};
-ghost use Rattle.rules.specs.Result.{err};
+ghost use Rattle.rules.specs.Answers.{refused};
 ghost use Rattle.rules.specs.ListText.{digits, decimal, without_blanks, three_digits, letter, blank, line_end, line_text, totals_text, refusal_text};
 ghost use Rattle.text.specs.Placed.{Written};
 
 use geometry::{DIRECTORY, Geometry};
+use refusals::Refusal;
 use rules::{Line, Totals};
 
 // Writes a byte.
@@ -18,7 +19,6 @@ fn put_byte(out: &mut [u8], at: usize, c: u8) -> usize
 {
     if at < out.len() {
         out[at] = c;
-        return at + 1;
     }
     at + 1
 }
@@ -28,12 +28,11 @@ fn put_bytes(out: &mut [u8], at: usize, bytes: &[u8]) -> usize
     requires { at + length bytes.now ≤ 2 ^ 40 }
     ensures { Written at bytes.now out.old result out.new }
 {
-    let mut i = 0;
-    while i < bytes.len() {
-        put_byte(out, at + i, bytes[i]);
-        i += 1;
+    let mut next = at;
+    for c in bytes {
+        next = put_byte(out, next, *c);
     }
-    at + i
+    next
 }
 
 // Writes a number in decimal, of at most so many digits.
@@ -66,10 +65,7 @@ fn put_visible(out: &mut [u8], at: usize, c: u8) -> usize
     requires { at + 1 ≤ 2 ^ 40 }
     ensures { Written at (without_blanks (c ∷ [])) out.old result out.new × (result ≤ at + 1) }
 {
-    if c == b' ' {
-        return at;
-    }
-    put_byte(out, at, c)
+    if c == b' ' { at } else { put_byte(out, at, c) }
 }
 
 // Writes a name without blanks.
@@ -77,23 +73,22 @@ fn put_name(out: &mut [u8], at: usize, name: u32) -> usize
     requires { at + 4 ≤ 2 ^ 40 }
     ensures { Written at (without_blanks (number_bytes 4 name)) out.old result out.new × (result ≤ at + 4) }
 {
-    let second = put_visible(out, at, (name % 256) as u8);
-    let third = put_visible(out, second, (name / 256 % 256) as u8);
-    let fourth = put_visible(out, third, (name / 256 / 256 % 256) as u8);
-    put_visible(out, fourth, (name / 256 / 256 / 256 % 256) as u8)
+    let mut next = at;
+    for c in name.to_le_bytes() {
+        next = put_visible(out, next, c);
+    }
+    next
 }
 
 // The letter of an entry's attribute.
 fn letter_of(line: Line) -> u8
     ensures { result ≡ letter line }
 {
-    if line.attribute == 0 {
-        return b'-';
+    match (line.attribute, line.extension) {
+        (0, _) => b'-',
+        (_, DIRECTORY) => b'h',
+        _ => b'r',
     }
-    if line.extension == DIRECTORY {
-        return b'h';
-    }
-    b'r'
 }
 
 // Writes an entry's extension number in three digits and the letter of its attribute, each after a blank.
@@ -150,11 +145,12 @@ pub fn put_totals(out: &mut [u8], at: usize, g: Geometry, totals: Totals) -> usi
 }
 
 // Writes the line of a refusal.
-pub fn put_refusal(out: &mut [u8], at: usize, number: u8, page: usize) -> usize
+pub fn put_refusal(out: &mut [u8], at: usize, refusal: Refusal) -> usize
     requires { at + 60 ≤ 2 ^ 40 }
-    ensures { Written at (refusal_text (err number page)) out.old result out.new }
+    ensures { Written at (refusal_text (refused refusal)) out.old result out.new }
 {
-    let place = put_field(out, at, b"refused ", number as usize);
+    let Refusal(fault, page) = refusal;
+    let place = put_field(out, at, b"refused ", usize::from(fault.number()));
     let last = put_field(out, place, b" page ", page);
     put_byte(out, last, b'\n')
 }

@@ -1,4 +1,7 @@
 -- The bitmap file claimed, as the code goes.
+use Rattle.rules.specs.Answers.{refused}
+use Rattle.std.specs.Prelude.{Result, Ok, Err}
+use Rattle.refusals.specs.declared.Refusal.{Refusal}
 use mathlib.Core.Path.{◌≡◌, ap, sym, ◌∙◌, subst}
 use mathlib.Core.List.{List, []}
 use Prim.Native.Nat.{ℕ, suc}
@@ -19,9 +22,7 @@ use Rattle.owners.specs.OwnerLaws.{represents_none, represents_length, in_use}
 use Rattle.directory.specs.declared.control.Kind.TheVariants as kind
 use Rattle.directory.specs.Faults.{test_of}
 use Rattle.chain.specs.declared.Claim.{Claim}
-use Rattle.chain.specs.declared.Claim.TheVariants as claim
 use Rattle.chain.specs.Claims.{Claims}
-use Rattle.rules.specs.declared.Checked.TheVariants as w
 use Rattle.walk.proofs.Parts.{test_file, IsClaimed, claimed_chain, claim_refused}
 use Rattle.rules.specs.Check.{judge_map_file}
 use Rattle.volume.specs.Scans.{no_entries, MapClaimed}
@@ -46,11 +47,11 @@ module _ (g : Geometry) (vs : Views) (start pages_told : ℕ) where
     unfolding judge_map_file
     map_step = simp (lt-ltb 0 start (omega arith), refuse_true, then_ok, test_file g)
 
-    module _ (t u : List OwnerRecord) (z : t ≡ replicate g.pages free) (r : Claim) (k : Claims g vs.pages (test_of g kind.File) 2 0 start t r u) where
-      pub map_refused : (n p : ℕ) → r ≡ claim.Refused n p → judge_map_file g vs (suc g.pages) start pages_told ≡ err n p
-      map_refused n p i = simp (map_step, claim_refused chain_of 2 n p t u r (k [] (empty_table g.pages t z).0) i, then_err)
+    module _ (t u : List OwnerRecord) (z : t ≡ replicate g.pages free) (r : Result Claim Refusal) (k : Claims g vs.pages (test_of g kind.File) 2 0 start t r u) where
+      pub map_refused : (x : Refusal) → r ≡ Err x → judge_map_file g vs (suc g.pages) start pages_told ≡ refused x
+      map_refused x i = simp (map_step, claim_refused chain_of 2 x t u r (k [] (empty_table g.pages t z).0) i, then_err)
 
-      module _ (n b : ℕ) (i : r ≡ claim.Chain n b) where
+      module _ (n b : ℕ) (i : r ≡ Ok (record { pages = n; bytes = b })) where
         is_claimed : IsClaimed chain_of 2 n b t u
         is_claimed = claimed_chain chain_of 2 n b t u r (k [] (empty_table g.pages t z).0) i
 
@@ -70,7 +71,7 @@ module _ (g : Geometry) (vs : Views) (start pages_told : ℕ) where
             then_err,
           )
 
-          pub map_done : b ≡ m → MapClaimed g vs start pages_told (w.Done (no_entries n)) u
+          pub map_done : b ≡ m → MapClaimed g vs start pages_told (Ok (no_entries n)) u
           unfolding MapClaimed
           map_done x = (
             in_file is_claimed.links,

@@ -1,4 +1,8 @@
 -- The first half of the check from its parts: page 0, the bitmap's place, the root.
+use Rattle.rules.proofs.AnswerLaws.{same_refusal}
+use Rattle.rules.specs.Answers.{refused, answer_of}
+use Rattle.std.specs.Prelude.{Option, Some, None, Result, Ok, Err}
+use Rattle.refusals.specs.declared.Refusal.{Refusal}
 use mathlib.Core.Path.{◌≡◌, refl, ap, sym, ◌∙◌, subst}
 use mathlib.Core.Bool.{Bool, true, false}
 use mathlib.Core.List.{List, []}
@@ -13,13 +17,12 @@ use Rattle.geometry.specs.ChooseLaws.{choose_true, choose_false}
 use Rattle.geometry.specs.Geometry.{control_size}
 use Rattle.geometry.specs.ListLaws.{drop_of_take}
 use Rattle.geometry.specs.Page.{page_of}
-use Rattle.packet.specs.declared.Judged.{Judged}
-use Rattle.packet.specs.declared.Judged.TheVariants.{Whole, Bad}
 use Rattle.packet.specs.Packet.{Packet, bad, good, View, packet_of, view_of}
+use Rattle.packet.specs.declared.Whole.{Whole}
 use Rattle.packet.specs.Judged.{judged}
-use Rattle.packet.specs.Reading.{right_packet}
+use Rattle.packet.specs.Reading.{Right, right_packet}
 use Rattle.rules.specs.declared.Totals.{Totals}
-use Rattle.rules.specs.Result.{Res, ok, err, and_then, and_after, refuse_unless}
+use Rattle.rules.specs.Result.{Res, ok, err, and_then}
 use Rattle.rules.proofs.ResultLaws.{ok_inj, clash, on_then, on_refuse, then_ok, then_err}
 use Rattle.rules.specs.PageSets.{count, Within}
 use Rattle.rules.proofs.PageSetLaws.{count_append}
@@ -35,29 +38,10 @@ use Rattle.rules.proofs.Soundness.{scan_sound}
 use Rattle.directory.specs.declared.control.Root.{Root}
 use Rattle.directory.specs.declared.control.Root.TheVariants as root
 use Rattle.directory.specs.Faults.{control}
-use Rattle.rules.specs.declared.Checked.{Checked}
-use Rattle.rules.specs.declared.Checked.TheVariants as w
 use Rattle.walk.specs.Walks.{Answers, plus_directory, own_directory}
 use Rattle.volume.specs.Scans.{root_of, no_entries, MapClaimed, Scanned}
 use Rattle.chain.specs.KnownChain.{ChainAt}
 use Rattle.chain.proofs.Following.{chain_at_lem}
-
--- ---- page 0
-on_fault : {B C : Type 0} (t : Bool) (n p : ℕ) (r : Res B) (m q : ℕ) → and_after (refuse_unless t n p) r ≡ err m q → (p ≡ q → C) → (r ≡ err m q → C) → C
-unfolding and_then refuse_unless
-on_fault true n p r m q e f k = k e
-on_fault {B = B} false n p r m q e f k = f (ap told e)
-  where
-    told : Res B → ℕ
-    told (ok b) = p
-    told (err i j) = j
-
--- the control field's faults are told with page 0
-head_page : (g : Geometry) (b : List ℕ) (n p : ℕ) → head_of g b ≡ err n p → 0 ≡ p
-unfolding head_of
-head_page g b n p e =
-    on_fault _ _ _ _ n p e (λ q. q) λ e. on_fault _ _ _ _ n p e (λ q. q) λ e. on_fault _ _ _ _ n p e (λ q. q) λ e. on_fault _ _ _ _ n p e (λ q. q) λ e.
-    on_fault _ _ _ _ n p e (λ q. q) λ e. on_fault _ _ _ _ n p e (λ q. q) λ e. clash (sym e)
 
 -- a bitmap in the root is for few pages
 head_local : (g : Geometry) (b : List ℕ) (h : Head) → head_of g b ≡ ok h → h.local ≡ true → g.pages ≤ most_local
@@ -89,52 +73,51 @@ module _ (g : Geometry) (vs : Views) where
   unfolding scan scan_with
   from_head h k = simp (packet_good vs.pages 0 k.bytes k.next k.packet, then_ok, k.head)
 
-  -- the answer of the root's control field, by what stands in it
+  -- what the root's control field says
   pub data Said (r : Root) : Type 0 where
-    refused : (n : ℕ) → r ≡ root.Refused n → scan g vs ≡ err n 0 → Said r
     local : (h : Head) → IsHead h → r ≡ root.Local → h.local ≡ true → Said r
     remote : (h : Head) → IsHead h → r ≡ root.Remote (map_start g.width h) (map_count g.width h) → h.local ≡ false → Said r
-
-  bad_page : vs.pages 0 ≡ bad → scan g vs ≡ err 2 0
-  unfolding scan scan_with packet_at
-  bad_page e = simp (e, then_err)
-
-  bad_head : (b : List ℕ) (n k p : ℕ) → vs.pages 0 ≡ good b n → head_of g b ≡ err k p → scan g vs ≡ err k 0
-  unfolding scan scan_with
-  bad_head b n k p e q = let z : scan g vs ≡ err k p = simp (packet_good vs.pages 0 b n e, then_ok, q, then_err) in z ∙ ap (err k) (sym (head_page g b k p q))
 
   by_place : (r : Root) (h : Head) → IsHead h → (l : Bool) → h.local ≡ l → r ≡ choose l root.Local (root.Remote (map_start g.width h) (map_count g.width h)) → Said r
   by_place r h k true e q = local h k (q ∙ choose_true _ _) e
   by_place r h k false e q = remote h k (q ∙ choose_false _ _) e
 
-  by_head : (r : Root) (b : List ℕ) (n : ℕ) → vs.pages 0 ≡ good b n → (y : Res Head) → head_of g b ≡ y → r ≡ control g.width y → Said r
-  by_head r b n e (ok h) q i = by_place r h (record { bytes = b; next = n; packet = e; head = q }) h.local refl i
-  by_head r b n e (err k p) q i = refused k i (bad_head b n k p e q)
+  by_head : (r : Root) (b : List ℕ) (n : ℕ) → vs.pages 0 ≡ good b n → (y : Res Head) → head_of g b ≡ y → ok r ≡ control g.width y → Said r
+  by_head r b n e (ok h) q i = by_place r h (record { bytes = b; next = n; packet = e; head = q }) h.local refl (ok_inj i)
+  by_head r b n e (err k p) q i = clash (sym i)
 
-  by_packet : (r : Root) (x : Packet) → vs.pages 0 ≡ x → r ≡ root_of g x → Said r
-  by_packet r bad e q = refused 2 q (bad_page e)
+  by_packet : (r : Root) (x : Packet) → vs.pages 0 ≡ x → ok r ≡ root_of g x → Said r
+  by_packet r bad e q = clash (sym q)
   by_packet r (good b n) e q = by_head r b n e (head_of g b) refl q
 
-  pub said : (r : Root) → r ≡ root_of g (vs.pages 0) → Said r
+  pub said : (r : Root) → ok r ≡ root_of g (vs.pages 0) → Said r
   said r q = by_packet r (vs.pages 0) refl q
 
-  -- ---- the three cases
+  -- its refusal is the scan's
+  bad_page : vs.pages 0 ≡ bad → scan g vs ≡ err 2 0
+  unfolding scan scan_with packet_at
+  bad_page e = simp (e, then_err)
+
+  bad_head : (b : List ℕ) (n k p : ℕ) → vs.pages 0 ≡ good b n → head_of g b ≡ err k p → scan g vs ≡ err k p
+  unfolding scan scan_with
+  bad_head b n k p e q = simp (packet_good vs.pages 0 b n e, then_ok, q, then_err)
+
+  module _ (z : Refusal) where
+    by_field : (b : List ℕ) (n : ℕ) → vs.pages 0 ≡ good b n → (y : Res Head) → head_of g b ≡ y → refused z ≡ control g.width y → scan g vs ≡ refused z
+    by_field b n e (ok h) s q = clash q
+    by_field b n e (err k p) s q = bad_head b n k p e s ∙ same_refusal k p z (sym q)
+
+    by_view : (x : Packet) → vs.pages 0 ≡ x → refused z ≡ root_of g x → scan g vs ≡ refused z
+    by_view bad e q = bad_page e ∙ same_refusal 2 0 z (sym q)
+    by_view (good b n) e q = by_field b n e (head_of g b) refl q
+
+    pub root_refused : refused z ≡ root_of g (vs.pages 0) → scan g vs ≡ refused z
+    root_refused q = by_view (vs.pages 0) refl q
+
+  -- ---- the two cases
   abbrev told : Root → ℕ
   told root.Local = 0
   told (root.Remote a b) = 1
-  told (root.Refused n) = 2
-
-  pub scan_refused : (r : Root) (n : ℕ) → r ≡ root_of g (vs.pages 0) → r ≡ root.Refused n → scan g vs ≡ err n 0
-  scan_refused r n q i = elim (said r q) [
-    | refused m j k ↦ k ∙ ap (λ (x : Root). err (number x) 0) (sym j ∙ i)
-    | local h k j l ↦ absurd (let z : 0 ≡ 2 = ap told (sym j ∙ i) in omega arith)
-    | remote h k j l ↦ absurd (let z : 1 ≡ 2 = ap told (sym j ∙ i) in omega arith)
-  ]
-    where
-      number : Root → ℕ
-      number root.Local = 0
-      number (root.Remote a b) = 0
-      number (root.Refused n) = n
 
   pub record InRoot : Type 0 where
     pub head : Head
@@ -142,10 +125,9 @@ module _ (g : Geometry) (vs : Views) where
     pub scan_is : scan g vs ≡ rest head in_root
     pub few : g.pages ≤ most_local
 
-  pub scan_local : (r : Root) → r ≡ root_of g (vs.pages 0) → r ≡ root.Local → InRoot
+  pub scan_local : (r : Root) → ok r ≡ root_of g (vs.pages 0) → r ≡ root.Local → InRoot
   unfolding judge_map
   scan_local r q i = elim (said r q) [
-    | refused m j k ↦ absurd (let z : 2 ≡ 0 = ap told (sym j ∙ i) in omega arith)
     | local h k j l ↦ record { head = h; is_head = k; scan_is = from_head h k ∙ simp (l, choose_true, then_ok); few = head_local g k.bytes h k.head l }
     | remote h k j l ↦ absurd (let z : 1 ≡ 0 = ap told (sym j ∙ i) in omega arith)
   ]
@@ -154,10 +136,9 @@ module _ (g : Geometry) (vs : Views) where
     pub head : Head
     pub scan_is : scan g vs ≡ and_then (judge_map_file g vs (suc g.pages) start n) (rest head)
 
-  pub scan_remote : (r : Root) (start n : ℕ) → r ≡ root_of g (vs.pages 0) → r ≡ root.Remote start n → InFile start n
+  pub scan_remote : (r : Root) (start n : ℕ) → ok r ≡ root_of g (vs.pages 0) → r ≡ root.Remote start n → InFile start n
   unfolding judge_map
   scan_remote r start n q i = elim (said r q) [
-    | refused m j k ↦ absurd (let z : 2 ≡ 1 = ap told (sym j ∙ i) in omega arith)
     | local h k j l ↦ absurd (let z : 0 ≡ 1 = ap told (sym j ∙ i) in omega arith)
     | remote h k j l ↦
         let a : map_start g.width h ≡ start = ap place_start (sym j ∙ i) in
@@ -168,26 +149,24 @@ module _ (g : Geometry) (vs : Views) where
       place_start : Root → ℕ
       place_start root.Local = 0
       place_start (root.Remote a b) = a
-      place_start (root.Refused n) = 0
 
       place_count : Root → ℕ
       place_count root.Local = 0
       place_count (root.Remote a b) = b
-      place_count (root.Refused n) = 0
 
   -- ---- the scan from the root's walk
   same_totals : (a b c d e f : ℕ) → a ≡ d → b ≡ e → c ≡ f → ◌≡◌ {A = Totals} (record { used = a; files = b; directories = c }) (record { used = d; files = e; directories = f })
   same_totals a b c d e f p q r = λ i. record { used = p i; files = q i; directories = r i }
 
-  pub scan_from : (h : Head) (m : Map) → scan g vs ≡ rest h m → (n : ℕ) (t : List OwnerRecord) → n ≡ length (map_pages m) → t ≡ own 2 (map_pages m) (replicate g.pages free) → (r : Checked) (u : List OwnerRecord)
+  pub scan_from : (h : Head) (m : Map) → scan g vs ≡ rest h m → (n : ℕ) (t : List OwnerRecord) → n ≡ length (map_pages m) → t ≡ own 2 (map_pages m) (replicate g.pages free) → (r : Result Totals Refusal) (u : List OwnerRecord)
       → Answers (plus_directory (no_entries n)) (own_directory 1 0 t) (walked m) r u → Scanned g vs r u
-  scan_from h m e n t l z (w.Done d) u (i, a, b, k) = (
+  scan_from h m e n t l z (Ok d) u (i, a, b, k) = (
     record { image = record { tree = i; map = m }; raw = raw_bits h m },
     e ∙ simp (a, then_ok),
     b ∙ same_totals _ _ _ _ _ _ (omega (arith, l, length-append (all_pages i) (map_pages m), length-append (own_pages i) (inner_pages i))) (omega arith) (omega arith),
     k ∙ ap (λ (x : List OwnerRecord). own_directory 1 0 x i) z,
   )
-  scan_from h m e n t l z (w.Refused q p) u a = e ∙ simp (a, then_err)
+  scan_from h m e n t l z (Err x) u a = e ∙ simp (a, then_err)
 
 -- ---- a table with the bitmap file
 pub record Mapped (g : Geometry) (m : Map) (n : ℕ) (t : List OwnerRecord) : Type 0 where
@@ -212,10 +191,10 @@ pub record FileMapped (g : Geometry) (vs : Views) (start count n : ℕ) (u : Lis
   pub inside : Within g.pages (map_pages map)
   pub some : 1 ≤ n
 
-pub file_mapped : (g : Geometry) (vs : Views) (start count : ℕ) (r : Checked) (u : List OwnerRecord) (d : Totals) → MapClaimed g vs start count r u → r ≡ w.Done d → FileMapped g vs start count d.used u
+pub file_mapped : (g : Geometry) (vs : Views) (start count : ℕ) (r : Result Totals Refusal) (u : List OwnerRecord) (d : Totals) → MapClaimed g vs start count r u → r ≡ Ok d → FileMapped g vs start count d.used u
 unfolding judge_map_file MapClaimed
 file_mapped g vs start count r u d k i =
-    let a : MapClaimed g vs start count (w.Done d) u = subst (λ (x : Checked). MapClaimed g vs start count x u) i k in
+    let a : MapClaimed g vs start count (Ok d) u = subst (λ (x : Result Totals Refusal). MapClaimed g vs start count x u) i k in
     let n : d.used ≡ length (map_pages a.0) = ap (λ (x : Totals). x.used) a.2 in
     on_refuse _ _ _ _ _ a.1 λ g₁ q. on_then _ _ _ q λ ls y q. on_refuse _ _ _ _ _ q λ g₂ q. on_refuse _ _ _ _ _ q λ g₃ q.
     let c = walk_sound g.pages vs.pages any_page (suc g.pages) 0 [] 0 start ls (λ z. omega arith) y in
@@ -229,9 +208,9 @@ file_mapped g vs start count r u d k i =
       some = omega (arith, n, ap (λ (x : Map). length (map_pages x)) m, length_pages ls, c.some);
     }
 
-pub map_refused_is : (g : Geometry) (vs : Views) (start count : ℕ) (r : Checked) (u : List OwnerRecord) (n p : ℕ) → MapClaimed g vs start count r u → r ≡ w.Refused n p → judge_map_file g vs (suc g.pages) start count ≡ err n p
+pub map_refused_is : (g : Geometry) (vs : Views) (start count : ℕ) (r : Result Totals Refusal) (u : List OwnerRecord) (z : Refusal) → MapClaimed g vs start count r u → r ≡ Err z → judge_map_file g vs (suc g.pages) start count ≡ refused z
 unfolding MapClaimed
-map_refused_is g vs start count r u n p k i = subst (λ (x : Checked). MapClaimed g vs start count x u) i k
+map_refused_is g vs start count r u z k i = subst (λ (x : Result Totals Refusal). MapClaimed g vs start count x u) i k
 
 pub file_refused : (g : Geometry) (vs : Views) (start count n p : ℕ) → InFile g vs start count → judge_map_file g vs (suc g.pages) start count ≡ err n p → scan g vs ≡ err n p
 file_refused g vs start count n p k e = k.scan_is ∙ ap (λ (x : Res Map). and_then x (rest g vs k.head)) e ∙ then_err n p (rest g vs k.head)
@@ -240,38 +219,44 @@ pub file_scan : (g : Geometry) (vs : Views) (start count n : ℕ) (u : List Owne
 file_scan g vs start count n u k m = k.scan_is ∙ ap (λ (x : Res Map). and_then x (rest g vs k.head)) m.map_is ∙ then_ok m.map (rest g vs k.head)
 
 -- ---- page 0 as the code reads it
-pub root_page_lem : (g : Geometry) (image : List ℕ) (p : ℕ) (page : List ℕ) (j : Judged) → page ≡ page_of g p image → j ≡ judged (packet_of g.width p page) → j ≡ judged (packet_of g.width p (page_of g p image))
-root_page_lem g image p page j e q = q ∙ ap (λ (x : List ℕ). judged (packet_of g.width p x)) e
+pub page_same : (g : Geometry) (p : ℕ) {page q : List ℕ} → page ≡ q → judged (packet_of g.width p page) ≡ judged (packet_of g.width p q)
+page_same g p e = ap (λ (x : List ℕ). judged (packet_of g.width p x)) e
 
-pub root_bad : (g : Geometry) (x : Packet) → Bad ≡ judged x → root.Refused 2 ≡ root_of g x
-root_bad g bad e = refl
-root_bad g (good b n) e = absurd (let z : ◌≡◌ {A = ℕ} 0 1 = cc in omega arith)
+module _ (g : Geometry) (p : ℕ) (page : List ℕ) (r : Option Whole) (e : r ≡ judged (packet_of g.width p page)) where
+  pub root_bad : r ≡ None → err 2 0 ≡ root_of g (packet_of g.width p page)
+  root_bad z = go (packet_of g.width p page) (sym z ∙ e)
+    where
+      go : (x : Packet) → None ≡ judged x → err 2 0 ≡ root_of g x
+      go bad e = refl
+      go (good b n) e = absurd (let z : ◌≡◌ {A = ℕ} 0 1 = cc in omega arith)
 
-pub root_good : (g : Geometry) (p : ℕ) (page : List ℕ) (l n : ℕ) → Whole l n ≡ judged (packet_of g.width p page) → (d from : List ℕ) → d ≡ take l (drop 1 from) → from ≡ page → (r : Root) → r ≡ control g.width (head_of g d)
-    → (r ≡ root_of g (packet_of g.width p page))
-root_good g p page l n e d from i f r q = go (packet_of g.width p page) refl e
-  where
-    go : (x : Packet) → packet_of g.width p page ≡ x → Whole l n ≡ judged x → r ≡ root_of g x
-    go bad y e = absurd (let z : ◌≡◌ {A = ℕ} 0 1 = cc in omega arith)
-    go (good b m) y e =
-        let k = right_packet g.width p page b m y in
-        let j : l ≡ length b = ap size e in
-        q ∙ ap (λ (a : List ℕ). control g.width (head_of g a)) (i ∙ ap (λ (a : List ℕ). take l (drop 1 a)) f ∙ ap (λ (a : ℕ). take a (drop 1 page)) j ∙ sym k.bytes_are)
+  module _ (w : Whole) (m : r ≡ Some w) where
+    -- its packet
+    record There : Type 0 where
+      pub bytes : List ℕ
+      pub packet : packet_of g.width p page ≡ good bytes w.next
+      pub long : w.length ≡ length bytes
+
+    there : There
+    there = go (packet_of g.width p page) refl (sym m ∙ e)
       where
-        size : Judged → ℕ
-        size Bad = 0
-        size (Whole a b) = a
+        go : (x : Packet) → packet_of g.width p page ≡ x → Some w ≡ judged x → There
+        go bad y e = absurd (let z : ◌≡◌ {A = ℕ} 0 1 = cc in omega arith)
+        go (good b n) y e =
+            let k : w ≡ record { length = length b; next = n } = cc in
+            record { bytes = b; packet = y ∙ ap (good b) (sym (ap (λ (q : Whole). q.next) k)); long = ap (λ (q : Whole). q.length) k }
 
-pub page_fits : (g : Geometry) (p : ℕ) (page : List ℕ) (l n : ℕ) → Whole l n ≡ judged (packet_of g.width p page) → l + 1 ≤ length page
-page_fits g p page l n e = go (packet_of g.width p page) refl e
-  where
-    size : Judged → ℕ
-    size Bad = 0
-    size (Whole a b) = a
+    right : Right g.width page there.bytes w.next
+    right = right_packet g.width p page there.bytes w.next there.packet
 
-    go : (x : Packet) → packet_of g.width p page ≡ x → Whole l n ≡ judged x → l + 1 ≤ length page
-    go bad y e = absurd (let z : ◌≡◌ {A = ℕ} 0 1 = cc in omega arith)
-    go (good b m) y e = omega (arith, (right_packet g.width p page b m y).room, ap size e)
+    pub page_fits : w.length + 1 ≤ length page
+    page_fits = omega (arith, right.room, there.long)
+
+    pub root_good : (d from : List ℕ) → d ≡ take w.length (drop 1 from) → from ≡ page → (x : Result Root Refusal) → answer_of x ≡ control g.width (head_of g d)
+        → answer_of x ≡ root_of g (packet_of g.width p page)
+    root_good d from i f x q =
+        let j : d ≡ there.bytes = i ∙ ap (λ (a : List ℕ). take w.length (drop 1 a)) f ∙ ap (λ (a : ℕ). take a (drop 1 page)) there.long ∙ sym right.bytes_are in
+        q ∙ ap (λ (a : List ℕ). control g.width (head_of g a)) j ∙ sym (ap (root_of g) there.packet)
 
 -- ---- the bitmap's bytes as they stand
 -- in the root: the four bytes of the control field

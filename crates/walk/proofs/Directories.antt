@@ -1,4 +1,5 @@
 -- A directory whose chain was claimed, and the answer for all of it from the answer for its entries.
+use Rattle.std.specs.Prelude.{Result, Ok, Err}
 use mathlib.Core.Path.{◌≡◌, sym, subst}
 use mathlib.Core.List.{List, [], ◌++◌}
 use Prim.Native.Nat.{ℕ, suc, ◌+◌, ◌≤◌}
@@ -6,7 +7,7 @@ use lib.ListN.{length}
 use Rattle.geometry.specs.declared.Geometry.{Geometry}
 use Rattle.packet.specs.Packet.{View}
 use Rattle.rules.specs.declared.Totals.{Totals}
-use Rattle.rules.specs.Result.{Res, err}
+use Rattle.rules.specs.Result.{Res}
 use Rattle.rules.specs.PageSets.{Within}
 use Rattle.rules.proofs.PageSetLaws.{count_append}
 use Rattle.rules.specs.Chain.{Views, Link, pages, Test, walk}
@@ -16,34 +17,34 @@ use Rattle.owners.specs.Owned.{Represents}
 use Rattle.owners.specs.OwnerLaws.{represents_own, represents_within, in_use, taken, represents_taken}
 use Rattle.rules.specs.Check.{judge_directory, judge_sub}
 use Rattle.chain.specs.declared.Claim.{Claim}
-use Rattle.chain.specs.declared.Claim.TheVariants as claim
 use Rattle.chain.specs.Claims.{Claims}
 use Rattle.chain.specs.KnownChain.{ChainAt, KnownChain}
 use Rattle.chain.proofs.Following.{chain_at_lem}
-use Rattle.rules.specs.declared.Checked.{Checked}
-use Rattle.rules.specs.declared.Checked.TheVariants as w
+use Rattle.refusals.specs.declared.Refusal.{Refusal}
+use Rattle.rules.specs.Answers.{refused}
 use Rattle.walk.specs.Walks.{Good, Ready, DirectoryWalked}
 use Rattle.walk.proofs.Parts.{IsClaimed, claimed_chain, claim_refused, claim_few}
 use Rattle.walk.proofs.Steps.{good_chain, directory_refused, directory_rest}
 use Rattle.walk.proofs.Left.{here, Whole}
 
 -- its chain was refused
-pub refused_directory : (g : Geometry) (vs : Views) (test : Test) (owner from start : ℕ) (t u : List OwnerRecord) (r : Claim) → Claims g vs.pages test owner from start t r u
-    → (levels name m p : ℕ) → r ≡ claim.Refused m p → (claimed : List ℕ) → Represents t claimed
-    → judge_directory g vs (suc g.pages) (judge_sub g vs (suc g.pages) levels) test (here g vs levels name start) claimed from ≡ err m p
-refused_directory g vs test owner from start t u r k levels name m p i claimed h =
-    directory_refused g vs levels test (here g vs levels name start) claimed from m p (claim_refused (walk g.pages vs.pages test (suc g.pages) 0 claimed from start) owner m p t u r (k claimed h) i)
+pub refused_directory : (g : Geometry) (vs : Views) (test : Test) (owner from start : ℕ) (t u : List OwnerRecord) (r : Result Claim Refusal) → Claims g vs.pages test owner from start t r u
+    → (levels name : ℕ) (z : Refusal) → r ≡ Err z → (claimed : List ℕ) → Represents t claimed
+    → judge_directory g vs (suc g.pages) (judge_sub g vs (suc g.pages) levels) test (here g vs levels name start) claimed from ≡ refused z
+refused_directory g vs test owner from start t u r k levels name z i claimed h =
+    directory_refused g vs levels test (here g vs levels name start) claimed from _ _ (claim_refused (walk g.pages vs.pages test (suc g.pages) 0 claimed from start) owner z t u r (k claimed h) i)
 
 -- its chain of n pages was claimed, with the totals c before, the table t before and u after it
 pub record Claimed (g : Geometry) (v : View) (test : Test) (owner from start n : ℕ) (c : Totals) (t u : List OwnerRecord) : Type 0 where
   pub bytes : ℕ
-  pub answer : Claim
+  pub answer : Result Claim Refusal
   pub claims : Claims g v test owner from start t answer u
-  pub is : answer ≡ claim.Chain n bytes
+  pub is : answer ≡ Ok (record { pages = n; bytes = bytes })
   pub long : length t ≡ g.pages
   pub ready : Ready g c owner t
 
-pub is_claimed : {g : Geometry} (v : View) (test : Test) {owner : ℕ} (from start : ℕ) {n b : ℕ} {c : Totals} {t : List OwnerRecord} (u : List OwnerRecord) {r : Claim} → Claims g v test owner from start t r u → r ≡ claim.Chain n b
+pub is_claimed : {g : Geometry} (v : View) (test : Test) {owner : ℕ} (from start : ℕ) {n b : ℕ} {c : Totals} {t : List OwnerRecord} (u : List OwnerRecord)
+    {r : Result Claim Refusal} → Claims g v test owner from start t r u → r ≡ Ok (record { pages = n; bytes = b })
     → length t ≡ g.pages → Ready g c owner t → Claimed g v test owner from start n c t u
 is_claimed v test from start {b = b} u {r} k i l a = record { bytes = b; answer = r; claims = k; is = i; long = l; ready = a }
 
@@ -85,7 +86,7 @@ module _ {g : Geometry} {v : View} {test : Test} {owner from start n : ℕ} {c :
 -- in any views: its chain is read as a directory's
 module _ {g : Geometry} (vs : Views) {test : Test} {owner from start n : ℕ} {c : Totals} {t u : List OwnerRecord} (C : Claimed g vs.pages test owner from start n c t u) where
   -- an answer for the entries of every such chain answers the directory
-  whole_directory : (levels name : ℕ) (x : Checked) (y : List OwnerRecord)
+  whole_directory : (levels name : ℕ) (x : Result Totals Refusal) (y : List OwnerRecord)
       → ((others : List ℕ) (ls : List Link) → Represents u others → ChainAt g vs.pages start ls → Whole g vs levels name start (begun C) u others ls x y)
       → DirectoryWalked g vs levels test name start from owner c t x y
   whole_directory levels name x y z claimed h =
@@ -97,11 +98,11 @@ module _ {g : Geometry} (vs : Views) {test : Test} {owner from start n : ℕ} {c
       (z all ls (subst (λ (q : List OwnerRecord). Represents q all) (sym f.table_is) (owned C claimed h)) (stands C claimed h)))
 
   pub whole_done : (levels name : ℕ) (d : Totals) (y : List OwnerRecord)
-      → ((others : List ℕ) (ls : List Link) → Represents u others → ChainAt g vs.pages start ls → Whole g vs levels name start (begun C) u others ls (w.Done d) y)
-      → DirectoryWalked g vs levels test name start from owner c t (w.Done d) y
-  whole_done levels name d y = whole_directory levels name (w.Done d) y
+      → ((others : List ℕ) (ls : List Link) → Represents u others → ChainAt g vs.pages start ls → Whole g vs levels name start (begun C) u others ls (Ok d) y)
+      → DirectoryWalked g vs levels test name start from owner c t (Ok d) y
+  whole_done levels name d y = whole_directory levels name (Ok d) y
 
-  pub whole_refused : (levels name m p : ℕ)
-      → ((others : List ℕ) (ls : List Link) → Represents u others → ChainAt g vs.pages start ls → Whole g vs levels name start (begun C) u others ls (w.Refused m p) [])
-      → DirectoryWalked g vs levels test name start from owner c t (w.Refused m p) []
-  whole_refused levels name m p = whole_directory levels name (w.Refused m p) []
+  pub whole_refused : (levels name : ℕ) (z : Refusal)
+      → ((others : List ℕ) (ls : List Link) → Represents u others → ChainAt g vs.pages start ls → Whole g vs levels name start (begun C) u others ls (Err z) [])
+      → DirectoryWalked g vs levels test name start from owner c t (Err z) []
+  whole_refused levels name z = whole_directory levels name (Err z) []

@@ -1,4 +1,5 @@
 -- The walk over a directory's entries as the code goes: a place in the chain, what was met, and that whatever answers what is left answers all.
+use Rattle.std.specs.Prelude.{Result, Ok, Err}
 use mathlib.Core.Path.{◌≡◌, refl, ap, ap₂, sym, ◌∙◌, subst}
 use mathlib.Core.Bool.{true, false, false≢true}
 use mathlib.Core.List.{List, [], ◌∷◌, ◌++◌, append_assoc, append-nil}
@@ -34,8 +35,8 @@ use Rattle.entries.proofs.TokenLaws.{token_keys, token_keys_lem, keys_pages, key
 use Rattle.entries.proofs.KeyLaws.{plain_key, extended_key}
 use Rattle.entries.proofs.Stepping.{ReadAhead, read_on, read_ahead}
 use Rattle.entries.proofs.ItemLaws.{extended_answer, page_ends, page_goes_on}
-use Rattle.rules.specs.declared.Checked.{Checked}
-use Rattle.rules.specs.declared.Checked.TheVariants as w
+use Rattle.refusals.specs.declared.Refusal.{Refusal}
+use Rattle.refusals.specs.declared.Fault.TheVariants.{Extension}
 use Rattle.rules.specs.Owners.{OwnerRecord}
 use Rattle.walk.specs.Walks.{Good, Answers, plus_part, own_part, Met, EntryWalked}
 use Rattle.walk.proofs.Steps.{represents_part, good_part, Rest, rest_end, rest_page, rest_pages, rest_stamp, rest_loose, rest_refused, rest_entry}
@@ -52,11 +53,11 @@ module _ (g : Geometry) (vs : Views) (levels name start : ℕ) where
   abbrev pub here : Parent
   here = record { name = name; start = start }
 
-  abbrev pub LeftOver : List ℕ → ℕ → List ℕ → List Token → Totals → List OwnerRecord → Checked → List OwnerRecord → Type 0
+  abbrev pub LeftOver : List ℕ → ℕ → List ℕ → List Token → Totals → List OwnerRecord → Result Totals Refusal → List OwnerRecord → Type 0
   LeftOver = Rest g vs (judge_sub g vs (suc g.pages) levels) here
 
   -- all entries of a chain, whose walk begins with these totals, this table and these pages claimed
-  abbrev pub Whole : Totals → List OwnerRecord → List ℕ → List Link → Checked → List OwnerRecord → Type 0
+  abbrev pub Whole : Totals → List OwnerRecord → List ℕ → List Link → Result Totals Refusal → List OwnerRecord → Type 0
   Whole c t claimed ls = LeftOver claimed start [] (link_tokens g (control_size g) ls) c t
 
   -- after m entries of the chain ls₀
@@ -72,7 +73,7 @@ module _ (g : Geometry) (vs : Views) (levels name start : ℕ) where
     pub keys_are : chain_keys g (control_size g) ls₀ ≡ before ++ token_keys ts
     pub met : length before ≡ m
     pub same : (k : ℕ) → PlainKey k → count k seen ≡ count k before
-    pub finish : (r : Checked) (u : List OwnerRecord) → LeftOver claimed s.page seen ts c t r u → Whole c₀ t₀ claimed₀ ls₀ r u
+    pub finish : (r : Result Totals Refusal) (u : List OwnerRecord) → LeftOver claimed s.page seen ts c t r u → Whole c₀ t₀ claimed₀ ls₀ r u
 
 same_left : {g : Geometry} {vs : Views} {levels name start : ℕ} {c₀ : Totals} {t₀ : List OwnerRecord} {claimed₀ : List ℕ} {ls₀ : List Link} {t t' : List OwnerRecord} {c c' : Totals} {s s' : Slot} {m m' : ℕ}
     → t ≡ t' → c ≡ c' → s ≡ s' → m ≡ m'
@@ -125,12 +126,12 @@ module _ {g : Geometry} {vs : Views} {levels name start : ℕ} {c₀ : Totals} {
       (ls₀, chain, omega (arith, all_keys), ap (ltb 0) (same k p) ∙ ap (mem k) (sym (take-append_seam before (token_keys ts))) ∙ ap₂ (λ (i : ℕ) (l : List ℕ). mem k (take i l)) met (sym keys_are))
 
   -- no entry is left
-  pub left_done : ((ts : List Token) → TokensAt g vs.pages s ts → NoEntry ts) → Whole g vs levels name start c₀ t₀ claimed₀ ls₀ (w.Done c) t
+  pub left_done : ((ts : List Token) → TokensAt g vs.pages s ts → NoEntry ts) → Whole g vs levels name start c₀ t₀ claimed₀ ls₀ (Ok c) t
   left_done n =
       let o = n ts ahead in
       let all : page_tokens o.pages ++ [] ≡ ts = append-nil (page_tokens o.pages) ∙ sym o.are in
-      finish (w.Done c) t (subst (λ (x : List Token). LeftOver g vs levels name start claimed s.page seen x c t (w.Done c) t) all
-      (rest_pages g vs sub dir claimed s.page seen o.pages [] c t (w.Done c) t
+      finish (Ok c) t (subst (λ (x : List Token). LeftOver g vs levels name start claimed s.page seen x c t (Ok c) t) all
+      (rest_pages g vs sub dir claimed s.page seen o.pages [] c t (Ok c) t
       (rest_end g vs sub dir claimed _ seen c t)))
 
   -- where there is a next entry, the chain has more
@@ -154,7 +155,7 @@ module _ {g : Geometry} {vs : Views} {levels name start : ℕ} {c₀ : Totals} {
     keys_read : token_keys ts ≡ key e.name e.extension ∷ token_keys read.later
     keys_read = ap token_keys read.split ∙ keys_pages read.pages (entry e ∷ read.later)
 
-    on_tokens : (r : Checked) (u : List OwnerRecord) → LeftOver g vs levels name start claimed at.page seen (entry e ∷ read.later) c t r u → Whole g vs levels name start c₀ t₀ claimed₀ ls₀ r u
+    on_tokens : (r : Result Totals Refusal) (u : List OwnerRecord) → LeftOver g vs levels name start claimed at.page seen (entry e ∷ read.later) c t r u → Whole g vs levels name start c₀ t₀ claimed₀ ls₀ r u
     on_tokens r u z =
         let later = entry e ∷ read.later in
         finish r u (subst (λ (x : List Token). LeftOver g vs levels name start claimed s.page seen x c t r u) (sym read.split)
@@ -202,8 +203,8 @@ module _ {g : Geometry} {vs : Views} {levels name start : ℕ} {c₀ : Totals} {
     left_stamp k f j = same_left refl refl past (sym j) (stamped (page_goes_on stamp_read.ahead (λ q. f (ap (λ (x : Slot). x.at) past ∙ q ∙ sym (ap (λ (x : Slot). x.count) past)))))
 
     -- that none follows
-    pub left_loose : (u : List OwnerRecord) → s'.at ≡ s'.count → Whole g vs levels name start c₀ t₀ claimed₀ ls₀ (w.Refused 10 at.page) u
-    left_loose u f = on_tokens stamp_read (w.Refused 10 at.page) u
+    pub left_loose : (u : List OwnerRecord) → s'.at ≡ s'.count → Whole g vs levels name start c₀ t₀ claimed₀ ls₀ (Err (record { 0 = Extension; 1 = at.page })) u
+    left_loose u f = on_tokens stamp_read (Err (record { 0 = Extension; 1 = at.page })) u
         (rest_loose g vs sub dir claimed at.page seen stamp_here.stamp stamp_here.is_extended stamp_read.later c t
         (page_ends stamp_read.ahead (sym (ap (λ (x : Slot). x.at) past) ∙ f ∙ ap (λ (x : Slot). x.count) past)) u)
 
@@ -212,16 +213,16 @@ module _ {g : Geometry} {vs : Views} {levels name start : ℕ} {c₀ : Totals} {
     abbrev read : ReadAhead g vs.pages s ts at e
     read = read_ahead n i ts ahead
 
-    module _ (r : Checked) (u : List OwnerRecord) (z : EntryWalked g vs levels name start at.page m e c t r u) where
+    module _ (r : Result Totals Refusal) (u : List OwnerRecord) (z : EntryWalked g vs levels name start at.page m e c t r u) where
       abbrev rule : Res Part
       rule = judge_entry g vs (suc g.pages) sub dir claimed at.page seen e
 
-      answered : (x : Checked) → r ≡ x → Answers (plus_part c) (own_part (c.files + c.directories) t) rule x u
-      answered x o = subst (λ (x : Checked). Answers (plus_part c) (own_part (c.files + c.directories) t) rule x u) o (z claimed seen represents (met_names (key_here read) (plain_key e (key_here read) plain refl)))
+      answered : (x : Result Totals Refusal) → r ≡ x → Answers (plus_part c) (own_part (c.files + c.directories) t) rule x u
+      answered x o = subst (λ (x : Result Totals Refusal). Answers (plus_part c) (own_part (c.files + c.directories) t) rule x u) o (z claimed seen represents (met_names (key_here read) (plain_key e (key_here read) plain refl)))
 
-      pub left_refused : (n p : ℕ) → r ≡ w.Refused n p → Whole g vs levels name start c₀ t₀ claimed₀ ls₀ (w.Refused n p) u
-      left_refused n p o =
-          on_tokens read (w.Refused n p) u (rest_refused g vs sub dir claimed at.page seen e plain read.later c t n p u (answered (w.Refused n p) o))
+      pub left_refused : (z : Refusal) → r ≡ Err z → Whole g vs levels name start c₀ t₀ claimed₀ ls₀ (Err z) u
+      left_refused z o =
+          on_tokens read (Err z) u (rest_refused g vs sub dir claimed at.page seen e plain read.later c t z u (answered (Err z) o))
 
       module _ (l : length t ≡ g.pages) where
         entered : (x : Part) → rule ≡ ok x → Left g vs levels name start c₀ t₀ claimed₀ ls₀ (own_part (c.files + c.directories) t x) (plus_part c x) (advanced at) (m + 1)
@@ -245,8 +246,8 @@ module _ {g : Geometry} {vs : Views} {levels name start : ℕ} {c₀ : Totals} {
             }
 
         -- past it, with one entry less to go
-        pub left_entry : (d : Totals) → r ≡ w.Done d → (s' : Slot) (n : ℕ) → s' ≡ advanced at → m + 1 ≡ n → Left g vs levels name start c₀ t₀ claimed₀ ls₀ u d s' n
-        left_entry d o s' n y h = let a = answered (w.Done d) o in same_left a.3 a.2 y (sym h) (entered a.0 a.1)
+        pub left_entry : (d : Totals) → r ≡ Ok d → (s' : Slot) (n : ℕ) → s' ≡ advanced at → m + 1 ≡ n → Left g vs levels name start c₀ t₀ claimed₀ ls₀ u d s' n
+        left_entry d o s' n y h = let a = answered (Ok d) o in same_left a.3 a.2 y (sym h) (entered a.0 a.1)
 
 -- for the code's own needs: one list of claimed pages and one chain
 pub witness : {g : Geometry} {vs : Views} {levels name start : ℕ} {c₀ : Totals} {t₀ t : List OwnerRecord} {c : Totals} {s : Slot} {m : ℕ} (k : KnownChain g vs.pages start)

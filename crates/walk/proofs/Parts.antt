@@ -1,4 +1,5 @@
 -- One entry, as the code takes it: its label and name, a subdirectory's entry, a file.
+use Rattle.std.specs.Prelude.{Result, Ok, Err}
 use mathlib.Core.Path.{◌≡◌, refl, ap, ap₂, sym, ◌∙◌, subst}
 use mathlib.Core.Bool.{Bool, true, false, not}
 use mathlib.Core.List.{List, ◌++◌}
@@ -27,41 +28,32 @@ use Rattle.owners.specs.OwnerLaws.{in_use, in_use_le, taken, represents_taken, r
 use Rattle.rules.specs.Check.{Part, chain, directory, judge_label, judge_file, judge_entry, judge_directory, judge_sub}
 use Rattle.rules.specs.Control.{Parent, sub_page}
 use Rattle.directory.specs.declared.control.Kind.TheVariants as kind
-use Rattle.directory.specs.Faults.{fault_at, test_of}
+use Rattle.directory.specs.Faults.{test_of}
 use Rattle.chain.specs.declared.Claim.{Claim}
-use Rattle.chain.specs.declared.Claim.TheVariants as claim
 use Rattle.chain.specs.Claims.{Agrees, Claims}
 use Rattle.entries.specs.EntrySlots.{chain_keys, Repeats}
-use Rattle.rules.specs.declared.Checked.{Checked}
-use Rattle.rules.specs.declared.Checked.TheVariants as w
+use Rattle.refusals.specs.declared.Refusal.{Refusal}
+use Rattle.refusals.specs.declared.Fault.TheVariants.{Twice, Depth, Count, PageNumber}
+use Rattle.rules.specs.Answers.{refused}
 use Rattle.walk.specs.Walks.{Good, Ready, Answers, plus_directory, plus_part, own_directory, own_part, judge_first, judge_below, Met}
-
-pub fault_err : (n p : ℕ) → (n ≡ 0 → ⊥) → fault_at n p ≡ err n p
-unfolding fault_at
-fault_err zero p h = absurd (h refl)
-fault_err (suc n) p h = refl
-
-pub fault_none : (n p : ℕ) → n ≡ 0 → fault_at n p ≡ ok tt
-unfolding fault_at
-fault_none n p h = rw h refl
 
 -- ---- label and name
 pub met_before : (g : Geometry) (v : View) (start m k j : ℕ) (seen : List ℕ) (r : Bool) → j ≡ k → Repeats g v start m j r → Met g v start m k seen → r ≡ mem k seen
 met_before g v start m k j seen r e h q = h q.0 q.1 q.2 ∙ ap (λ (i : ℕ). mem i (take m (chain_keys g (control_size g) q.0))) e ∙ sym q.3
 
-module _ (p : ℕ) (seen : List ℕ) (e : Entry) (f : ℕ) (h : judge_label p e ≡ fault_at f p) where
-  pub first_label : (f ≡ 0 → ⊥) → judge_first p seen e ≡ fault_at f p
+module _ (p : ℕ) (seen : List ℕ) (e : Entry) where
+  pub first_label : (z : Refusal) → refused z ≡ judge_label p e → refused z ≡ judge_first p seen e
   unfolding judge_first
-  first_label n = simp (h, fault_err f p n, then_err)
+  first_label z h = simp (← h, then_err)
 
-  module _ (z : f ≡ 0) (r : Bool) (q : r ≡ mem (key e.name e.extension) seen) where
-    pub first_met : r ≡ true → judge_first p seen e ≡ fault_at 11 p
-    unfolding judge_first fault_at
-    first_met t = let m : mem (key e.name e.extension) seen ≡ true = sym q ∙ t in simp (h, fault_none f p z, then_ok, m, refuse_false)
+  module _ (h : ok tt ≡ judge_label p e) (r : Bool) (q : r ≡ mem (key e.name e.extension) seen) where
+    pub first_met : r ≡ true → refused (record { 0 = Twice; 1 = p }) ≡ judge_first p seen e
+    unfolding judge_first
+    first_met t = let m : mem (key e.name e.extension) seen ≡ true = sym q ∙ t in simp (← h, then_ok, m, refuse_false)
 
-    pub first_new : r ≡ false → judge_first p seen e ≡ fault_at 0 p
-    unfolding judge_first fault_at
-    first_new t = let m : mem (key e.name e.extension) seen ≡ false = sym q ∙ t in simp (h, fault_none f p z, then_ok, m, refuse_true)
+    pub first_new : r ≡ false → ok tt ≡ judge_first p seen e
+    unfolding judge_first
+    first_new t = let m : mem (key e.name e.extension) seen ≡ false = sym q ∙ t in simp (← h, then_ok, m, refuse_true)
 
 -- ---- a subdirectory's entry
 below_step : (levels p : ℕ) (e : Entry) → (levels ≡ 0 → ⊥) → judge_below levels p e ≡ and_then (refuse_unless (eqb e.pages 0) 8 p) (λ _. refuse_unless (ltb 0 e.start) 6 p)
@@ -70,28 +62,25 @@ below_step zero p e h = absurd (h refl)
 below_step (suc levels) p e h = refl
 
 module _ (levels p : ℕ) (e : Entry) where
-  pub below_deep : levels ≡ 0 → judge_below levels p e ≡ fault_at 12 p
-  unfolding judge_below fault_at
+  pub below_deep : levels ≡ 0 → refused (record { 0 = Depth; 1 = p }) ≡ judge_below levels p e
+  unfolding judge_below
   below_deep z = rw z refl
 
   module _ (s : levels ≡ 0 → ⊥) where
-    pub below_counted : (e.pages ≡ 0 → ⊥) → judge_below levels p e ≡ fault_at 8 p
-    unfolding fault_at
+    pub below_counted : (e.pages ≡ 0 → ⊥) → refused (record { 0 = Count; 1 = p }) ≡ judge_below levels p e
     below_counted n = simp (below_step levels p e s, ne_eqb e.pages 0 n, refuse_false, then_err)
 
     module _ (q : e.pages ≡ 0) where
-      pub below_none : e.start ≡ 0 → judge_below levels p e ≡ fault_at 6 p
-      unfolding fault_at
+      pub below_none : e.start ≡ 0 → refused (record { 0 = PageNumber; 1 = p }) ≡ judge_below levels p e
       below_none z = simp (below_step levels p e s, eq-eqb e.pages 0 q, refuse_true, then_ok, le-ltb 0 e.start (omega arith), refuse_false)
 
-      pub below_good : (e.start ≡ 0 → ⊥) → judge_below levels p e ≡ fault_at 0 p
-      unfolding fault_at
+      pub below_good : (e.start ≡ 0 → ⊥) → ok tt ≡ judge_below levels p e
       below_good n = simp (below_step levels p e s, eq-eqb e.pages 0 q, refuse_true, then_ok, lt-ltb 0 e.start (omega arith), refuse_true)
 
-pub below_some : (levels p : ℕ) (e : Entry) (k : ℕ) → judge_below levels p e ≡ fault_at k p → k ≡ 0 → 0 < levels
+pub below_some : (levels p : ℕ) (e : Entry) → ok tt ≡ judge_below levels p e → 0 < levels
 unfolding judge_below
-below_some zero p e k h z = clash (h ∙ fault_none k p z)
-below_some (suc levels) p e k h z = omega arith
+below_some zero p e h = clash (sym h)
+below_some (suc levels) p e h = omega arith
 
 -- ---- a file
 pub test_file : (g : Geometry) → test_of g kind.File ≡ any_page
@@ -121,16 +110,16 @@ pub record IsClaimed (walked : Res (List Link)) (owner n b : ℕ) (t u : List Ow
   pub bytes_are : b ≡ length (content links)
   pub table_is : u ≡ own owner (pages links) t
 
-pub claimed_chain : (walked : Res (List Link)) (owner n b : ℕ) (t u : List OwnerRecord) (r : Claim) → Agrees 0 0 owner t walked r u → r ≡ claim.Chain n b → IsClaimed walked owner n b t u
+pub claimed_chain : (walked : Res (List Link)) (owner n b : ℕ) (t u : List OwnerRecord) (r : Result Claim Refusal) → Agrees 0 0 owner t walked r u → r ≡ Ok (record { pages = n; bytes = b }) → IsClaimed walked owner n b t u
 claimed_chain walked owner n b t u r k i =
-    let a : Agrees 0 0 owner t walked (claim.Chain n b) u = subst (λ (x : Claim). Agrees 0 0 owner t walked x u) i k in
+    let a : Agrees 0 0 owner t walked (Ok (record { pages = n; bytes = b })) u = subst (λ (x : Result Claim Refusal). Agrees 0 0 owner t walked x u) i k in
     record { links = a.0; chain_is = a.1; pages_are = omega (arith, a.2); bytes_are = omega (arith, a.3); table_is = a.4 }
 
-pub claim_refused : (walked : Res (List Link)) (owner n p : ℕ) (t u : List OwnerRecord) (r : Claim) → Agrees 0 0 owner t walked r u → r ≡ claim.Refused n p → walked ≡ err n p
-claim_refused walked owner n p t u r k i = subst (λ (x : Claim). Agrees 0 0 owner t walked x u) i k
+pub claim_refused : (walked : Res (List Link)) (owner : ℕ) (z : Refusal) (t u : List OwnerRecord) (r : Result Claim Refusal) → Agrees 0 0 owner t walked r u → r ≡ Err z → walked ≡ refused z
+claim_refused walked owner z t u r k i = subst (λ (x : Result Claim Refusal). Agrees 0 0 owner t walked x u) i k
 
 -- its pages are no more than there are
-pub claim_few : (g : Geometry) (v : View) (test : Test) (owner from start n b : ℕ) (t u : List OwnerRecord) (r : Claim) → Claims g v test owner from start t r u → r ≡ claim.Chain n b → length t ≡ g.pages
+pub claim_few : (g : Geometry) (v : View) (test : Test) (owner from start n b : ℕ) (t u : List OwnerRecord) (r : Result Claim Refusal) → Claims g v test owner from start t r u → r ≡ Ok (record { pages = n; bytes = b }) → length t ≡ g.pages
     → (1 ≤ n) × (in_use t + n ≤ g.pages)
 claim_few g v test owner from start n b t u r k i l =
     let cl = taken t in
@@ -153,17 +142,17 @@ module _ (g : Geometry) (vs : Views) (claimed : List ℕ) (p : ℕ) (e : Entry) 
     unfolding judge_file
     file_step = simp (lt-ltb 0 e.start (omega arith), refuse_true, then_ok, test_file g)
 
-    module _ (owner : ℕ) (t u : List OwnerRecord) (r : Claim) (k : Agrees 0 0 owner t walked r u) where
-      pub file_refused : (n q : ℕ) → r ≡ claim.Refused n q → judge_file g vs (suc g.pages) claimed p e ≡ err n q
-      file_refused n q i = simp (file_step, claim_refused walked owner n q t u r k i, then_err)
+    module _ (owner : ℕ) (t u : List OwnerRecord) (r : Result Claim Refusal) (k : Agrees 0 0 owner t walked r u) where
+      pub file_refused : (z : Refusal) → r ≡ Err z → judge_file g vs (suc g.pages) claimed p e ≡ refused z
+      file_refused z i = simp (file_step, claim_refused walked owner z t u r k i, then_err)
 
-      pub file_counted : (n b : ℕ) → r ≡ claim.Chain n b → (e.pages ≡ n → ⊥) → judge_file g vs (suc g.pages) claimed p e ≡ err 8 p
+      pub file_counted : (n b : ℕ) → r ≡ Ok (record { pages = n; bytes = b }) → (e.pages ≡ n → ⊥) → judge_file g vs (suc g.pages) claimed p e ≡ err 8 p
       file_counted n b i y =
           let a = claimed_chain walked owner n b t u r k i in
           simp (file_step, a.chain_is, then_ok, ne_eqb e.pages (length a.links) (λ j. y (j ∙ sym a.pages_are)), refuse_false, then_err)
 
-      pub file_done : (c : Totals) (n b : ℕ) → r ≡ claim.Chain n b → owner ≡ 3 + (c.files + c.directories) → e.pages ≡ n
-          → Answers (plus_part c) (own_part (c.files + c.directories) t) (judge_file g vs (suc g.pages) claimed p e) (w.Done (record { used = c.used + n; files = c.files + 1; directories = c.directories })) u
+      pub file_done : (c : Totals) (n b : ℕ) → r ≡ Ok (record { pages = n; bytes = b }) → owner ≡ 3 + (c.files + c.directories) → e.pages ≡ n
+          → Answers (plus_part c) (own_part (c.files + c.directories) t) (judge_file g vs (suc g.pages) claimed p e) (Ok (record { used = c.used + n; files = c.files + 1; directories = c.directories })) u
       file_done c n b i o y =
           let a = claimed_chain walked owner n b t u r k i in (
             chain a.links,
@@ -200,36 +189,35 @@ module _ (g : Geometry) (vs : Views) (levels name start : ℕ) (claimed : List �
   by_kind = then_after (judge_label p e) (refuse_unless (not (mem (key e.name e.extension) seen)) 11 p)
       (choose (directory_number e.extension) (and_then (judge_sub g vs (suc g.pages) levels here claimed p e) (λ d. ok (directory d))) (judge_file g vs (suc g.pages) claimed p e))
 
-  module _ (f : ℕ) (h : judge_first p seen e ≡ fault_at f p) where
-    pub entry_refused : (f ≡ 0 → ⊥) → entry_of ≡ err f p
-    entry_refused n = simp (by_kind, h, fault_err f p n, then_err)
+  pub entry_refused : (z : Refusal) → refused z ≡ judge_first p seen e → entry_of ≡ refused z
+  entry_refused z h = simp (by_kind, ← h, then_err)
 
-    module _ (z : f ≡ 0) where
-      entry_kind : entry_of ≡ choose (directory_number e.extension) (and_then (judge_sub g vs (suc g.pages) levels here claimed p e) (λ d. ok (directory d))) (judge_file g vs (suc g.pages) claimed p e)
-      entry_kind = simp (by_kind, h, fault_none f p z, then_ok)
+  module _ (h : ok tt ≡ judge_first p seen e) where
+    entry_kind : entry_of ≡ choose (directory_number e.extension) (and_then (judge_sub g vs (suc g.pages) levels here claimed p e) (λ d. ok (directory d))) (judge_file g vs (suc g.pages) claimed p e)
+    entry_kind = simp (by_kind, ← h, then_ok)
 
-      entry_file : directory_number e.extension ≡ false → entry_of ≡ judge_file g vs (suc g.pages) claimed p e
-      entry_file n = entry_kind ∙ ap (λ (b : Bool). choose b (and_then (judge_sub g vs (suc g.pages) levels here claimed p e) (λ d. ok (directory d))) (judge_file g vs (suc g.pages) claimed p e)) n ∙ choose_false _ _
+    entry_file : directory_number e.extension ≡ false → entry_of ≡ judge_file g vs (suc g.pages) claimed p e
+    entry_file n = entry_kind ∙ ap (λ (b : Bool). choose b (and_then (judge_sub g vs (suc g.pages) levels here claimed p e) (λ d. ok (directory d))) (judge_file g vs (suc g.pages) claimed p e)) n ∙ choose_false _ _
 
-      pub file_entry_lem : directory_number e.extension ≡ false → (c : Totals) (t : List OwnerRecord) (r : Checked) (u : List OwnerRecord)
-          → Answers (plus_part c) (own_part (c.files + c.directories) t) (judge_file g vs (suc g.pages) claimed p e) r u
+    pub file_entry_lem : directory_number e.extension ≡ false → (c : Totals) (t : List OwnerRecord) (r : Result Totals Refusal) (u : List OwnerRecord)
+        → Answers (plus_part c) (own_part (c.files + c.directories) t) (judge_file g vs (suc g.pages) claimed p e) r u
+        → Answers (plus_part c) (own_part (c.files + c.directories) t) entry_of r u
+    file_entry_lem n c t r u a = subst (λ (x : Res Part). Answers (plus_part c) (own_part (c.files + c.directories) t) x r u) (sym (entry_file n)) a
+
+    module _ (x : directory_number e.extension ≡ true) where
+      entry_sub : entry_of ≡ and_then (judge_sub g vs (suc g.pages) levels here claimed p e) (λ d. ok (directory d))
+      entry_sub = entry_kind ∙ ap (λ (b : Bool). choose b (and_then (judge_sub g vs (suc g.pages) levels here claimed p e) (λ d. ok (directory d))) (judge_file g vs (suc g.pages) claimed p e)) x ∙ choose_true _ _
+
+      pub entry_below : (z : Refusal) → refused z ≡ judge_below levels p e → entry_of ≡ refused z
+      entry_below z b = simp (entry_sub, sub_step g vs here claimed p e levels, ← b, then_err)
+
+      -- a subdirectory, with its entry counted
+      pub entry_directory : ok tt ≡ judge_below levels p e → (c : Totals) (owner : ℕ) (t : List OwnerRecord) → owner ≡ 3 + (c.files + c.directories) → (r : Result Totals Refusal) (u : List OwnerRecord)
+          → Answers (plus_directory (record { used = c.used; files = c.files; directories = c.directories + 1 })) (own_directory owner (c.files + (c.directories + 1)) t)
+          (judge_directory g vs (suc g.pages) (judge_sub g vs (suc g.pages) (levels - 1)) (test_of g (kind.Sub name start)) (record { name = e.name; start = e.start }) claimed p) r u
           → Answers (plus_part c) (own_part (c.files + c.directories) t) entry_of r u
-      file_entry_lem n c t r u a = subst (λ (x : Res Part). Answers (plus_part c) (own_part (c.files + c.directories) t) x r u) (sym (entry_file n)) a
-
-      module _ (x : directory_number e.extension ≡ true) (k : ℕ) (b : judge_below levels p e ≡ fault_at k p) where
-        entry_sub : entry_of ≡ and_then (judge_sub g vs (suc g.pages) levels here claimed p e) (λ d. ok (directory d))
-        entry_sub = entry_kind ∙ ap (λ (b : Bool). choose b (and_then (judge_sub g vs (suc g.pages) levels here claimed p e) (λ d. ok (directory d))) (judge_file g vs (suc g.pages) claimed p e)) x ∙ choose_true _ _
-
-        pub entry_below : (k ≡ 0 → ⊥) → entry_of ≡ err k p
-        entry_below n = simp (entry_sub, sub_step g vs here claimed p e levels, b, fault_err k p n, then_err)
-
-        -- a subdirectory, with its entry counted
-        pub entry_directory : k ≡ 0 → (c : Totals) (owner : ℕ) (t : List OwnerRecord) → owner ≡ 3 + (c.files + c.directories) → (r : Checked) (u : List OwnerRecord)
-            → Answers (plus_directory (record { used = c.used; files = c.files; directories = c.directories + 1 })) (own_directory owner (c.files + (c.directories + 1)) t)
-            (judge_directory g vs (suc g.pages) (judge_sub g vs (suc g.pages) (levels - 1)) (test_of g (kind.Sub name start)) (record { name = e.name; start = e.start }) claimed p) r u
-            → Answers (plus_part c) (own_part (c.files + c.directories) t) entry_of r u
-        unfolding test_of
-        entry_directory y c owner t o (w.Done d) u (i, a, q, s) =
-            let j : c.files + (c.directories + 1) ≡ suc (c.files + c.directories) = omega arith in
-            (directory i, simp (entry_sub, sub_step g vs here claimed p e levels, b, fault_none k p y, then_ok, a), q, s ∙ ap₂ (λ (m n : ℕ). own_directory m n t i) o j)
-        entry_directory y c owner t o (w.Refused n q) u a = simp (entry_sub, sub_step g vs here claimed p e levels, b, fault_none k p y, then_ok, a, then_err)
+      unfolding test_of
+      entry_directory b c owner t o (Ok d) u (i, a, q, s) =
+          let j : c.files + (c.directories + 1) ≡ suc (c.files + c.directories) = omega arith in
+          (directory i, simp (entry_sub, sub_step g vs here claimed p e levels, ← b, then_ok, a), q, s ∙ ap₂ (λ (m n : ℕ). own_directory m n t i) o j)
+      entry_directory b c owner t o (Err z) u a = simp (entry_sub, sub_step g vs here claimed p e levels, ← b, then_ok, a, then_err)

@@ -1,4 +1,5 @@
 -- A directory's entries, one by one: totals, owner table and what is left of them.
+use Rattle.std.specs.Prelude.{Result, Ok, Err}
 use mathlib.Core.Path.{◌≡◌, refl, ap, sym, ◌∙◌}
 use mathlib.Core.Bool.{true, false}
 use mathlib.Core.List.{List, [], ◌∷◌, ◌++◌}
@@ -26,8 +27,9 @@ use Rattle.owners.specs.OwnerLaws.{represents_own, represents_entries, represent
 use Rattle.rules.specs.Check.{Part, chain, directory, part_pages, add, stamp, followed, Judge, judge_entry, judge_entries, judge_directory, judge_sub}
 use Rattle.rules.proofs.StampLaws.{stamp_inner, stamp_files, stamp_directories, stamp_owners}
 use Rattle.rules.proofs.Soundness.{PartClear, entries_of, entries_sound, sub_sound, pages_tokens}
-use Rattle.rules.specs.declared.Checked.{Checked}
-use Rattle.rules.specs.declared.Checked.TheVariants as w
+use Rattle.refusals.specs.declared.Refusal.{Refusal}
+use Rattle.refusals.specs.declared.Fault.TheVariants.{Extension}
+use Rattle.rules.specs.Answers.{refused}
 use Rattle.walk.specs.Walks.{Good, Ready, Answers, plus_entries, plus_directory, plus_part, own_directory, own_part}
 
 -- ---- the table and the totals after one entry
@@ -96,51 +98,51 @@ table_add c e (directory d) t table =
 
 module _ (g : Geometry) (vs : Views) (sub : Judge) (here : Parent) where
   -- the answer for the entries from here on, with the totals and the table so far
-  abbrev pub Rest : List ℕ → ℕ → List ℕ → List Token → Totals → List OwnerRecord → Checked → List OwnerRecord → Type 0
+  abbrev pub Rest : List ℕ → ℕ → List ℕ → List Token → Totals → List OwnerRecord → Result Totals Refusal → List OwnerRecord → Type 0
   Rest claimed p seen ts c t r u = Answers (plus_entries c) (λ i. own_entries (c.files + c.directories) i t) (judge_entries g vs (suc g.pages) sub here claimed p seen ts) r u
 
   module _ (claimed : List ℕ) (p : ℕ) (seen : List ℕ) where
     -- no entry is left
-    pub rest_end : (c : Totals) (t : List OwnerRecord) → Rest claimed p seen [] c t (w.Done c) t
+    pub rest_end : (c : Totals) (t : List OwnerRecord) → Rest claimed p seen [] c t (Ok c) t
     unfolding judge_entries
     rest_end c t = (end, refl, same_totals _ _ _ _ _ _ (omega arith) (omega arith) (omega arith), refl)
 
     -- a page begins
-    pub rest_page : (q : ℕ) (ts : List Token) (c : Totals) (t : List OwnerRecord) (r : Checked) (u : List OwnerRecord) → Rest claimed q seen ts c t r u → Rest claimed p seen (new_page q ∷ ts) c t r u
+    pub rest_page : (q : ℕ) (ts : List Token) (c : Totals) (t : List OwnerRecord) (r : Result Totals Refusal) (u : List OwnerRecord) → Rest claimed q seen ts c t r u → Rest claimed p seen (new_page q ∷ ts) c t r u
     unfolding judge_entries
-    rest_page q ts c t (w.Done d) u (i, a, b, k) = (page q i, simp (a, then_ok), b, k)
-    rest_page q ts c t (w.Refused n f) u a = simp (a, then_err)
+    rest_page q ts c t (Ok d) u (i, a, b, k) = (page q i, simp (a, then_ok), b, k)
+    rest_page q ts c t (Err z) u a = simp (a, then_err)
 
     -- a stamp, and an entry after it in its page; or none
     module _ (e : Entry) (x : extended e ≡ true) (ts : List Token) (c : Totals) (t : List OwnerRecord) where
-      pub rest_stamp : followed ts ≡ true → (r : Checked) (u : List OwnerRecord) → Rest claimed p seen ts c t r u → Rest claimed p seen (entry e ∷ ts) c t r u
+      pub rest_stamp : followed ts ≡ true → (r : Result Totals Refusal) (u : List OwnerRecord) → Rest claimed p seen ts c t r u → Rest claimed p seen (entry e ∷ ts) c t r u
       unfolding judge_entries
-      rest_stamp f (w.Done d) u (i, a, b, k) = (
+      rest_stamp f (Ok d) u (i, a, b, k) = (
         stamp e i,
         simp (x, choose_true, f, refuse_true, then_ok, a),
         b ∙ same_totals _ _ _ _ _ _ (omega (arith, ap length (stamp_inner e i))) (omega (arith, stamp_files e i)) (omega (arith, stamp_directories e i)),
         k ∙ sym (stamp_owners e (c.files + c.directories) i t),
       )
-      rest_stamp f (w.Refused n q) u a = simp (x, choose_true, f, refuse_true, then_ok, a, then_err)
+      rest_stamp f (Err z) u a = simp (x, choose_true, f, refuse_true, then_ok, a, then_err)
 
-      pub rest_loose : followed ts ≡ false → (u : List OwnerRecord) → Rest claimed p seen (entry e ∷ ts) c t (w.Refused 10 p) u
+      pub rest_loose : followed ts ≡ false → (u : List OwnerRecord) → Rest claimed p seen (entry e ∷ ts) c t (Err (record { 0 = Extension; 1 = p })) u
       unfolding judge_entries
       rest_loose f u = simp (x, choose_true, f, refuse_false, then_err)
 
     module _ (e : Entry) (plain : extended e ≡ false) (ts : List Token) (c : Totals) (t : List OwnerRecord) where
-      pub rest_refused : (n f : ℕ) (u : List OwnerRecord) → judge_entry g vs (suc g.pages) sub here claimed p seen e ≡ err n f → Rest claimed p seen (entry e ∷ ts) c t (w.Refused n f) u
+      pub rest_refused : (z : Refusal) (u : List OwnerRecord) → judge_entry g vs (suc g.pages) sub here claimed p seen e ≡ refused z → Rest claimed p seen (entry e ∷ ts) c t (Err z) u
       unfolding judge_entries
-      rest_refused n f u a = simp (plain, choose_false, a, then_err)
+      rest_refused z u a = simp (plain, choose_false, a, then_err)
 
       -- an entry done
-      pub rest_entry : (x : Part) → judge_entry g vs (suc g.pages) sub here claimed p seen e ≡ ok x → (r : Checked) (u : List OwnerRecord)
+      pub rest_entry : (x : Part) → judge_entry g vs (suc g.pages) sub here claimed p seen e ≡ ok x → (r : Result Totals Refusal) (u : List OwnerRecord)
           → Rest (part_pages x ++ claimed) p (key e.name e.extension ∷ seen) ts (plus_part c x) (own_part (c.files + c.directories) t x) r u → Rest claimed p seen (entry e ∷ ts) c t r u
       unfolding judge_entries
-      rest_entry x q (w.Done d) u (i, a, b, k) = (add e x i, simp (plain, choose_false, q, then_ok, a), b ∙ totals_add c e x i, k ∙ table_add c e x i t)
-      rest_entry x q (w.Refused n f) u a = simp (plain, choose_false, q, then_ok, a, then_err)
+      rest_entry x q (Ok d) u (i, a, b, k) = (add e x i, simp (plain, choose_false, q, then_ok, a), b ∙ totals_add c e x i, k ∙ table_add c e x i t)
+      rest_entry x q (Err z) u a = simp (plain, choose_false, q, then_ok, a, then_err)
 
   -- pages without entries
-  pub rest_pages : (claimed : List ℕ) (p : ℕ) (seen ps : List ℕ) (ts : List Token) (c : Totals) (t : List OwnerRecord) (r : Checked) (u : List OwnerRecord) → Rest claimed (last_page p ps) seen ts c t r u
+  pub rest_pages : (claimed : List ℕ) (p : ℕ) (seen ps : List ℕ) (ts : List Token) (c : Totals) (t : List OwnerRecord) (r : Result Totals Refusal) (u : List OwnerRecord) → Rest claimed (last_page p ps) seen ts c t r u
       → Rest claimed p seen (page_tokens ps ++ ts) c t r u
   rest_pages claimed p seen [] ts c t r u a = a
   rest_pages claimed p seen (q ∷ ps) ts c t r u a = rest_page claimed p seen q (page_tokens ps ++ ts) c t r u (rest_pages claimed q seen ps ts c t r u a)
@@ -152,12 +154,12 @@ module _ (g : Geometry) (vs : Views) (levels : ℕ) (test : Test) (here : Parent
   directory_refused n p e = simp (e, then_err)
 
   pub directory_rest : (ls : List Link) (owner n : ℕ) (c : Totals) (t : List OwnerRecord) → walk g.pages vs.pages test (suc g.pages) 0 claimed from here.start ≡ ok ls → n ≡ length ls → Within g.pages (pages ls ++ claimed)
-      → (r : Checked) (u : List OwnerRecord)
+      → (r : Result Totals Refusal) (u : List OwnerRecord)
       → Rest g vs (judge_sub g vs (suc g.pages) levels) here (pages ls ++ claimed) here.start [] (link_tokens g (control_size g) ls)
       (record { used = c.used + n; files = c.files; directories = c.directories }) (own owner (pages ls) t) r u
       → Answers (plus_directory c) (own_directory owner (c.files + c.directories) t) (judge_directory g vs (suc g.pages) (judge_sub g vs (suc g.pages) levels) test here claimed from) r u
   unfolding judge_directory
-  directory_rest ls owner n c t e l f (w.Done d) u (i, a, b, k) =
+  directory_rest ls owner n c t e l f (Ok d) u (i, a, b, k) =
       let s = entries_sound g vs (judge_sub g vs (suc g.pages) levels) (sub_sound g vs levels) here (link_tokens g (control_size g) ls) (pages ls ++ claimed) here.start [] i f a in
       let o : own_pages i ≡ pages ls = s.own_pages_lem ∙ pages_tokens g (control_size g) ls in (
         i,
@@ -165,4 +167,4 @@ module _ (g : Geometry) (vs : Views) (levels : ℕ) (test : Test) (here : Parent
         b ∙ same_totals _ _ _ _ _ _ (omega (arith, l, ap length o, length_pages ls)) refl refl,
         k ∙ ap (λ (x : List ℕ). own_entries (c.files + c.directories) i (own owner x t)) (sym o),
       )
-  directory_rest ls owner n c t e l f (w.Refused m p) u a = simp (e, then_ok, a)
+  directory_rest ls owner n c t e l f (Err z) u a = simp (e, then_ok, a)

@@ -1,5 +1,5 @@
 -- For contracts: the walk over the entries of a directory against the order of the check, with the totals and the owner table that follow from the tree.
-use Rattle.std.specs.Prelude.{◌≡◌, not, List, ℕ, zero, suc, ◌+◌, ◌≤◌, ◌<◌, ltb, eqb, length, take}
+use Rattle.std.specs.Prelude.{◌≡◌, Result, Ok, Err, not, List, ℕ, zero, suc, ◌+◌, ◌≤◌, ◌<◌, ltb, eqb, length, take}
 use Rattle.geometry.specs.declared.Geometry.{Geometry}
 use Rattle.geometry.specs.Geometry.{control_size}
 use Rattle.packet.specs.Packet.{View}
@@ -14,11 +14,10 @@ use Rattle.rules.specs.Owners.{OwnerRecord, file_count, directory_count, own, ow
 use Rattle.owners.specs.Owned.{Represents}
 use Rattle.owners.specs.OwnerLaws.{in_use}
 use Rattle.rules.specs.Check.{Part, chain, directory, judge_label, judge_file, judge_entry, judge_directory, judge_sub}
-use Rattle.directory.specs.Faults.{fault_at}
+use Rattle.rules.specs.Answers.{refused, answer_of}
 use Rattle.entries.specs.EntrySlots.{chain_keys}
 use Rattle.walk.specs.declared.Directory.{Directory}
-use Rattle.rules.specs.declared.Checked.{Checked}
-use Rattle.rules.specs.declared.Checked.TheVariants as w
+use Rattle.refusals.specs.declared.Refusal.{Refusal}
 use Rattle.chain.specs.KnownChain.{ChainAt}
 
 -- the totals inside a directory whose chain is claimed: each entry and the directory itself have a page, and so has a bitmap file, which many pages need
@@ -42,9 +41,9 @@ pub record Remaining (parent : Directory) (left : ℕ) : Type 0 where
   pub few : parent.count < 16777216
 
 -- the answer r with the table u is the rule's answer, with the totals and the table that follow from what the rule gives
-abbrev pub Answers : {A : Type 0} → (A → Totals) → (A → List OwnerRecord) → Res A → Checked → List OwnerRecord → Type 0
-Answers {A = A} f h rule (w.Done d) u = (a : A) × (rule ≡ ok a) × (d ≡ f a) × (u ≡ h a)
-Answers f h rule (w.Refused n p) u = rule ≡ err n p
+abbrev pub Answers : {A : Type 0} → (A → Totals) → (A → List OwnerRecord) → Res A → Result Totals Refusal → List OwnerRecord → Type 0
+Answers {A = A} f h rule (Ok d) u = (a : A) × (rule ≡ ok a) × (d ≡ f a) × (u ≡ h a)
+Answers f h rule (Err r) u = rule ≡ refused r
 
 -- the totals after entries, after a directory with its chain, after one entry
 abbrev pub plus_entries : Totals → Items → Totals
@@ -83,19 +82,16 @@ abbrev pub Met : Geometry → View → ℕ → ℕ → ℕ → List ℕ → Type
 Met g v start m k seen = (ls : List Link) × ChainAt g v start ls × (m ≤ length (chain_keys g (control_size g) ls)) × (mem k seen ≡ mem k (take m (chain_keys g (control_size g) ls)))
 
 -- the answers of the parts: for every list of claimed pages that the table represents and every list of the names met
-abbrev pub EntryFault : Geometry → View → ℕ → ℕ → Entry → ℕ → Type 0
-EntryFault g v start m e r = (seen : List ℕ) → Met g v start m (key e.name e.extension) seen → (p : ℕ) → judge_first p seen e ≡ fault_at r p
+abbrev pub EntryJudged : Geometry → View → ℕ → ℕ → ℕ → Entry → Result (Unit {0}) Refusal → Type 0
+EntryJudged g v start m p e r = (seen : List ℕ) → Met g v start m (key e.name e.extension) seen → answer_of r ≡ judge_first p seen e
 
-abbrev pub BelowFault : ℕ → Entry → ℕ → Type 0
-BelowFault levels e r = (p : ℕ) → judge_below levels p e ≡ fault_at r p
-
-abbrev pub FileWalked : Geometry → Views → ℕ → Entry → Totals → List OwnerRecord → Checked → List OwnerRecord → Type 0
+abbrev pub FileWalked : Geometry → Views → ℕ → Entry → Totals → List OwnerRecord → Result Totals Refusal → List OwnerRecord → Type 0
 FileWalked g vs page e c t r u = (claimed : List ℕ) → Represents t claimed → Answers (plus_part c) (own_part (c.files + c.directories) t) (judge_file g vs (suc g.pages) claimed page e) r u
 
-abbrev pub EntryWalked : Geometry → Views → ℕ → ℕ → ℕ → ℕ → ℕ → Entry → Totals → List OwnerRecord → Checked → List OwnerRecord → Type 0
+abbrev pub EntryWalked : Geometry → Views → ℕ → ℕ → ℕ → ℕ → ℕ → Entry → Totals → List OwnerRecord → Result Totals Refusal → List OwnerRecord → Type 0
 EntryWalked g vs levels name start page m e c t r u = (claimed seen : List ℕ) → Represents t claimed → Met g vs.pages start m (key e.name e.extension) seen
     → Answers (plus_part c) (own_part (c.files + c.directories) t) (judge_entry g vs (suc g.pages) (judge_sub g vs (suc g.pages) levels) (record { name = name; start = start }) claimed page seen e) r u
 
-abbrev pub DirectoryWalked : Geometry → Views → ℕ → Test → ℕ → ℕ → ℕ → ℕ → Totals → List OwnerRecord → Checked → List OwnerRecord → Type 0
+abbrev pub DirectoryWalked : Geometry → Views → ℕ → Test → ℕ → ℕ → ℕ → ℕ → Totals → List OwnerRecord → Result Totals Refusal → List OwnerRecord → Type 0
 DirectoryWalked g vs levels test name start from owner c t r u = (claimed : List ℕ) → Represents t claimed
     → Answers (plus_directory c) (own_directory owner (c.files + c.directories) t) (judge_directory g vs (suc g.pages) (judge_sub g vs (suc g.pages) levels) test (record { name = name; start = start }) claimed from) r u

@@ -7,17 +7,18 @@ ghost use Rattle.geometry.specs.Geometry.{Fit};
 ghost use Rattle.packet.specs.Packet.{view_of};
 ghost use Rattle.rules.specs.Chain.{views_of};
 ghost use Rattle.rules.specs.Names.{extended};
+ghost use Rattle.rules.specs.Answers.{answer_of};
 ghost use Rattle.directory.specs.Faults.{test_of};
 ghost use Rattle.entries.specs.EntrySlots.{HasEntries};
-ghost use Rattle.walk.specs.Walks.{Good, Ready, Remaining, EntryFault, BelowFault, FileWalked, EntryWalked, DirectoryWalked};
+ghost use Rattle.walk.specs.Walks.{Good, Ready, Remaining, judge_below, EntryJudged, FileWalked, EntryWalked, DirectoryWalked};
 
-use chain::Claim;
 use directory::control::Kind;
-use directory::entries::Item;
+use directory::entries::{Item, judge_label};
 use directory::extensions::is_directory;
-use entries::{Next, Slot};
+use entries::Slot;
 use geometry::{FIRST_OWNER, Geometry};
-use rules::{Checked, Entry, Totals};
+use refusals::{Fault, Refusal};
+use rules::{Entry, Totals};
 
 // The directory that an entry stands in: its name, its start page and how many entries of both kinds it has.
 #[derive(Clone, Copy)]
@@ -27,36 +28,40 @@ pub struct Directory {
     pub count: usize,
 }
 
-// The fault of a plain entry's name or extension (9, 10), or that one of the m entries before it has them (11); 0 if there is none.
-fn entry_fault(image: &[u8], g: Geometry, start: usize, m: usize, e: Entry) -> u8
+// Judges a plain entry's name and extension (9, 10); then none of the m entries before it may have them (11).
+fn judge_entry(
+    image: &[u8],
+    g: Geometry,
+    start: usize,
+    m: usize,
+    page: usize,
+    e: Entry,
+) -> Result<(), Refusal>
     requires fit { Fit g image.now }
     requires has_entries { HasEntries g (view_of g image.now) start m × (extended e ≡ false) }
-    ensures { EntryFault g (view_of g image.now) start m e result }
+    ensures { EntryJudged g (view_of g image.now) start m page e result }
 {
-    let fault = directory::entries::label_fault(e);
-    if fault != 0 {
-        return fault;
-    }
+    judge_label(e, page)?;
     if entries::is_repeated(image, g, start, m, entries::key_of(e.name, e.extension)) {
-        return 11;
+        return Err(Refusal(Fault::Twice, page));
     }
-    0
+    Ok(())
 }
 
-// The fault of a subdirectory's entry: too deep (12), its count (8), its start page (6); 0 if there is none.
-fn below_fault(levels: usize, e: Entry) -> u8
-    ensures { BelowFault levels e result }
+// Judges a subdirectory's entry: too deep (12), its count (8), its start page (6).
+fn judge_below(levels: usize, page: usize, e: Entry) -> Result<(), Refusal>
+    ensures { answer_of result ≡ judge_below levels page e }
 {
     if levels == 0 {
-        return 12;
+        return Err(Refusal(Fault::Depth, page));
     }
     if e.pages != 0 {
-        return 8;
+        return Err(Refusal(Fault::Count, page));
     }
     if e.start == 0 {
-        return 6;
+        return Err(Refusal(Fault::PageNumber, page));
     }
-    0
+    Ok(())
 }
 
 // A file: its start page (6), its chain, its count (8).
@@ -67,28 +72,24 @@ fn walk_file(
     e: Entry,
     totals: Totals,
     table: &mut [u8],
-) -> Checked
+) -> Result<Totals, Refusal>
     requires fit { Fit g image.now }
     requires table_len { (length table.old ≡ 4 * g.pages) × Good g totals (records_of table.old) }
     ensures { FileWalked g (views_of g image.now) page e totals (records_of table.old) result (records_of table.new) }
 {
     if e.start == 0 {
-        return Checked::Refused(6, page);
+        return Err(Refusal(Fault::PageNumber, page));
     }
     let owner = FIRST_OWNER + (totals.files + totals.directories);
-    match chain::claim_chain(image, g, Kind::File, owner, page, e.start, table) {
-        Claim::Refused(number, at) => Checked::Refused(number, at),
-        Claim::Chain(pages, _) => {
-            if e.pages != pages {
-                return Checked::Refused(8, page);
-            }
-            Checked::Done(Totals {
-                used: totals.used + pages,
-                files: totals.files + 1,
-                directories: totals.directories,
-            })
-        }
+    let chain = chain::claim_chain(image, g, Kind::File, owner, page, e.start, table)?;
+    if e.pages != chain.pages {
+        return Err(Refusal(Fault::Count, page));
     }
+    Ok(Totals {
+        used: totals.used + chain.pages,
+        files: totals.files + 1,
+        ..totals
+    })
 }
 
 // One plain entry, with `left` entries to go in its directory, itself among them: a file, or a subdirectory with all below it.
@@ -103,28 +104,20 @@ fn walk_entry(
     e: Entry,
     totals: Totals,
     table: &mut [u8],
-) -> Checked
+) -> Result<Totals, Refusal>
     requires fit { Fit g image.now }
     requires table_len { (length table.old ≡ 4 * g.pages) × HasEntries g (view_of g image.now) parent.start (parent.count - left) × Good g totals (records_of table.old) × Remaining parent left × (extended e ≡ false) }
     ensures { EntryWalked g (views_of g image.now) levels parent.name parent.start page (parent.count - left) e totals (records_of table.old) result (records_of table.new) }
 {
-    let fault = entry_fault(image, g, parent.start, parent.count - left, e);
-    if fault != 0 {
-        return Checked::Refused(fault, page);
-    }
-    let below = is_directory(e.extension);
-    if !below {
+    judge_entry(image, g, parent.start, parent.count - left, page, e)?;
+    if !is_directory(e.extension) {
         return walk_file(image, g, page, e, totals, table);
     }
-    let refused = below_fault(levels, e);
-    if refused != 0 {
-        return Checked::Refused(refused, page);
-    }
+    judge_below(levels, page, e)?;
     let owner = FIRST_OWNER + (totals.files + totals.directories);
     let inside = Totals {
-        used: totals.used,
-        files: totals.files,
         directories: totals.directories + 1,
+        ..totals
     };
     walk_directory(
         image,
@@ -153,43 +146,33 @@ pub fn walk_directory(
     owner: usize,
     totals: Totals,
     table: &mut [u8],
-) -> Checked
+) -> Result<Totals, Refusal>
     requires fit { Fit g image.now }
     requires table_len { (length table.old ≡ 4 * g.pages) × Ready g totals owner (records_of table.old) }
     ensures { DirectoryWalked g (views_of g image.now) levels (test_of g kind) name start from owner totals (records_of table.old) result (records_of table.new) }
 {
-    match chain::claim_chain(image, g, kind, owner, from, start, table) {
-        Claim::Refused(number, at) => Checked::Refused(number, at),
-        Claim::Chain(pages, _) => {
-            let mut so_far = Totals {
-                used: totals.used + pages,
-                files: totals.files,
-                directories: totals.directories,
-            };
-            let count = entries::count_of(image, g, start);
-            let parent = Directory { name, start, count };
-            let mut slot = Slot::first(image, g, start);
-            let mut left = count;
-            loop {
-                let Next::At(at) = slot.next_entry(image, g) else {
-                    return Checked::Done(so_far);
-                };
-                let page = at.page;
-                let to_go = left;
-                slot = at.past();
-                left -= 1;
-                let Item::Plain(e) = at.item(image, g) else {
-                    // a stamp belongs to an entry after it in its page
-                    if slot.at == slot.count {
-                        return Checked::Refused(10, page);
-                    }
-                    continue;
-                };
-                match walk_entry(image, g, levels, parent, page, to_go, e, so_far, table) {
-                    Checked::Refused(number, at) => return Checked::Refused(number, at),
-                    Checked::Done(d) => so_far = d,
-                }
+    let chain = chain::claim_chain(image, g, kind, owner, from, start, table)?;
+    let mut so_far = Totals {
+        used: totals.used + chain.pages,
+        ..totals
+    };
+    let count = entries::count_of(image, g, start);
+    let parent = Directory { name, start, count };
+    let mut slot = Slot::first(image, g, start);
+    let mut left = count;
+    while let Some(at) = slot.next_entry(image, g) {
+        let page = at.page;
+        let to_go = left;
+        slot = at.past();
+        left -= 1;
+        let Item::Plain(e) = at.item(image, g) else {
+            // a stamp belongs to an entry after it in its page
+            if slot.at == slot.count {
+                return Err(Refusal(Fault::Extension, page));
             }
-        }
+            continue;
+        };
+        so_far = walk_entry(image, g, levels, parent, page, to_go, e, so_far, table)?;
     }
+    Ok(so_far)
 }

@@ -1,4 +1,5 @@
 -- A page's data put together with some bytes exchanged, as the code does it, and written.
+use Rattle.std.specs.Prelude.{Ok}
 use mathlib.Core.Path.{◌≡◌, refl, ap, ap₂, sym, ◌∙◌, subst}
 use mathlib.Core.List.{List, [], ◌++◌, append_assoc}
 use Prim.Native.Nat.{ℕ, ◌+◌, ◌-◌, ◌≤◌, ◌<◌}
@@ -12,8 +13,6 @@ use Rattle.packet.specs.Packet.{good, View, view_of}
 use Rattle.packet.specs.Reading.{right_packet}
 use Rattle.packet.proofs.Fronts.{front_more}
 use Rattle.chain.specs.declared.Cursor.{Cursor}
-use Rattle.chain.specs.declared.Step.{Step}
-use Rattle.chain.specs.declared.Step.TheVariants as step
 use Rattle.chain.specs.Claims.{IsGood, Counted}
 use Rattle.chain.specs.Steps.{first_step, step_of}
 use Rattle.chain.proofs.Following.{stepped, small_view}
@@ -51,11 +50,11 @@ module _ {g : Geometry} {image : List ℕ} (fit : Fit g image) {page from to n :
   pub page_below : c.page < g.pages
   page_below = rw at_page below
 
-  module _ {size : ℕ} {d : Cursor} {r : Step} (m : r ≡ step.Page size d) (o : r ≡ step_of g v c) where
+  module _ {size : ℕ} {d : Cursor} (o : Ok (size, d) ≡ step_of g v c) where
     -- what is read of the page
     reads : (b : List ℕ) (next : ℕ) → v page ≡ good b next → length b ≡ size
     reads b next p =
-        let k = stepped g v c page_below size d (sym m ∙ o) in
+        let k = stepped g v c page_below size d o in
         let q : good b next ≡ good k.0 d.page = sym p ∙ ap v (sym at_page) ∙ k.1 in
         let i : b ≡ k.0 = cc in
         ap length i ∙ k.2

@@ -6,8 +6,8 @@ use Prim.Native.Nat.{ℕ, suc, ◌+◌, ◌-◌, ◌/◌, ◌≤◌, ◌<◌}
 use native.Mathlib.Nat.{div-eq_of_lt, div-eq-sub-div, zero-div, div-le_self}
 use native.Mathlib.Omega.{arith}
 use native.Mathlib.Numerals.{add-one}
-use lib.ListN.{length, take, drop, length-take, length-drop}
-use lib.Seq.{take_all, drop-drop}
+use lib.ListN.{length, take, drop, length-drop}
+use lib.Seq.{take_all}
 use Rattle.geometry.specs.declared.Geometry.{Geometry}
 use Rattle.geometry.specs.Geometry.{Valid, Fit, data_capacity}
 use Rattle.packet.specs.Packet.{Write, write}
@@ -72,33 +72,24 @@ store_first g image table bytes budget from page sized room o next used r = go (
     }
 
 -- ---- one page
-module _ {g : Geometry} {target : Progress} {table : List OwnerRecord} (bytes : List ℕ) {image : List ℕ} {budget : Budget} {page : ℕ} (done : ℕ) {C : ℕ} (c : C ≡ data_capacity g) (v : Valid g) (sized : length table ≡ g.pages)
-    (S : Storing g target table (drop done bytes) image budget page) where
-  abbrev rest : List ℕ
-  rest = drop done bytes
-
+module _ {g : Geometry} {target : Progress} {table : List OwnerRecord} {rest image : List ℕ} {budget : Budget} {page C : ℕ} (c : C ≡ data_capacity g) (v : Valid g) (sized : length table ≡ g.pages)
+    (S : Storing g target table rest image budget page) where
   abbrev from : Progress
   from = record { image = image; budget = budget }
-
-  left_is : length rest ≡ length bytes - done
-  left_is = length-drop done bytes
 
   some : 0 < data_capacity g
   some = omega (arith, capacity_least g v)
 
   -- a packet that is not the last: the next free page is there
-  module _ (more : C < length bytes - done) (next : ℕ) (n : NextFree table (page + 1) next) where
+  module _ (long : C < length rest) (next : ℕ) (n : NextFree table (page + 1) next) where
     abbrev rest' : List ℕ
-    rest' = drop (done + C) bytes
-
-    rest_is : drop (data_capacity g) rest ≡ rest'
-    rest_is = drop-drop (data_capacity g) done bytes ∙ ap (λ (k : ℕ). drop (done + k) bytes) (sym c)
+    rest' = drop (data_capacity g) rest
 
     less : length rest' ≡ length rest - data_capacity g
-    less = omega (arith, length-drop (done + C) bytes, left_is)
+    less = length-drop (data_capacity g) rest
 
     fewer : (length rest - 1) / data_capacity g ≡ suc ((length rest' - 1) / data_capacity g)
-    fewer = pages_more (data_capacity g) (length rest) some (omega (arith, left_is)) ∙ ap (λ (k : ℕ). suc ((k - 1) / data_capacity g)) (sym less)
+    fewer = pages_more (data_capacity g) (length rest) some (omega arith) ∙ ap (λ (k : ℕ). suc ((k - 1) / data_capacity g)) (sym less)
 
     -- what next_free tells
     record Ahead : Type 0 where
@@ -119,19 +110,20 @@ module _ {g : Geometry} {target : Progress} {table : List OwnerRecord} (bytes : 
     abbrev ps : List ℕ
     ps = next ∷ later g S.used next rest'
 
-    module _ (after : List ℕ) (left : Budget)
-        (w : ◌≡◌ {A = Progress} (record { image = after; budget = left }) (write_one g (write page (take (done + C - done) rest) next) (record { image = image; budget = budget }))) where
+    -- the bytes split, the front written
+    module _ (full more after : List ℕ) (left : Budget) (f : full ≡ take C rest) (m : more ≡ drop C rest)
+        (w : ◌≡◌ {A = Progress} (record { image = after; budget = left }) (write_one g (write page full next) (record { image = image; budget = budget }))) where
       abbrev page_write : Write
       page_write = write page (take (data_capacity g) rest) next
 
       after_is : ◌≡◌ {A = Progress} (record { image = after; budget = left }) (write_one g page_write from)
-      after_is = let d : done + C - done ≡ data_capacity g = omega arith in w ∙ ap (λ (k : ℕ). write_one g (write page (take k rest) next) from) d
+      after_is = w ∙ ap (λ (l : List ℕ). write_one g (write page l next) from) (f ∙ ap (λ (k : ℕ). take k rest) c)
 
       to_come : target ≡ write_all g (linked (chain_of (data_capacity g) ps rest')) (record { image = after; budget = left })
       unfolding write_all
       to_come =
           S.whole ∙ ap (λ (l : List ℕ). write_all g (linked (chain_of (data_capacity g) (page ∷ l) rest)) from) later_is
-          ∙ ap₂ (λ (l : List ℕ) (p : Progress). write_all g (linked (chain_of (data_capacity g) ps l)) p) rest_is (sym after_is)
+          ∙ ap (λ (p : Progress). write_all g (linked (chain_of (data_capacity g) ps rest')) p) (sym after_is)
 
       -- no write is left: the pages to come are not written
       pub store_stop : left.stopped ≡ true → ◌≡◌ {A = Progress} (record { image = after; budget = left }) target
@@ -140,33 +132,28 @@ module _ {g : Geometry} {target : Progress} {table : List OwnerRecord} (bytes : 
           let s = subst (λ (x : Progress). Stopped x.budget) (sym after_is) (one_stopped g page_write from S.open_still q) in
           sym (to_come ∙ stopped_all g (linked (chain_of (data_capacity g) ps rest')) (record { image = after; budget = left }) s)
 
-      pub store_on : left.stopped ≡ false → Storing g target table rest' after left next
-      store_on z = record { used = S.used; represents = S.represents; below = ahead.small; enough = omega (arith, S.enough, fewer, ap length ahead.head); whole = to_come; open_still = z }
+      pub store_on : left.stopped ≡ false → Storing g target table more after left next
+      store_on z =
+          subst (λ (l : List ℕ). Storing g target table l after left next) (sym (m ∙ ap (λ (k : ℕ). drop k rest) c))
+          (record { used = S.used; represents = S.represents; below = ahead.small; enough = omega (arith, S.enough, fewer, ap length ahead.head); whole = to_come; open_still = z })
 
   -- the last packet
-  module _ (fits : length bytes - done ≤ C) where
+  module _ (fits : length rest ≤ C) where
     later_none : later g S.used page rest ≡ []
-    later_none = ap (λ (k : ℕ). take k (free_from S.used (page + 1) g.pages)) (pages_last (data_capacity g) (length rest) some (omega (arith, left_is)))
+    later_none = ap (λ (k : ℕ). take k (free_from S.used (page + 1) g.pages)) (pages_last (data_capacity g) (length rest) some (omega arith))
 
-    pub store_last : (after : Progress) → after ≡ write_one g (write page (take (length bytes - done) rest) 0) (record { image = image; budget = budget }) → after ≡ target
+    pub store_last : (after : Progress) → after ≡ write_one g (write page rest 0) (record { image = image; budget = budget }) → after ≡ target
     unfolding write_all
     store_last after w =
-        let d : take (length bytes - done) rest ≡ take (data_capacity g) rest = take_all (length bytes - done) rest (omega (arith, left_is)) ∙ sym (take_all (data_capacity g) rest (omega (arith, left_is))) in
-        w ∙ ap (λ (l : List ℕ). write_one g (write page l 0) from) d
+        w ∙ ap (λ (l : List ℕ). write_one g (write page l 0) from) (sym (take_all (data_capacity g) rest (omega arith)))
         ∙ sym (S.whole ∙ ap (λ (l : List ℕ). write_all g (linked (chain_of (data_capacity g) (page ∷ l) rest)) from) later_none)
 
 -- ---- what a packet needs
 pub image_fits : (g : Geometry) (image now : List ℕ) → Fit g image → length now ≡ length image → Fit g now
 image_fits g image now fit e = record { valid = fit.valid; whole = e ∙ fit.whole }
 
-data_room : (g : Geometry) → Valid g → (k : ℕ) (l : List ℕ) → k ≤ data_capacity g → length (take k l) + g.width + 3 ≤ g.size
-data_room g v k l h = omega (arith, length-take k l, capacity_is g, v.least, v.two)
-
-pub full_room : (g : Geometry) → Valid g → (C done : ℕ) (l : List ℕ) → C ≡ data_capacity g → length (take (done + C - done) l) + g.width + 3 ≤ g.size
-full_room g v C done l e = data_room g v (done + C - done) l (omega arith)
-
-pub last_room : (g : Geometry) → Valid g → (C k : ℕ) (l : List ℕ) → C ≡ data_capacity g → k ≤ C → length (take k l) + g.width + 3 ≤ g.size
-last_room g v C k l e h = data_room g v k l (omega arith)
+pub data_room : (g : Geometry) → Valid g → (C k : ℕ) → C ≡ data_capacity g → k ≤ C → k + g.width + 3 ≤ g.size
+data_room g v C k e h = omega (arith, capacity_is g, v.least, v.two)
 
 -- ---- the pages that bytes need
 pub no_bytes : (capacity n : ℕ) → n ≡ 0 → 1 ≡ pages_for capacity n

@@ -10,7 +10,7 @@ ghost use Rattle.rules.specs.Chain.{pages_for};
 ghost use Rattle.writes.specs.Stores.{HasRoom, Stores};
 ghost use Rattle.writes.specs.Changes.{over_front, spliced, HasSpan, Rewrites, CanChange, Changes};
 
-use chain::{Cursor, Step};
+use chain::Cursor;
 use entries::Slot;
 use geometry::{Geometry, MOST_PAGE_BYTES};
 use packet::Budget;
@@ -42,18 +42,18 @@ pub fn store_chain(
     let capacity = g.data_capacity();
     let mut left = budget;
     let mut page = owners::next_free(table, from);
-    let mut done: usize = 0;
-    while capacity < bytes.len() - done {
-        let end = done + capacity;
+    let mut rest = bytes;
+    while capacity < rest.len() {
+        let (full, more) = rest.split_at(capacity);
         let next = owners::next_free(table, page + 1);
-        left = left.write(image, g, page, &bytes[done..end], next);
+        left = left.write(image, g, page, full, next);
         if left.stopped {
             return left;
         }
         page = next;
-        done = end;
+        rest = more;
     }
-    left.write(image, g, page, &bytes[done..], 0)
+    left.write(image, g, page, rest, 0)
 }
 
 // Copies bytes, with those from one place to another exchanged for others, to the front of an output.
@@ -81,17 +81,12 @@ fn rewrite(
     requires page_lt_pages { (page < g.pages) × HasSpan g (view_of g image.old) page from to (length new.now) }
     ensures { Rewrites g page from to new.now next image.old budget image.new result }
 {
-    match Cursor::new(page, page).step(image, g, true) {
-        // the page is known to hold a right packet
-        Step::Refused(_, _) => budget,
-        Step::Page(size, _) => {
-            let mut kept = [0u8; MOST_PAGE_BYTES];
-            let bytes = packet::data_of(geometry::page_of(image, g, page), size);
-            splice(bytes, from, to, new, &mut kept);
-            let end = from + new.len() + (size - to);
-            budget.write(image, g, page, &kept[..end], next)
-        }
-    }
+    let (size, _) = Cursor::new(page, page).follow(image, g);
+    let mut kept = [0u8; MOST_PAGE_BYTES];
+    let bytes = packet::data_of(geometry::page_of(image, g, page), size);
+    splice(bytes, from, to, new, &mut kept);
+    let end = from + new.len() + (size - to);
+    budget.write(image, g, page, &kept[..end], next)
 }
 
 // A change of a directory's pages: on the page of `slot` other bytes replace its entries `first` to `last`, `last` not among them, and the page's later entries follow them;

@@ -1,9 +1,10 @@
 -- 0 is a report without weight; any other number is as when it is asked for.
+use native.Mathlib.Omega.{arith}
 use Rattle.answers.proofs.ReportTelling.{version_none, version_some}
 use Rattle.answers.proofs.version_of.Goals as goal
 
-pub returns-then-number-eq0 : goal.returns-then-number-eq0
-returns-then-number-eq0 c = version_none _ _ c.if-number-eq0.true
+pub returns-in-0 : goal.returns-in-0
+returns-in-0 c = version_none _ _ c.in-0.is
 
-pub returns : goal.returns
-returns c = version_some _ _ _ c.if-number-eq0.false c.asked_version.ensures
+pub returns-in_default : goal.returns-in_default
+returns-in_default c = version_some c.args.number _ _ (omega arith) c.asked_version.ensures

@@ -11,9 +11,9 @@ use Rattle.bitmap.proofs.Comparing.{Comparing}
 use Rattle.chain.specs.KnownChain.{ChainAt}
 use Rattle.bitmap.proofs.compare_chain.Given as goal
 
-abbrev pub invariant-loop-size : goal.invariant-loop-size
-invariant-loop-size l = (ls : List Link) → ChainAt l.g (view_of l.g l.image) l.start ls → (used : List ℕ) → Represents (records_of l.table) used
+abbrev pub invariant-loop-bit : goal.invariant-loop-bit
+invariant-loop-bit l = (ls : List Link) → ChainAt l.g (view_of l.g l.image) l.start ls → (used : List ℕ) → Represents (records_of l.table) used
     → Comparing l.g (view_of l.g l.image) (content ls) used (length ls) l.c
 
-abbrev pub decreases-loop-size : goal.decreases-loop-size
-decreases-loop-size l = l.g.pages - l.c.count
+abbrev pub decreases-loop-bit : goal.decreases-loop-bit
+decreases-loop-bit l = l.g.pages - l.c.count

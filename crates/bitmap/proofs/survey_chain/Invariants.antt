@@ -11,9 +11,9 @@ use Rattle.chain.specs.KnownChain.{ChainAt}
 use Rattle.bitmap.proofs.Surveying.{Surveying}
 use Rattle.bitmap.proofs.survey_chain.Given as goal
 
-abbrev pub invariant-loop-size : goal.invariant-loop-size
-invariant-loop-size l = (ls : List Link) → ChainAt l.g (view_of l.g l.image) l.start ls → (used : List ℕ) → Represents (records_of l.table) used
+abbrev pub invariant-loop-unowned : goal.invariant-loop-unowned
+invariant-loop-unowned l = (ls : List Link) → ChainAt l.g (view_of l.g l.image) l.start ls → (used : List ℕ) → Represents (records_of l.table) used
     → Surveying l.g (view_of l.g l.image) (length (records_of l.table)) (content ls) used (length ls) l.c l.unowned
 
-abbrev pub decreases-loop-size : goal.decreases-loop-size
-decreases-loop-size l = l.g.pages - l.c.count
+abbrev pub decreases-loop-unowned : goal.decreases-loop-unowned
+decreases-loop-unowned l = l.g.pages - l.c.count

@@ -30,26 +30,26 @@ returns-then-marked c =
     let a = c.args in
     let p = c.requires.table_len in
     let n = c.pages_for-pages.ensures ∙ ap (λ (x : ℕ). pages_for x (length a.bytes.now)) c.data_capacity.ensures in
-    λ Q. marking_stop (length_exact _ _ p.0) Q n c.find_pages.ensures c.in-At.is a.budget p.2 _ _ c.write_map-marked.ensures c.if-marked.true
+    λ Q. marking_stop (length_exact _ _ p.0) Q n c.find_pages.ensures c.in-Some.is a.budget p.2 _ _ c.write_map-marked.ensures c.if-marked.true
 
 pub put_marked-requires : goal.put_marked-requires
 put_marked-requires c =
     let a = c.args in
     let p = c.requires.table_len in
     let n = c.pages_for-pages.ensures ∙ ap (λ (x : ℕ). pages_for x (length a.bytes.now)) c.data_capacity.ensures in
-    let fit = mid_fit (length_exact _ _ p.0) p.1 n c.find_pages.ensures c.in-At.is a.budget p.2 _ _ c.write_map-marked.ensures c.if-marked.false in
-    let put = to_put (length_exact _ _ p.0) p.1 n c.find_pages.ensures c.in-At.is a.budget p.2 _ _ c.write_map-marked.ensures c.if-marked.false in record { fit = fit; table_len = (p.0, put, c.if-marked.false) }
+    let fit = mid_fit (length_exact _ _ p.0) p.1 n c.find_pages.ensures c.in-Some.is a.budget p.2 _ _ c.write_map-marked.ensures c.if-marked.false in
+    let put = to_put (length_exact _ _ p.0) p.1 n c.find_pages.ensures c.in-Some.is a.budget p.2 _ _ c.write_map-marked.ensures c.if-marked.false in record { fit = fit; table_len = (p.0, put, c.if-marked.false) }
 
-pub returns-in-Full : goal.returns-in-Full
-returns-in-Full c =
+pub returns-in_default : goal.returns-in_default
+returns-in_default c =
     let a = c.args in
     let n = c.pages_for-pages.ensures ∙ ap (λ (x : ℕ). pages_for x (length a.bytes.now)) c.data_capacity.ensures in
-    λ Q. careful_full (length_exact _ _ c.requires.table_len.0) Q _ n _ c.find_pages.ensures c.in-Full.is a.budget
+    λ Q. careful_full (length_exact _ _ c.requires.table_len.0) Q _ n _ c.find_pages.ensures c.in_default.not-Some a.budget
 
-pub returns-else-marked : goal.returns-else-marked
-returns-else-marked c =
+pub returns : goal.returns
+returns c =
     let a = c.args in
     let p = c.requires.table_len in
     let n = c.pages_for-pages.ensures ∙ ap (λ (x : ℕ). pages_for x (length a.bytes.now)) c.data_capacity.ensures in
-    λ Q. careful_done (length_exact _ _ p.0) Q n c.find_pages.ensures c.in-At.is a.budget p.2 _ _ c.write_map-marked.ensures c.if-marked.false
+    λ Q. careful_done (length_exact _ _ p.0) Q n c.find_pages.ensures c.in-Some.is a.budget p.2 _ _ c.write_map-marked.ensures c.if-marked.false
     _ _ c.put_marked.ensures

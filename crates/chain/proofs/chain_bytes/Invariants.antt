@@ -8,8 +8,8 @@ use Rattle.chain.specs.KnownChain.{ChainAt}
 use Rattle.chain.proofs.Following.{ReadTo}
 use Rattle.chain.proofs.chain_bytes.Given as goal
 
-abbrev pub invariant-loop-next : goal.invariant-loop-next
-invariant-loop-next l = (ls : List Link) → ChainAt l.g (view_of l.g l.image) l.start ls → ReadTo l.g (view_of l.g l.image) (length ls) (content ls) l.c
+abbrev pub invariant-loop-g : goal.invariant-loop-g
+invariant-loop-g l = (ls : List Link) → ChainAt l.g (view_of l.g l.image) l.start ls → ReadTo l.g (view_of l.g l.image) (length ls) (content ls) l.c
 
-abbrev pub decreases-loop-next : goal.decreases-loop-next
-decreases-loop-next l = l.g.pages - l.c.count
+abbrev pub decreases-loop-g : goal.decreases-loop-g
+decreases-loop-g l = l.g.pages - l.c.count

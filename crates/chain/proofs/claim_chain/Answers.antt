@@ -1,9 +1,11 @@
-use mathlib.Core.Path.{refl, sym, ◌∙◌}
+use mathlib.Core.Path.{refl, ap, sym, ◌∙◌}
 use native.Mathlib.Omega.{arith}
+use Rattle.rules.specs.Answers.{answer_of}
+use Rattle.rules.proofs.AnswerLaws.{passed_up}
 use Rattle.owners.specs.Records.{records_of}
 use Rattle.owners.specs.RecordLaws.{length_exact}
 use Rattle.owners.specs.OwnerLaws.{has_owner, no_owner, taken, represents_taken}
-use Rattle.chain.proofs.Claiming.{inside, counted_on, held_first, counts, crossed, refused, last, again, leaves_room, stays_small}
+use Rattle.chain.proofs.Claiming.{inside, counted_on, held_first, counts, crossed, refused_too, last, again, leaves_room, stays_small}
 use borrow.Author.Rules.{rules}
 use Rattle.chain.proofs.claim_chain.Goals as goal
 
@@ -20,17 +22,18 @@ enter-requires c =
     let h = c.loop-g.invariant.1 (taken t) (represents_taken t) in
     let n = counts _ _ _ _ _ _ h (length_exact _ _ c.loop-g.invariant.0) in record { fit = c.requires.fit; counted = record { few = omega arith; small = h.small } }
 
-pub returns-in-Refused : goal.returns-in-Refused
-returns-in-Refused c =
+pub returns-in_err-next : goal.returns-in_err-next
+returns-in_err-next c =
     λ claimed h.
-    refused _ _ _ _ _ _ (c.loop-g.invariant.1 claimed h) (length_exact _ _ c.loop-g.invariant.0) (no_owner _ _ _ c.is_owned.ensures c.if-is_owned.false) _ _
-    (sym c.in-Refused.is ∙ c.enter.ensures)
+    rw (passed_up c.from_residual.result _ c.from_residual.ensures.1)
+    (refused_too _ _ _ _ _ _ (c.loop-g.invariant.1 claimed h) (length_exact _ _ c.loop-g.invariant.0) (no_owner _ _ _ c.is_owned.ensures c.if-is_owned.false) _
+    (ap answer_of (sym c.in_err-next.was) ∙ c.enter.ensures))
 
 pub claim-requires : goal.claim-requires
 claim-requires c =
     let t = records_of c.args.table.now in
     let h = c.loop-g.invariant.1 (taken t) (represents_taken t) in
-    let i = inside _ _ _ _ _ (sym c.in-On.is ∙ c.enter.ensures) in
+    let i = inside _ _ _ _ _ (ap answer_of (sym c.in_ok-next.was) ∙ c.enter.ensures) in
     let free = no_owner _ _ _ c.is_owned.ensures c.if-is_owned.false in
     let e = length_exact _ _ c.loop-g.invariant.0 in
     let n = counts _ _ _ _ _ _ h e in
@@ -41,22 +44,22 @@ pub returns-then-next-eq0 : goal.returns-then-next-eq0
 returns-then-next-eq0 c =
     λ claimed h.
     last _ _ _ _ _ _ (c.loop-g.invariant.1 claimed h) (length_exact _ _ c.loop-g.invariant.0) (no_owner _ _ _ c.is_owned.ensures c.if-is_owned.false) _
-    (sym c.in-On.is ∙ c.enter.ensures) c.if-next-eq0.true _ c.claim.ensures
+    (ap answer_of (sym c.in_ok-next.was) ∙ c.enter.ensures) c.if-next-eq0.true _ c.claim.ensures
 
 pub loop-g-smaller : goal.loop-g-smaller
 loop-g-smaller c =
     let t = records_of c.args.table.now in
     let n = counts _ _ _ _ _ _ (c.loop-g.invariant.1 (taken t) (represents_taken t)) (length_exact _ _ c.loop-g.invariant.0) in
-    let k = counted_on _ _ _ _ _ (sym c.in-On.is ∙ c.enter.ensures) in
+    let k = counted_on _ _ _ _ _ (ap answer_of (sym c.in_ok-next.was) ∙ c.enter.ensures) in
     omega arith
 
 pub loop-g-preserved : goal.loop-g-preserved
 loop-g-preserved c =
     let l = c.loop-g in
-    let i = inside _ _ _ _ _ (sym c.in-On.is ∙ c.enter.ensures) in (
+    let i = inside _ _ _ _ _ (ap answer_of (sym c.in_ok-next.was) ∙ c.enter.ensures) in (
       search rules,
       λ claimed h.
           again _ _ _ _ _ _ (l.invariant.1 claimed h) (length_exact _ _ l.invariant.0) (no_owner _ _ _ c.is_owned.ensures c.if-is_owned.false) _
-          (sym c.in-On.is ∙ c.enter.ensures) c.if-next-eq0.false c.requires.table_len.1 (omega (arith, length_exact c.args.g.pages l.table l.invariant.0))
-          (stays_small _ _ _ _ _ c.requires.fit (sym c.in-On.is ∙ c.enter.ensures) (l.invariant.1 claimed h).small) _ c.claim.ensures,
+          (ap answer_of (sym c.in_ok-next.was) ∙ c.enter.ensures) c.if-next-eq0.false c.requires.table_len.1 (omega (arith, length_exact c.args.g.pages l.table l.invariant.0))
+          (stays_small _ _ _ _ _ c.requires.fit (ap answer_of (sym c.in_ok-next.was) ∙ c.enter.ensures) (l.invariant.1 claimed h).small) _ c.claim.ensures,
     )

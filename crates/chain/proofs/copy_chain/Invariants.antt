@@ -9,8 +9,8 @@ use Rattle.chain.specs.KnownChain.{ChainAt}
 use Rattle.chain.proofs.Reading.{Copying}
 use Rattle.chain.proofs.copy_chain.Given as goal
 
-abbrev pub invariant-loop-size : goal.invariant-loop-size
-invariant-loop-size l = (length l.out ≡ length l.initial.out) × ((ls : List Link) → ChainAt l.g (view_of l.g l.image) l.start ls → Copying l.g (view_of l.g l.image) (length ls) (content ls) l.initial.out l.out l.c)
+abbrev pub invariant-loop-g : goal.invariant-loop-g
+invariant-loop-g l = (length l.out ≡ length l.initial.out) × ((ls : List Link) → ChainAt l.g (view_of l.g l.image) l.start ls → Copying l.g (view_of l.g l.image) (length ls) (content ls) l.initial.out l.out l.c)
 
-abbrev pub decreases-loop-size : goal.decreases-loop-size
-decreases-loop-size l = l.g.pages - l.c.count
+abbrev pub decreases-loop-g : goal.decreases-loop-g
+decreases-loop-g l = l.g.pages - l.c.count

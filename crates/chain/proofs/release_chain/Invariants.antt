@@ -11,10 +11,10 @@ use Rattle.chain.specs.KnownChain.{ChainAt}
 use Rattle.chain.proofs.Releasing.{Releasing}
 use Rattle.chain.proofs.release_chain.Given as goal
 
-abbrev pub invariant-loop-next : goal.invariant-loop-next
-invariant-loop-next l =
+abbrev pub invariant-loop-g : goal.invariant-loop-g
+invariant-loop-g l =
     (length l.table ≡ length l.initial.table)
     × ((ls : List Link) → ChainAt l.g (view_of l.g l.image) l.start ls → Releasing l.g (view_of l.g l.image) (length ls) (freed (pages ls) (records_of l.initial.table)) (records_of l.table) l.c)
 
-abbrev pub decreases-loop-next : goal.decreases-loop-next
-decreases-loop-next l = l.g.pages - l.c.count
+abbrev pub decreases-loop-g : goal.decreases-loop-g
+decreases-loop-g l = l.g.pages - l.c.count

@@ -8,33 +8,33 @@ use Rattle.dump.proofs.list_text.Goals as goal
 
 pub number_at-size-requires : goal.number_at-size-requires
 number_at-size-requires c =
-    (omega arith, omega (arith, (well_sized _ _ (sym c.in-At.is ∙ c.place_of.ensures)).header))
+    (omega arith, omega (arith, (well_sized _ _ (sym c.in-Some.is ∙ c.place_of.ensures)).header))
 
 pub number_at-pages-requires : goal.number_at-pages-requires
 number_at-pages-requires c =
-    (omega arith, omega (arith, (well_sized _ _ (sym c.in-At.is ∙ c.place_of.ensures)).header))
+    (omega arith, omega (arith, (well_sized _ _ (sym c.in-Some.is ∙ c.place_of.ensures)).header))
 
 pub slice_bounds-image-count : goal.slice_bounds-image-count
 slice_bounds-image-count c =
-    (well_sized _ _ (sym c.in-At.is ∙ c.place_of.ensures)).inside
+    (well_sized _ _ (sym c.in-Some.is ∙ c.place_of.ensures)).inside
 
 pub slice_bounds-image-start : goal.slice_bounds-image-start
 slice_bounds-image-start c =
-    (well_sized _ _ (sym c.in-At.is ∙ c.place_of.ensures)).inside
+    (well_sized _ _ (sym c.in-Some.is ∙ c.place_of.ensures)).inside
 
-pub print-requires-in-At : goal.print-requires-in-At
-print-requires-in-At c =
+pub print-requires-in-Some : goal.print-requires-in-Some
+print-requires-in-Some c =
     checks_known c.number_at-size.result c.number_at-pages.result _ c.check_image.result c.check_image.ensures
 
-pub returns-in-Malformed : goal.returns-in-Malformed
-returns-in-Malformed c =
-    called _ _ _ c.print.result _ (listed_malformed _ (malformed _ (sym c.in-Malformed.is ∙ c.place_of.ensures))) c.print.ensures
+pub returns-in-None : goal.returns-in-None
+returns-in-None c =
+    called _ _ _ c.print.result _ (listed_malformed _ (malformed _ (sym c.in-None.is ∙ c.place_of.ensures))) c.print.ensures
 
-pub returns-in-At : goal.returns-in-At
-returns-in-At c =
+pub returns-in-Some : goal.returns-in-Some
+returns-in-Some c =
     let a = c.args in
-    let e = sym c.in-At.is ∙ c.place_of.ensures in
-    called a.dump.now _ a.out.now c.print-in-At.result _
+    let e = sym c.in-Some.is ∙ c.place_of.ensures in
+    called a.dump.now _ a.out.now c.print-in-Some.result _
     (listed a.dump.now _ c.number_at-size.result c.number_at-pages.result c.check_image.result (well_placed _ _ e).0 (image_is _ _ e)
     c.number_at-size.ensures.0 c.number_at-pages.ensures.0 c.check_image.ensures)
-    c.print-in-At.ensures
+    c.print-in-Some.ensures

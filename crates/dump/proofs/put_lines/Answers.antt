@@ -1,6 +1,5 @@
-use Prim.Native.Nat.{◌-◌}
 use native.Mathlib.Omega.{arith}
-use Rattle.dump.proofs.Laying.{laid_none, laid_few, laid_room, laid_less, laid_more, laid_all}
+use Rattle.dump.proofs.Laying.{laid_none, laid_few, laid_room, laid_less, laid_more, laid_end}
 use borrow.Author.Rules.{rules}
 use Rattle.dump.proofs.put_lines.Goals as goal
 
@@ -10,9 +9,9 @@ loop-line-init c = (search rules, laid_none _ _ _ _)
 pub line_at-requires : goal.line_at-requires
 line_at-requires c = record { fit = c.requires.fit; has_image = c.requires.has_image.0 }
 
-pub returns-in-Left : goal.returns-in-Left
-returns-in-Left c =
-    laid_all c.loop-line.invariant.1 c.requires.has_image.0 _ c.line_at.ensures _ c.in-Left.is
+pub returns : goal.returns
+returns c =
+    laid_end c.loop-line.invariant.1 c.requires.has_image.0 _ c.line_at.ensures c.in_default.not-Some
 
 pub put_line-next-requires : goal.put_line-next-requires
 put_line-next-requires c =
@@ -24,8 +23,8 @@ overflow_add-k c =
 
 pub loop-line-smaller : goal.loop-line-smaller
 loop-line-smaller c =
-    omega (arith, laid_less c.loop-line.invariant.1 c.requires.has_image.0 _ c.line_at.ensures _ c.in-Found.is)
+    omega (arith, laid_less c.loop-line.invariant.1 c.requires.has_image.0 _ c.line_at.ensures _ c.in-Some.is)
 
 pub loop-line-preserved : goal.loop-line-preserved
 loop-line-preserved c =
-    (search rules, laid_more c.loop-line.invariant.1 c.requires.has_image.0 _ c.line_at.ensures _ _ _ c.in-Found.is c.put_line-next.ensures)
+    (search rules, laid_more c.loop-line.invariant.1 c.requires.has_image.0 _ c.line_at.ensures _ _ _ c.in-Some.is c.put_line-next.ensures)

@@ -6,17 +6,17 @@ use Rattle.edit.proofs.find_pages.Goals as goal
 
 pub returns-then-extra-eq0 : goal.returns-then-extra-eq0
 returns-then-extra-eq0 c =
-    none_joins _ _ _ c.requires.1 _ c.find_room.ensures _ c.in-Below.is _ c.next_free-first.ensures c.if-extra-eq0.true
+    none_joins _ _ _ c.requires.1 _ c.find_room.ensures _ c.in_ok-below.was _ c.next_free-first.ensures c.if-extra-eq0.true
 
 pub overflow_add-first : goal.overflow_add-first
 overflow_add-first c =
-    omega (arith, length_records c.args.table.now, first_inside _ c.args.extra c.args.pages c.requires.1 _ c.find_room.ensures _ c.in-Below.is _ c.next_free-first.ensures)
+    omega (arith, length_records c.args.table.now, first_inside _ c.args.extra c.args.pages c.requires.1 _ c.find_room.ensures _ c.in_ok-below.was _ c.next_free-first.ensures)
 
-pub returns-in-Full : goal.returns-in-Full
-returns-in-Full c =
-    too_few _ _ _ c.requires.1 _ c.find_room.ensures c.in-Full.is
+pub returns-in_err-below : goal.returns-in_err-below
+returns-in_err-below c =
+    rw c.from_residual.ensures (too_few _ _ _ c.requires.1 _ c.find_room.ensures c.in_err-below.was)
 
-pub returns-else-extra-eq0 : goal.returns-else-extra-eq0
-returns-else-extra-eq0 c =
-    one_joins _ _ _ c.requires.1 _ c.find_room.ensures _ c.in-Below.is _ c.next_free-first.ensures (omega (arith, c.if-extra-eq0.false, c.requires.0)) _
+pub returns : goal.returns
+returns c =
+    one_joins _ _ _ c.requires.1 _ c.find_room.ensures _ c.in_ok-below.was _ c.next_free-first.ensures (omega (arith, c.if-extra-eq0.false, c.requires.0)) _
     c.next_free.ensures

@@ -33,7 +33,7 @@ put_entry-changed-requires c =
     let p = c.requires in
     let n = c.pages_for-pages.ensures ∙ ap (λ (x : ℕ). pages_for x (length a.bytes.now)) c.data_capacity.ensures in record {
       fit = p.fit;
-      table_len = (p.table_len.0, plan_is a.g a.image.now (records_of a.table.now) a.bytes.now (length_exact _ _ p.table_len.0) a.file p.table_len.1 n c.find_pages.ensures c.in-At.is, p.table_len.2);
+      table_len = (p.table_len.0, plan_is a.g a.image.now (records_of a.table.now) a.bytes.now (length_exact _ _ p.table_len.0) a.file p.table_len.1 n c.find_pages.ensures c.in-Some.is, p.table_len.2);
     }
 
 pub returns-then-changed : goal.returns-then-changed
@@ -42,30 +42,30 @@ returns-then-changed c =
     let p = c.requires.table_len in
     let n = c.pages_for-pages.ensures ∙ ap (λ (x : ℕ). pages_for x (length a.bytes.now)) c.data_capacity.ensures in
     λ P.
-    let h = c.put_entry-changed.ensures (plan_is a.g a.image.now (records_of a.table.now) a.bytes.now (length_exact _ _ p.0) a.file P n c.find_pages.ensures c.in-At.is) in
-    put_stop a.g a.image.now (records_of a.table.now) a.bytes.now (length_exact _ _ p.0) a.file P n c.find_pages.ensures c.in-At.is a.budget p.2 _ _ h c.if-changed.true
+    let h = c.put_entry-changed.ensures (plan_is a.g a.image.now (records_of a.table.now) a.bytes.now (length_exact _ _ p.0) a.file P n c.find_pages.ensures c.in-Some.is) in
+    put_stop a.g a.image.now (records_of a.table.now) a.bytes.now (length_exact _ _ p.0) a.file P n c.find_pages.ensures c.in-Some.is a.budget p.2 _ _ h c.if-changed.true
 
 pub write_map-requires : goal.write_map-requires
 write_map-requires c =
     let a = c.args in
     let p = c.requires.table_len in
     let n = c.pages_for-pages.ensures ∙ ap (λ (x : ℕ). pages_for x (length a.bytes.now)) c.data_capacity.ensures in
-    let h = c.put_entry-changed.ensures (plan_is a.g a.image.now (records_of a.table.now) a.bytes.now (length_exact _ _ p.0) a.file p.1 n c.find_pages.ensures c.in-At.is) in
-    let k = put_fit a.g a.image.now (records_of a.table.now) a.bytes.now (length_exact _ _ p.0) a.file p.1 n c.find_pages.ensures c.in-At.is
+    let h = c.put_entry-changed.ensures (plan_is a.g a.image.now (records_of a.table.now) a.bytes.now (length_exact _ _ p.0) a.file p.1 n c.find_pages.ensures c.in-Some.is) in
+    let k = put_fit a.g a.image.now (records_of a.table.now) a.bytes.now (length_exact _ _ p.0) a.file p.1 n c.find_pages.ensures c.in-Some.is
     a.budget p.2 _ _ h c.if-changed.false in record { fit = k.0; has_root = (k.1, c.if-changed.false) }
 
-pub returns-in-Full : goal.returns-in-Full
-returns-in-Full c =
+pub returns-in_default : goal.returns-in_default
+returns-in_default c =
     let a = c.args in
     let n = c.pages_for-pages.ensures ∙ ap (λ (x : ℕ). pages_for x (length a.bytes.now)) c.data_capacity.ensures in
-    λ P. put_full a.g a.image.now (records_of a.table.now) a.bytes.now (length_exact _ _ c.requires.table_len.0) a.file P _ n _ c.find_pages.ensures c.in-Full.is a.budget
+    λ P. put_full a.g a.image.now (records_of a.table.now) a.bytes.now (length_exact _ _ c.requires.table_len.0) a.file P _ n _ c.find_pages.ensures c.in_default.not-Some a.budget
 
-pub returns-else-changed : goal.returns-else-changed
-returns-else-changed c =
+pub returns : goal.returns
+returns c =
     let a = c.args in
     let p = c.requires.table_len in
     let n = c.pages_for-pages.ensures ∙ ap (λ (x : ℕ). pages_for x (length a.bytes.now)) c.data_capacity.ensures in
     λ P.
-    let h = c.put_entry-changed.ensures (plan_is a.g a.image.now (records_of a.table.now) a.bytes.now (length_exact _ _ p.0) a.file P n c.find_pages.ensures c.in-At.is) in
-    put_done a.g a.image.now (records_of a.table.now) a.bytes.now (length_exact _ _ p.0) a.file P n c.find_pages.ensures c.in-At.is
+    let h = c.put_entry-changed.ensures (plan_is a.g a.image.now (records_of a.table.now) a.bytes.now (length_exact _ _ p.0) a.file P n c.find_pages.ensures c.in-Some.is) in
+    put_done a.g a.image.now (records_of a.table.now) a.bytes.now (length_exact _ _ p.0) a.file P n c.find_pages.ensures c.in-Some.is
     a.budget p.2 _ _ h c.if-changed.false _ _ c.write_map.ensures

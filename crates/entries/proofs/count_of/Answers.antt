@@ -25,9 +25,9 @@ returns-in_default c =
 
 pub loop-later-smaller : goal.loop-later-smaller
 loop-later-smaller c =
-    (page_answer _ _ _ _ c.next_page.ensures _ c.in-At.is).less
+    (page_answer _ _ _ _ c.next_page.ensures _ c.in-Some.is).less
 
 pub loop-later-preserved : goal.loop-later-preserved
 loop-later-preserved c =
-    let n = page_answer _ _ _ _ c.next_page.ensures _ c.in-At.is in
+    let n = page_answer _ _ _ _ c.next_page.ensures _ c.in-Some.is in
     λ ls d. let i = c.loop-later.invariant ls d in count_on i (n.ahead _ i.ahead)

@@ -23,15 +23,15 @@ overflow_add-slot c =
 pub page_has-requires : goal.page_has-requires
 page_has-requires c =
     let s = c.requires in
-    let r = searched s.fit (c.loop-g.invariant _ s.has_entries.0.chain s.has_entries.0.enough) _ c.page_of-page.ensures _ c.least.ensures in record { valid = s.fit.valid; m_in_bounds = (r.0, r.1, s.has_entries.1) }
+    let r = searched s.fit (c.loop-g.invariant _ s.has_entries.0.chain s.has_entries.0.enough) _ c.page_of-page.ensures _ c.min.ensures in record { valid = s.fit.valid; m_in_bounds = (r.0, r.1, s.has_entries.1) }
 
 pub returns-then-page_has : goal.returns-then-page_has
 returns-then-page_has c =
-    λ ls d n. look_found c.requires.fit (c.loop-g.invariant ls d n) _ c.page_of-page.ensures _ c.least.ensures _ c.page_has.ensures c.if-page_has.true
+    λ ls d n. look_found c.requires.fit (c.loop-g.invariant ls d n) _ c.page_of-page.ensures _ c.min.ensures _ c.page_has.ensures c.if-page_has.true
 
 pub returns-then-left-count : goal.returns-then-left-count
 returns-then-left-count c =
-    λ ls d n. look_done c.requires.fit (c.loop-g.invariant ls d n) _ c.page_of-page.ensures _ c.least.ensures _ c.page_has.ensures c.if-page_has.false c.if-left-count.true
+    λ ls d n. look_done c.requires.fit (c.loop-g.invariant ls d n) _ c.page_of-page.ensures _ c.min.ensures _ c.page_has.ensures c.if-page_has.false c.if-left-count.true
 
 pub next_page-requires : goal.next_page-requires
 next_page-requires c =
@@ -43,15 +43,15 @@ returns-in_default c =
     let x = last_answer _ _ _ _ c.next_page.ensures c.in_default.is in
     λ ls d n.
     let i = c.loop-g.invariant ls d n in
-    absurd (look_some c.requires.fit i _ c.page_of-page.ensures _ c.least.ensures _ c.page_has.ensures c.if-page_has.false c.if-left-count.false (x _ i.ahead))
+    absurd (look_some c.requires.fit i _ c.page_of-page.ensures _ c.min.ensures _ c.page_has.ensures c.if-page_has.false c.if-left-count.false (x _ i.ahead))
 
 pub loop-g-smaller : goal.loop-g-smaller
 loop-g-smaller c =
-    (page_answer _ _ _ _ c.next_page.ensures _ c.in-At.is).less
+    (page_answer _ _ _ _ c.next_page.ensures _ c.in-Some.is).less
 
 pub loop-g-preserved : goal.loop-g-preserved
 loop-g-preserved c =
-    let x = page_answer _ _ _ _ c.next_page.ensures _ c.in-At.is in
+    let x = page_answer _ _ _ _ c.next_page.ensures _ c.in-Some.is in
     λ ls d n.
     let i = c.loop-g.invariant ls d n in
-    look_on c.requires.fit i _ c.page_of-page.ensures _ c.least.ensures _ c.page_has.ensures c.if-page_has.false c.if-left-count.false (x.ahead _ i.ahead)
+    look_on c.requires.fit i _ c.page_of-page.ensures _ c.min.ensures _ c.page_has.ensures c.if-page_has.false c.if-left-count.false (x.ahead _ i.ahead)

@@ -1,12 +1,6 @@
--- From the last byte down. The invariant: the value is the number of the bytes from `left` on, and below 256 to the power of how many those are. The measure: `left`.
-use mathlib.Core.Path.{◌≡◌}
-use Prim.Native.Nat.{◌-◌, ◌^◌, ◌≤◌, ◌<◌}
-use lib.ListN.{length, drop}
-use Rattle.geometry.specs.Number.{number}
+-- From the last byte down: the value is the number of the bytes seen, in front of which the others still stand.
+use Rattle.geometry.proofs.Numbers.{Read}
 use Rattle.geometry.proofs.read_number.Given as goal
 
-abbrev pub invariant-loop-left : goal.invariant-loop-left
-invariant-loop-left l = (l.left ≤ length l.bytes) × (l.value ≡ number (drop l.left l.bytes)) × (l.value < 256 ^ (length l.bytes - l.left))
-
-abbrev pub decreases-loop-left : goal.decreases-loop-left
-decreases-loop-left l = l.left
+abbrev pub invariant-loop-byte : goal.invariant-loop-byte
+invariant-loop-byte l = Read l.bytes l.byte-iterator.iter.rest.now l.value

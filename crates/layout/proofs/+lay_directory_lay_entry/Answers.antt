@@ -64,49 +64,49 @@ lay_directory-write_page-requires t c =
     let s = c.requires in
     let i = c.loop-here.invariant in record { fit = fit_same _ _ _ s.fit_2 i.0; p_lt_pages = (i.1.below, head_room _ _ _ s.fit.0.valid i.1) }
 
-pub lay_directory-returns-in_default : goal.lay_directory-returns-in_default
-lay_directory-returns-in_default t c =
+pub lay_directory-returns : goal.lay_directory-returns
+lay_directory-returns t c =
     let s = c.requires in
     λ tree st. lay_done s.fit.0 s.fit.1 (parent_of c.args.name c.args.at) (c.loop-here.invariant.2 tree st)
     (end_answer _ _ _ _ c.next_entry.ensures c.in_default.is) _ c.write_page.ensures
 
 pub lay_directory-past-slot-requires : goal.lay_directory-past-slot-requires
 lay_directory-past-slot-requires t c =
-    (entry_answer _ _ _ _ c.next_entry.ensures _ c.in-At.is).under
+    (entry_answer _ _ _ _ c.next_entry.ensures _ c.in-Some.is).under
 
 pub lay_directory-item-requires : goal.lay_directory-item-requires
 lay_directory-item-requires t c =
     let s = c.requires in
     let K = s.levels_bound.1 in
-    let n = entry_answer _ _ _ _ c.next_entry.ensures _ c.in-At.is in record { fit = s.fit.0; in_directory = (entry_in n (lay_in s.fit.0 s.fit.1 (parent_of c.args.name c.args.at) (c.loop-here.invariant.2 K.tree K.stands)), n.under) }
+    let n = entry_answer _ _ _ _ c.next_entry.ensures _ c.in-Some.is in record { fit = s.fit.0; in_directory = (entry_in n (lay_in s.fit.0 s.fit.1 (parent_of c.args.name c.args.at) (c.loop-here.invariant.2 K.tree K.stands)), n.under) }
 
 pub lay_directory-overflow_add-stamps : goal.lay_directory-overflow_add-stamps
 lay_directory-overflow_add-stamps t c =
     let s = c.requires in
     let K = s.levels_bound.1 in
-    let n = entry_answer _ _ _ _ c.next_entry.ensures _ c.in-At.is in
+    let n = entry_answer _ _ _ _ c.next_entry.ensures _ c.in-Some.is in
     omega (arith, few_stamps s.fit.0 s.fit.1 (parent_of c.args.name c.args.at) (c.loop-here.invariant.2 K.tree K.stands) n)
 
 pub lay_directory-loop-here-smaller-in_default-item : goal.lay_directory-loop-here-smaller-in_default-item
 lay_directory-loop-here-smaller-in_default-item t c =
-    past_less (entry_answer _ _ _ _ c.next_entry.ensures _ c.in-At.is) _ c.past-slot.ensures
+    past_less (entry_answer _ _ _ _ c.next_entry.ensures _ c.in-Some.is) _ c.past-slot.ensures
 
 pub lay_directory-loop-here-preserved-in_default-item : goal.lay_directory-loop-here-preserved-in_default-item
 lay_directory-loop-here-preserved-in_default-item t c =
     let s = c.requires in
     let i = c.loop-here.invariant in
-    let n = entry_answer _ _ _ _ c.next_entry.ensures _ c.in-At.is in
+    let n = entry_answer _ _ _ _ c.next_entry.ensures _ c.in-Some.is in
     (i.0, i.1, λ tree st. lay_stamp s.fit.0 s.fit.1 (parent_of c.args.name c.args.at) (i.2 tree st) n c.item.result c.item.ensures c.in_default-item.is _ c.past-slot.ensures)
 
 pub lay_directory-slice_bounds-turn-end : goal.lay_directory-slice_bounds-turn-end
 lay_directory-slice_bounds-turn-end t c =
     sym c.loop-here.invariant.1.long
 
-pub lay_directory-overflow_add-stamps-in-loop-here : goal.lay_directory-overflow_add-stamps-in-loop-here
-lay_directory-overflow_add-stamps-in-loop-here t c =
+pub lay_directory-overflow_add-stamps-in-Some : goal.lay_directory-overflow_add-stamps-in-Some
+lay_directory-overflow_add-stamps-in-Some t c =
     let s = c.requires in
     let K = s.levels_bound.1 in
-    let n = entry_answer _ _ _ _ c.next_entry.ensures _ c.in-At.is in
+    let n = entry_answer _ _ _ _ c.next_entry.ensures _ c.in-Some.is in
     omega (arith, few_stamps s.fit.0 s.fit.1 (parent_of c.args.name c.args.at) (c.loop-here.invariant.2 K.tree K.stands) n)
 
 pub lay_directory-turn-w-requires : goal.lay_directory-turn-w-requires
@@ -120,7 +120,7 @@ lay_directory-lay_entry-next-requires t c =
     let s = c.requires in
     let K = s.levels_bound.1 in
     let i = c.loop-here.invariant in
-    let n = entry_answer _ _ _ _ c.next_entry.ensures _ c.in-At.is in
+    let n = entry_answer _ _ _ _ c.next_entry.ensures _ c.in-Some.is in
     let x = plain_answer _ _ _ c.item.result c.item.ensures _ c.in-Plain.is in
     let wide = slots_fit s.fit.0 s.fit.1 (parent_of c.args.name c.args.at) (i.2 K.tree K.stands) n x.0 x.1 (K.fitting, K.inner) in
     let l = after_turn s.fit.0 s.fit.1 (parent_of c.args.name c.args.at) (i.2 K.tree K.stands) n x.0 x.1 wide _ _ c.turn-w.ensures in
@@ -135,7 +135,7 @@ lay_directory-add-w-requires t c =
     let s = c.requires in
     let K = s.levels_bound.1 in
     let i = c.loop-here.invariant in
-    let n = entry_answer _ _ _ _ c.next_entry.ensures _ c.in-At.is in
+    let n = entry_answer _ _ _ _ c.next_entry.ensures _ c.in-Some.is in
     let x = plain_answer _ _ _ c.item.result c.item.ensures _ c.in-Plain.is in
     let wide = slots_fit s.fit.0 s.fit.1 (parent_of c.args.name c.args.at) (i.2 K.tree K.stands) n x.0 x.1 (K.fitting, K.inner) in
     let l = after_turn s.fit.0 s.fit.1 (parent_of c.args.name c.args.at) (i.2 K.tree K.stands) n x.0 x.1 wide _ _ c.turn-w.ensures in
@@ -149,14 +149,14 @@ lay_directory-add-w-requires t c =
 
 pub lay_directory-loop-here-smaller : goal.lay_directory-loop-here-smaller
 lay_directory-loop-here-smaller t c =
-    past_less (entry_answer _ _ _ _ c.next_entry.ensures _ c.in-At.is) _ c.past-slot.ensures
+    past_less (entry_answer _ _ _ _ c.next_entry.ensures _ c.in-Some.is) _ c.past-slot.ensures
 
 pub lay_directory-loop-here-preserved : goal.lay_directory-loop-here-preserved
 lay_directory-loop-here-preserved t c =
     let s = c.requires in
     let K = s.levels_bound.1 in
     let i = c.loop-here.invariant in
-    let n = entry_answer _ _ _ _ c.next_entry.ensures _ c.in-At.is in
+    let n = entry_answer _ _ _ _ c.next_entry.ensures _ c.in-Some.is in
     let x = plain_answer _ _ _ c.item.result c.item.ensures _ c.in-Plain.is in
     let wide = slots_fit s.fit.0 s.fit.1 (parent_of c.args.name c.args.at) (i.2 K.tree K.stands) n x.0 x.1 (K.fitting, K.inner) in
     let t₁ = c.turn-w.ensures in
@@ -164,7 +164,7 @@ lay_directory-loop-here-preserved t c =
     let some = turn_some s.fit.0 s.fit.1 (parent_of c.args.name c.args.at) (i.2 K.tree K.stands) n x.0 x.1 wide _ _ t₁ in
     let p = c.lay_entry-next.ensures in
     let l = after_turn s.fit.0 s.fit.1 (parent_of c.args.name c.args.at) (i.2 K.tree K.stands) n x.0 x.1 wide _ _ c.turn-w.ensures in (
-      omega (arith, c.second-in-loop-here-2-1.given, c.second-in-loop-here-1.given, i.0),
+      omega (arith, c.lay_entry-next.auto.second, c.turn-w.auto.second, i.0),
       add_holds s.fit.0 s.fit.1 (parent_of c.args.name c.args.at) l n x.0 x.1 some _ _ p o _ _ c.add-w.ensures,
       λ tree st. after_entry s.fit.0 s.fit.1 (parent_of c.args.name c.args.at) (after_turn s.fit.0 s.fit.1 (parent_of c.args.name c.args.at) (i.2 tree st) n x.0 x.1 wide _ _ t₁)
           n x.0 x.1 some _ _ p o _ _ c.add-w.ensures _ c.past-slot.ensures,

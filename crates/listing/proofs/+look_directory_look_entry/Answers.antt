@@ -20,50 +20,50 @@ pub look_directory-next_entry-requires : goal.look_directory-next_entry-requires
 look_directory-next_entry-requires t c =
     let s = c.requires in record { fit = s.fit; in_directory = ahead_in (c.loop-at.invariant s.level_bound.1.tree s.level_bound.1.stands) }
 
-pub look_directory-returns-in_default : goal.look_directory-returns-in_default
-look_directory-returns-in_default t c =
+pub look_directory-returns : goal.look_directory-returns
+look_directory-returns t c =
     λ tree st. ahead_done (c.loop-at.invariant tree st) (end_answer _ _ _ _ c.next_entry.ensures c.in_default.is)
 
 pub look_directory-past-slot-requires : goal.look_directory-past-slot-requires
 look_directory-past-slot-requires t c =
-    (entry_answer _ _ _ _ c.next_entry.ensures _ c.in-At.is).under
+    (entry_answer _ _ _ _ c.next_entry.ensures _ c.in-Some.is).under
 
 pub look_directory-item-requires : goal.look_directory-item-requires
 look_directory-item-requires t c =
     let s = c.requires in
-    let n = entry_answer _ _ _ _ c.next_entry.ensures _ c.in-At.is in record { fit = s.fit; in_directory = (entry_in n (ahead_in (c.loop-at.invariant s.level_bound.1.tree s.level_bound.1.stands)), n.under) }
+    let n = entry_answer _ _ _ _ c.next_entry.ensures _ c.in-Some.is in record { fit = s.fit; in_directory = (entry_in n (ahead_in (c.loop-at.invariant s.level_bound.1.tree s.level_bound.1.stands)), n.under) }
 
 pub look_directory-loop-at-smaller-in_default-item : goal.look_directory-loop-at-smaller-in_default-item
 look_directory-loop-at-smaller-in_default-item t c =
-    past_less (entry_answer _ _ _ _ c.next_entry.ensures _ c.in-At.is) _ c.past-slot.ensures
+    past_less (entry_answer _ _ _ _ c.next_entry.ensures _ c.in-Some.is) _ c.past-slot.ensures
 
 pub look_directory-loop-at-preserved-in_default-item : goal.look_directory-loop-at-preserved-in_default-item
 look_directory-loop-at-preserved-in_default-item t c =
-    let n = entry_answer _ _ _ _ c.next_entry.ensures _ c.in-At.is in
+    let n = entry_answer _ _ _ _ c.next_entry.ensures _ c.in-Some.is in
     λ tree st. ahead_stamp (c.loop-at.invariant tree st) n c.item.result c.item.ensures c.in_default-item.is _ c.past-slot.ensures
 
 pub look_directory-look_entry-requires : goal.look_directory-look_entry-requires
 look_directory-look_entry-requires t c =
     let s = c.requires in
-    let n = entry_answer _ _ _ _ c.next_entry.ensures _ c.in-At.is in
+    let n = entry_answer _ _ _ _ c.next_entry.ensures _ c.in-Some.is in
     let e = plain_answer _ _ _ c.item.result c.item.ensures _ c.in-Plain.is in
     (omega (arith, c.decreases), (s.fit, (s.level_bound.0, ahead_part (c.loop-at.invariant s.level_bound.1.tree s.level_bound.1.stands) n e.0 e.1)))
 
-pub look_directory-returns-in-Found : goal.look_directory-returns-in-Found
-look_directory-returns-in-Found t c =
-    let n = entry_answer _ _ _ _ c.next_entry.ensures _ c.in-At.is in
+pub look_directory-returns-in_err-left : goal.look_directory-returns-in_err-left
+look_directory-returns-in_err-left t c =
+    let n = entry_answer _ _ _ _ c.next_entry.ensures _ c.in-Some.is in
     let e = plain_answer _ _ _ c.item.result c.item.ensures _ c.in-Plain.is in
-    λ tree st. ahead_found (c.loop-at.invariant tree st) n e.0 e.1 _ c.look_entry.ensures _ c.in-Found.is
+    λ tree st. rw c.from_residual.ensures (ahead_found (c.loop-at.invariant tree st) n e.0 e.1 _ c.look_entry.ensures _ c.in_err-left.was)
 
 pub look_directory-loop-at-smaller : goal.look_directory-loop-at-smaller
 look_directory-loop-at-smaller t c =
-    past_less (entry_answer _ _ _ _ c.next_entry.ensures _ c.in-At.is) _ c.past-slot.ensures
+    past_less (entry_answer _ _ _ _ c.next_entry.ensures _ c.in-Some.is) _ c.past-slot.ensures
 
 pub look_directory-loop-at-preserved : goal.look_directory-loop-at-preserved
 look_directory-loop-at-preserved t c =
-    let n = entry_answer _ _ _ _ c.next_entry.ensures _ c.in-At.is in
+    let n = entry_answer _ _ _ _ c.next_entry.ensures _ c.in-Some.is in
     let e = plain_answer _ _ _ c.item.result c.item.ensures _ c.in-Plain.is in
-    λ tree st. ahead_past (c.loop-at.invariant tree st) n e.0 e.1 _ c.look_entry.ensures _ c.in-Left.is _ c.past-slot.ensures
+    λ tree st. ahead_past (c.loop-at.invariant tree st) n e.0 e.1 _ c.look_entry.ensures _ c.in_ok-left.was _ c.past-slot.ensures
 
 pub look_entry-entry_line-requires : goal.look_entry-entry_line-requires
 look_entry-entry_line-requires t c =

@@ -23,23 +23,23 @@ resolve-requires t c =
     let h = s.has_tree.0 in
     let a = c.args in
     let n = lead_next a.g (views_of a.g a.image.now) a.from a.path.now a.at a.names c.if-names-eq0.false _ _ c.number_at-name.ensures.0
-    c.key_of.ensures h.tree h.at _ (sym c.in-Found.is ∙ c.find_entry.ensures h.tree h.at) in
+    c.key_of.ensures h.tree h.at _ (sym c.in-Some.is ∙ c.find_entry.ensures h.tree h.at) in
     (omega (arith, c.decreases, c.if-names-eq0.false), (s.fit, (has_tree_from _ _ (ap (λ (r : Reached). r.start) c.step_down-below.ensures) n.tree, omega (arith, s.has_tree.1))))
 
-pub returns-in-Absent : goal.returns-in-Absent
-returns-in-Absent t c =
+pub returns-in_default : goal.returns-in_default
+returns-in_default t c =
     λ p T.
     let a = c.args in
     lead_absent a.g (views_of a.g a.image.now) a.from a.path.now a.at a.names c.if-names-eq0.false _ _ c.number_at-name.ensures.0
-    c.key_of.ensures p (sym c.in-Absent.is ∙ c.find_entry.ensures p.items T.tree)
+    c.key_of.ensures p (sym c.in_default.is ∙ c.find_entry.ensures p.items T.tree)
 
-pub returns-in-Found : goal.returns-in-Found
-returns-in-Found t c =
+pub returns : goal.returns
+returns t c =
     λ p T.
     let a = c.args in
     let vs = views_of a.g a.image.now in
     let n = lead_next a.g vs a.from a.path.now a.at a.names c.if-names-eq0.false _ _ c.number_at-name.ensures.0
-    c.key_of.ensures p.items T.tree _ (sym c.in-Found.is ∙ c.find_entry.ensures p.items T.tree) in
+    c.key_of.ensures p.items T.tree _ (sym c.in-Some.is ∙ c.find_entry.ensures p.items T.tree) in
     lead_on a.g vs a.from a.path.now a.at a.names c.if-names-eq0.false _ _ c.number_at-name.ensures.0
     c.key_of.ensures p _ n c.resolve.result (c.resolve.ensures (step_down p _ n.label n.items)
     (subst (IsReached a.g vs (step_down p _ n.label n.items)) (sym c.step_down-below.ensures) (step_reached a.g vs a.from p T _ n.label n.items _ n.entry_is n.tree)))

@@ -1,9 +1,10 @@
 -- The control field is filled, then the directory is put where it goes.
+use Rattle.rules.proofs.AnswerLaws.{passed_up}
 use mathlib.Core.Path.{sym, ◌∙◌}
 use native.Mathlib.Omega.{arith}
 use Rattle.owners.specs.Records.{records_of}
 use Rattle.packet.proofs.Fronts.{zeros_front, front_room, front_size, front_read}
-use Rattle.make.proofs.PathMakes.{size_is, control_length, refused, to_make, make_at}
+use Rattle.make.proofs.PathMakes.{size_is, control_length, refuses, to_make, make_at}
 use Rattle.make.proofs.make_path.Goals as goal
 
 pub place_directory-requires : goal.place_directory-requires
@@ -27,8 +28,8 @@ put_control-requires c = (
   c.requires.fit.valid.two,
 )
 
-pub slice_bounds-control-end-in-At : goal.slice_bounds-control-end-in-At
-slice_bounds-control-end-in-At c =
+pub slice_bounds-control-end-2 : goal.slice_bounds-control-end-2
+slice_bounds-control-end-2 c =
     front_room _ _ _ _ c.put_control.ensures (control_length c.args.g _ _ c.control_size-size.ensures.0)
 
 pub slice_bounds-put_file-end : goal.slice_bounds-put_file-end
@@ -41,19 +42,20 @@ put_file-requires c =
     let p = c.requires in
     let n = front_read _ _ _ _ c.put_control.ensures (control_length a.g _ _ c.control_size-size.ensures.0) in
     let made = to_make a.g a.image.now (records_of a.table.now) a.path.now p.fit p.table_len.1 (λ i. (c.shared_slice_known-1.given i).fits)
-    c.place_directory.result c.place_directory.ensures a.budget _ _ c.in-At.is _ n in record { fit = p.fit; table_len = (p.table_len.0, made, p.table_len.2) }
+    c.place_directory.result c.place_directory.ensures a.budget _ _ c.in_ok-above.was _ n in record { fit = p.fit; table_len = (p.table_len.0, made, p.table_len.2) }
 
-pub returns-in-Refused : goal.returns-in-Refused
-returns-in-Refused c =
+pub returns-in_err-above : goal.returns-in_err-above
+returns-in_err-above c =
     let a = c.args in
     let p = c.requires in
-    refused a.g a.image.now (records_of a.table.now) a.path.now p.fit p.table_len.1 (λ i. (c.shared_slice_known-1.given i).fits)
-    c.place_directory.result c.place_directory.ensures a.budget _ _ c.in-Refused.is
+    rw (passed_up c.from_residual.result _ c.from_residual.ensures.1)
+    (refuses a.g a.image.now (records_of a.table.now) a.path.now p.fit p.table_len.1 (λ i. (c.shared_slice_known-1.given i).fits)
+    c.place_directory.result c.place_directory.ensures a.budget _ c.in_err-above.was)
 
-pub returns-in-At : goal.returns-in-At
-returns-in-At c =
+pub returns : goal.returns
+returns c =
     let a = c.args in
     let p = c.requires in
     let n = front_read _ _ _ _ c.put_control.ensures (control_length a.g _ _ c.control_size-size.ensures.0) in
     make_at a.g a.image.now (records_of a.table.now) a.path.now p.fit p.table_len.1 (λ i. (c.shared_slice_known-1.given i).fits)
-    c.place_directory.result c.place_directory.ensures a.budget _ _ c.in-At.is _ n _ c.put_file.result c.put_file.ensures
+    c.place_directory.result c.place_directory.ensures a.budget _ _ c.in_ok-above.was _ n _ c.put_file.result c.put_file.ensures

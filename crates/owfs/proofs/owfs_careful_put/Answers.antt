@@ -1,7 +1,7 @@
 -- The library's careful put: no more writes are made than are allowed, so their number fits 32 bits.
 use native.Mathlib.Omega.{arith}
 use Rattle.geometry.specs.NumberLaws.{bytes_from}
-use Rattle.rules.specs.Answers.{count_result}
+use Rattle.rules.specs.Answers.{answer_of}
 use Rattle.rules.specs.Careful.{careful_put_call}
 use Rattle.answers.specs.ExportedAnswers.{writes_for, careful_put_answer}
 use Rattle.answers.proofs.CallLaws.{told_both}
@@ -21,7 +21,7 @@ returns c =
     let path_bytes = bytes_from a.path.now (λ i. (c.shared_slice_known-1.given i).fits) in
     let new_bytes = bytes_from a.bytes.now (λ i. (c.shared_slice_known-2-1.given i).fits) in
     let call = careful_put_call a.size a.pages a.image.now a.owners.now a.allowed a.path.now a.bytes.now in
-    let e = told_both writes_for (count_result c.put.result) c.tell_writes.result _ _ call c.put.ensures.table_after c.tell_writes.ensures in record {
+    let e = told_both writes_for (answer_of c.put.result) c.tell_writes.result _ _ call c.put.ensures.table_after c.tell_writes.ensures in record {
       owners_after = e;
       carefully_puts = carefully_puts a.size a.pages a.image.now a.owners.now image_bytes a.allowed a.path.now a.bytes.now path_bytes new_bytes c.tell_writes.result _ _ e;
     }

@@ -1,6 +1,6 @@
 -- The library's listing, its line told as numbers, which fit 32 bits.
 use Rattle.geometry.specs.NumberLaws.{bytes_from}
-use Rattle.rules.specs.Answers.{line_result}
+use Rattle.rules.specs.Answers.{answer_of}
 use Rattle.rules.specs.Calls.{list_call}
 use Rattle.answers.specs.ExportedAnswers.{entry_for, list_answer}
 use Rattle.answers.proofs.CallLaws.{told}
@@ -18,7 +18,7 @@ returns c =
     let a = c.args in
     let image_bytes = bytes_from a.image.now (λ i. (c.shared_slice_known-1.given i).fits) in
     let call = list_call a.size a.pages a.image.now a.owners.now a.position in
-    let e = told entry_for (line_result c.list.result) c.tell_entry.result _ call c.list.ensures.table_after c.tell_entry.ensures in record {
+    let e = told entry_for (answer_of c.list.result) c.tell_entry.result _ call c.list.ensures.table_after c.tell_entry.ensures in record {
       owners_after = e;
       tells_tree = lists_tree a.size a.pages a.image.now a.owners.now image_bytes a.position c.tell_entry.result _ e;
     }

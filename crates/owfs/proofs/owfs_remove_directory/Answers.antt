@@ -1,6 +1,6 @@
 -- The library's removal, its answer told as numbers.
 use Rattle.geometry.specs.NumberLaws.{bytes_from}
-use Rattle.rules.specs.Answers.{edit_result}
+use Rattle.rules.specs.Answers.{answer_of}
 use Rattle.rules.specs.Directories.{remove_call}
 use Rattle.answers.specs.ExportedAnswers.{answer_for, remove_answer}
 use Rattle.answers.proofs.CallLaws.{told_both}
@@ -18,7 +18,7 @@ returns c =
     let a = c.args in
     let image_bytes = bytes_from a.image.now (λ i. (c.slice_known-1.given i).fits) in
     let call = remove_call a.size a.pages a.image.now a.owners.now a.path.now in
-    let e = told_both answer_for (edit_result c.remove.result) c.tell_answer.result _ _ call c.remove.ensures.table_after c.tell_answer.ensures in record {
+    let e = told_both answer_for (answer_of c.remove.result) c.tell_answer.result _ _ call c.remove.ensures.table_after c.tell_answer.ensures in record {
       owners_after = e;
       removes = removes a.size a.pages a.image.now a.owners.now image_bytes a.path.now c.tell_answer.result _ _ e;
     }

@@ -7,4 +7,4 @@ pub returns : goal.returns
 returns c =
     let a = c.args in
     let file_bytes = bytes_from a.file.now (λ i. (c.shared_slice_known-1.given i).fits) in
-    let s = add_stated a.report a.file.now _ _ _ file_bytes c.report_of.ensures c.add.ensures.value c.tell_added.ensures in record { value = s.0; adds = s.1.0; adds_weighted = s.1.1; report_value = handed_stated a.report a.file.now _ s.0 }
+    let s = add_stated a.report a.file.now _ _ _ file_bytes c.from.ensures c.add.ensures.value c.tell_added.ensures in record { value = s.0; adds = s.1.0; adds_weighted = s.1.1; report_value = handed_stated a.report a.file.now _ s.0 }

@@ -10,5 +10,5 @@ pub returns : goal.returns
 returns c =
     let a = c.args in
     let same = ap (λ (z : ℤ). started_with z a.margin c.asked_version-asked.result) (to_z-of_z c.ranges.limit) in
-    let s = start_weighted_stated a.limit a.margin a.version a.knee _ _ _ c.asked_version-asked.ensures (c.start_weighted.ensures.value ∙ same) c.tell_report.ensures in
+    let s = start_weighted_stated a.limit a.margin a.version a.knee _ _ _ c.asked_version-asked.ensures (c.start_weighted.ensures.value ∙ same) c.from.ensures in
     record { value = s.0; tells_with = s.1 }

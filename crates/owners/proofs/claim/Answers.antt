@@ -1,14 +1,9 @@
--- The four bytes of the record are written one after the other.
-use native.Mathlib.Omega.{arith}
-use lib.ListN.{length-set}
-use Rattle.owners.specs.RecordLaws.{record_set}
+-- The four bytes of the record are written two by two.
+use mathlib.Core.Path.{◌∙◌}
+use Rattle.owners.proofs.Claiming.{record_put}
 use Rattle.owners.proofs.claim.Goals as goal
 
-pub bounds-table-at-2 : goal.bounds-table-at-2
-bounds-table-at-2 c = simp length-set (omega arith)
-
-pub bounds-table-at-3 : goal.bounds-table-at-3
-bounds-table-at-3 c = simp length-set (omega arith)
-
 pub returns : goal.returns
-returns c = record_set _ _ _ _ c.requires.0
+returns c =
+    let r = c.requires in
+    record_put _ _ _ _ r.0 r.1 r.2 _ _ (c.copy_from_slice.ensures.after ∙ c.to_le_bytes.ensures) (c.copy_from_slice-2.ensures.after ∙ c.to_le_bytes-2.ensures)

@@ -26,23 +26,22 @@ more table now p h c = record {
 }
 
 pub loop-page-init : goal.loop-page-init
-loop-page-init c = (omega arith, refl, none _)
+loop-page-init c = record { sized = refl; claimed = none _ }
 
 pub claim-requires : goal.claim-requires
-claim-requires c =
-    (omega (arith, c.loop-page.invariant.1, c.requires), omega arith, omega arith)
+claim-requires c = (omega (arith, c.loop-page.invariant.sized, c.requires), omega arith, omega arith)
 
 pub loop-page-preserved : goal.loop-page-preserved
 loop-page-preserved c =
     let table = records_of c.args.table.now in
     let page = c.loop-page.page in
-    let inside : page < length table = omega (arith, c.requires, length_records c.args.table.now) in (
-      omega arith,
-      c.claim.auto.table ∙ c.loop-page.invariant.1,
-      subst (ClaimsBelow table (page + 1)) (sym c.claim.ensures) (more table (records_of c.loop-page.table) page inside c.loop-page.invariant.2),
-    )
+    let inside : page < length table = omega (arith, c.requires, length_records c.args.table.now) in
+    record {
+      sized = c.claim.auto.table ∙ c.loop-page.invariant.sized;
+      claimed = subst (ClaimsBelow table (page + 1)) (sym c.claim.ensures) (more table (records_of c.loop-page.table) page inside c.loop-page.invariant.claimed);
+    }
 
 pub returns : goal.returns
 returns c =
-    let e : c.loop-page.page ≡ c.args.below = omega (arith, c.loop-page.invariant.0) in
-    subst (λ (n : ℕ). ClaimsBelow (records_of c.args.table.now) n (records_of c.loop-page.table)) e c.loop-page.invariant.2
+    let e : c.loop-page.page ≡ c.args.below = omega arith in
+    rw e at c.loop-page.invariant.claimed

@@ -1,4 +1,3 @@
-use Prim.Native.Nat.{◌<◌, ℕ}
 use Rattle.text.proofs.Steps.{nothing, and_then_lem, no_digit, one_digit, one_digit_more}
 use borrow.Author.Rules.{rules}
 use Rattle.text.proofs.+put_digits.Goals as goal

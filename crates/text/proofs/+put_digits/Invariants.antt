@@ -1,8 +1,5 @@
 -- The digits of x are those of x / 10, which the function writes by calling itself, and x % 10 behind them; below 10 there is one digit.
 -- The measure: the digits still allowed, one less in each call.
-use Prim.Native.Nat.{◌<◌, ℕ}
-use Rattle.text.proofs.Steps.{nothing, and_then_lem, no_digit, one_digit, one_digit_more}
-use borrow.Author.Rules.{rules}
 use Rattle.text.proofs.+put_digits.Given as goal
 
 abbrev pub decreases-put_digits : goal.decreases-put_digits

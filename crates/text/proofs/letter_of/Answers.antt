@@ -3,11 +3,11 @@ use borrow.Author.Tests.{eq-eqb, ne_eqb}
 use Rattle.geometry.specs.ChooseLaws.{choose_true, choose_false}
 use Rattle.text.proofs.letter_of.Goals as goal
 
-pub returns-then-line-eq0 : goal.returns-then-line-eq0
-returns-then-line-eq0 c = simp (eq-eqb _ 0 c.if-line-eq0.true, choose_true)
+pub returns-in-0-default : goal.returns-in-0-default
+returns-in-0-default c = simp (eq-eqb _ 0 c.in-0-default.is-0, choose_true)
 
-pub returns-then-line-eq-DIRECTORY : goal.returns-then-line-eq-DIRECTORY
-returns-then-line-eq-DIRECTORY c = simp (ne_eqb _ 0 c.if-line-eq0.false, eq-eqb _ 127 c.if-line-eq-DIRECTORY.true, choose_true, choose_false)
+pub returns-in_default-eq127 : goal.returns-in_default-eq127
+returns-in_default-eq127 c = simp (ne_eqb _ 0 c.in_default-eq127.is-0.1, eq-eqb _ 127 c.in_default-eq127.is-1, choose_true, choose_false)
 
-pub returns : goal.returns
-returns c = simp (ne_eqb _ 0 c.if-line-eq0.false, ne_eqb _ 127 c.if-line-eq-DIRECTORY.false, choose_false)
+pub returns-in_default : goal.returns-in_default
+returns-in_default c = simp (ne_eqb _ 0 c.in_default.is-0.1, ne_eqb _ 127 c.in_default.is-1.1, choose_false)

@@ -1,14 +1,12 @@
-use Prim.Native.Nat.{◌-◌}
-use Rattle.text.proofs.Steps.{byte_more, bytes_none, bytes_all}
-use borrow.Author.Rules.{rules}
+use Rattle.std.proofs.Common.{arith, length-take}
+use Rattle.text.proofs.Steps.{nothing, byte_more}
 use Rattle.text.proofs.put_bytes.Goals as goal
 
-pub loop-i-init : goal.loop-i-init
-loop-i-init c = (search rules, search rules, bytes_none _ _ _)
+pub loop-c-init : goal.loop-c-init
+loop-c-init c = nothing
 
-pub loop-i-preserved : goal.loop-i-preserved
-loop-i-preserved c =
-    (search rules, search rules, byte_more _ _ _ _ _ _ _ c.loop-i-test.true c.loop-i.invariant.2 c.put_byte.ensures)
+pub put_byte-next-requires : goal.put_byte-next-requires
+put_byte-next-requires c = omega (arith, c.loop-c.invariant.position, length-take c.loop-c.c-index c.args.bytes.now)
 
-pub returns : goal.returns
-returns c = bytes_all _ _ _ _ _ c.loop-i-test.false c.loop-i.invariant.0 c.loop-i.invariant.2
+pub loop-c-preserved : goal.loop-c-preserved
+loop-c-preserved c = byte_more c.args.bytes.now c.loop-c.c-index (omega arith) c.loop-c.invariant c.put_byte-next.ensures

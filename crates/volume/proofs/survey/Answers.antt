@@ -1,7 +1,6 @@
 -- The bytes surveyed are those that the scan found: the four bytes in page 0, which lie inside every page, or the content of the bitmap file's chain.
--- A root that was refused was never scanned.
 use native.Mathlib.Omega.{arith}
-use Rattle.volume.proofs.CheckLaws.{never, field_inside, local_raw, remote_raw, remote_known}
+use Rattle.volume.proofs.CheckLaws.{field_inside, local_raw, remote_raw, remote_known}
 use Rattle.volume.proofs.SurveyLaws.{on_raw}
 use Rattle.volume.proofs.survey.Goals as goal
 
@@ -12,10 +11,6 @@ slice_bounds-survey_local-end c =
 pub survey_chain-requires : goal.survey_chain-requires
 survey_chain-requires c =
     let s = c.requires in record { fit = s.fit; known_chain = remote_known _ _ _ _ (remote_raw _ _ _ _ _ _ s.root_value.0 c.in-Remote.is s.root_value.1.1) }
-
-pub returns-in-Refused : goal.returns-in-Refused
-returns-in-Refused c =
-    λ s e used h. never _ _ _ _ s c.requires.root_value.0 c.in-Refused.is e
 
 pub returns-in-Local : goal.returns-in-Local
 returns-in-Local c =

@@ -1,13 +1,18 @@
--- Each test of the number is the rules' test; number and attribute are the rules' by arithmetic.
-use mathlib.Core.Path.{refl}
-use Rattle.directory.proofs.ExtensionLaws.{is_file_lem, is_directory_lem, is_unknown}
+-- Each arm takes the numbers of the rules' test; number and attribute are the rules' by arithmetic.
+use mathlib.Core.Path.{refl, sym}
+use native.Mathlib.Omega.{arith}
+use Rattle.directory.proofs.ExtensionLaws.{is_file_lem, is_directory_lem, is_unknown, told_kind}
 use Rattle.directory.proofs.extensions.extension_of.Goals as goal
-
-pub returns-then-number-le-MOST_FILE : goal.returns-then-number-le-MOST_FILE
-returns-then-number-le-MOST_FILE c = record { is_kind = is_file_lem c.args.byte c.if-number-le-MOST_FILE.true; number_is = refl; attribute_is = refl }
-
-pub returns-then-number-eq-DIRECTORY : goal.returns-then-number-eq-DIRECTORY
-returns-then-number-eq-DIRECTORY c = record { is_kind = is_directory_lem c.args.byte c.if-number-le-MOST_FILE.false c.if-number-eq-DIRECTORY.true; number_is = refl; attribute_is = refl }
+use Rattle.directory.proofs.extensions.extension_of.Goals.{in-127, in-0-to-99, in_default}
 
 pub returns : goal.returns
-returns c = record { is_kind = is_unknown c.args.byte c.if-number-le-MOST_FILE.false c.if-number-eq-DIRECTORY.false; number_is = refl; attribute_is = refl }
+returns c = record {
+  is_kind =
+      elim c.match-number.branch [
+        | in-127 w ↦ told_kind c.args.byte _ _ (is_directory_lem c.args.byte (omega (arith, w.in-127.is)) w.in-127.is) (sym w.result-is)
+        | in-0-to-99 w ↦ told_kind c.args.byte _ _ (is_file_lem c.args.byte (omega arith)) (sym w.result-is)
+        | in_default w ↦ told_kind c.args.byte _ _ (is_unknown c.args.byte (omega arith) (omega arith)) (sym w.result-is)
+      ];
+  number_is = refl;
+  attribute_is = refl;
+}

@@ -1,15 +1,9 @@
-use mathlib.Core.Path.{refl, sym, ◌∙◌}
-use Rattle.directory.proofs.NameLaws.{not_blank, blank_more, blanks_end}
+-- Each byte is a blank.
+use Rattle.std.proofs.Common.{◌∙◌, nat_eq, rules, tests}
+use Rattle.std.proofs.lemmas.Iterator.{YieldsList-from_slice}
+use Rattle.std.proofs.lemmas.Iterator.Search.{all_from_yields_List}
+use Rattle.directory.proofs.NameLaws.{all_blanks}
 use Rattle.directory.proofs.names.all_blank.Goals as goal
 
-pub loop-i-init : goal.loop-i-init
-loop-i-init c = refl
-
-pub returns-then-name-ne-BLANK : goal.returns-then-name-ne-BLANK
-returns-then-name-ne-BLANK c = sym (c.loop-i.invariant ∙ not_blank _ _ c.loop-i-test.true c.if-name-ne-BLANK.true)
-
-pub loop-i-preserved : goal.loop-i-preserved
-loop-i-preserved c = c.loop-i.invariant ∙ blank_more _ _ c.loop-i-test.true c.if-name-ne-BLANK.false
-
 pub returns : goal.returns
-returns c = blanks_end _ _ c.loop-i-test.false ∙ sym c.loop-i.invariant
+returns c = all_from_yields_List (λ x. nat_eq x 32) _ _ _ c.all.ensures.ran (YieldsList-from_slice c.args.bytes.now cc) (λ x b q k. search (rules, tests)) ∙ all_blanks c.args.bytes.now

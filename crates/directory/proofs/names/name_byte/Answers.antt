@@ -1,19 +1,23 @@
--- Five ranges of a byte: below the digits, digits, between, capitals, above. Digits and capitals are name bytes; in the other three a sign alone is one.
-use mathlib.Core.Path.{◌∙◌}
-use Rattle.directory.proofs.NameLaws.{below_digits, digit, between, capital, above_capitals}
+-- A capital, a digit, or one of the signs.
+use Rattle.std.proofs.Common.{sym, ◌∙◌}
+use mathlib.Core.Bool.{true≢false}
+use Rattle.directory.proofs.NameLaws.{capital, digit, sign}
 use Rattle.directory.proofs.names.name_byte.Goals as goal
+use Rattle.directory.proofs.names.name_byte.Goals.{then-is_ascii_uppercase, else-is_ascii_uppercase}
 
-pub returns-then-c-lt48 : goal.returns-then-c-lt48
-returns-then-c-lt48 c = c.is_sign.ensures ∙ below_digits _ c.if-c-lt48.true
+pub returns-then-is_ascii_digit : goal.returns-then-is_ascii_digit
+returns-then-is_ascii_digit c =
+    c.if-is_ascii_digit.true
+    ∙ elim c.if-is_ascii_uppercase.branch [
+      | then-is_ascii_uppercase w ↦ capital _ (sym c.is_ascii_uppercase.ensures.value ∙ w.if-is_ascii_uppercase.true)
+      | else-is_ascii_uppercase w ↦ digit _ (sym w.is_ascii_digit.ensures.value ∙ sym w.value-is ∙ c.if-is_ascii_digit.true)
+    ]
 
-pub returns-then-c-le57 : goal.returns-then-c-le57
-returns-then-c-le57 c = digit _ c.if-c-lt48.false c.if-c-le57.true
-
-pub returns-then-c-lt65 : goal.returns-then-c-lt65
-returns-then-c-lt65 c = c.is_sign-then-c-lt65.ensures ∙ between _ c.if-c-le57.false c.if-c-lt65.true
-
-pub returns-then-c-le90 : goal.returns-then-c-le90
-returns-then-c-le90 c = capital _ c.if-c-lt65.false c.if-c-le90.true
-
-pub returns : goal.returns
-returns c = c.is_sign-2.ensures ∙ above_capitals _ c.if-c-le90.false
+pub returns-else-is_ascii_digit : goal.returns-else-is_ascii_digit
+returns-else-is_ascii_digit c =
+    c.contains.ensures.value
+    ∙ elim c.if-is_ascii_uppercase.branch [
+      | then-is_ascii_uppercase w ↦ absurd (true≢false (sym w.if-is_ascii_uppercase.true ∙ sym w.value-is ∙ c.if-is_ascii_digit.false))
+      | else-is_ascii_uppercase w ↦
+          sign _ (sym c.is_ascii_uppercase.ensures.value ∙ w.if-is_ascii_uppercase.false) (sym w.is_ascii_digit.ensures.value ∙ sym w.value-is ∙ c.if-is_ascii_digit.false)
+    ]

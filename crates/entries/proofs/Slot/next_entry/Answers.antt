@@ -12,18 +12,18 @@ returns-then-slot c =
 pub next_page-requires : goal.next_page-requires
 next_page-requires c = record { fit = c.requires.fit; in_directory = c.loop-slot.invariant.0 }
 
-pub returns-in_default : goal.returns-in_default
-returns-in_default c =
-    let n = last_answer _ _ _ _ c.next_page.ensures c.in_default.is in
-    c.loop-slot.invariant.1 _ (entry_end _ _ _ c.if-slot.false n)
+pub returns-in_err-slot : goal.returns-in_err-slot
+returns-in_err-slot c =
+    let n = last_answer _ _ _ _ c.next_page.ensures c.in_err-slot.was in
+    rw c.from_residual.ensures (c.loop-slot.invariant.1 _ (entry_end _ _ _ c.if-slot.false n))
 
 pub loop-slot-smaller : goal.loop-slot-smaller
 loop-slot-smaller c =
-    (page_answer _ _ _ _ c.next_page.ensures _ c.in-At.is).less
+    (page_answer _ _ _ _ c.next_page.ensures _ c.in_ok-slot.was).less
 
 pub loop-slot-preserved : goal.loop-slot-preserved
 loop-slot-preserved c =
     let i = c.loop-slot.invariant in
-    let n = page_answer _ _ _ _ c.next_page.ensures _ c.in-At.is in
+    let n = page_answer _ _ _ _ c.next_page.ensures _ c.in_ok-slot.was in
     let d = page_in n i.0 in
     (d, λ r a. i.1 r (entry_on n c.if-slot.false (slot_few c.requires.fit.valid d.ahead.at_slot.fits) r a))

@@ -25,9 +25,9 @@ returns-in_default c =
 
 pub loop-slot-smaller : goal.loop-slot-smaller
 loop-slot-smaller c =
-    (page_answer _ _ _ _ c.next_page.ensures _ c.in-At.is).less
+    (page_answer _ _ _ _ c.next_page.ensures _ c.in-Some.is).less
 
 pub loop-slot-preserved : goal.loop-slot-preserved
 loop-slot-preserved c =
-    let n = page_answer _ _ _ _ c.next_page.ensures _ c.in-At.is in
+    let n = page_answer _ _ _ _ c.next_page.ensures _ c.in-Some.is in
     λ t d. let i = c.loop-slot.invariant t d in fill_on i c.if-slot-room.false (n.ahead _ i.ahead) c.later_entries-room.ensures
