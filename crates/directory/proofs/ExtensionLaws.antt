@@ -1,4 +1,5 @@
 -- The tests of an extension number, as the code makes them.
+use mathlib.Core.Bool.{true, false}
 use mathlib.Core.Path.{◌≡◌, subst}
 use Prim.Native.Nat.{ℕ, ◌%◌, ◌≤◌, ◌<◌}
 use native.Mathlib.Omega.{arith}
@@ -9,17 +10,31 @@ use Rattle.directory.specs.declared.extensions.EntryKind.TheVariants as kind
 use Rattle.directory.specs.declared.extensions.Extension.{Extension}
 use Rattle.directory.specs.Extensions.{IsKind, Means}
 
+-- each test of the number alone, for `kind_of`
+pub file_yes : (x : ℕ) → x % 128 ≤ 99 → file_number x ≡ true
+unfolding file_number
+file_yes x h = le-leb (x % 128) 99 h
+
+pub file_no : (x : ℕ) → 99 < x % 128 → file_number x ≡ false
+unfolding file_number
+file_no x h = lt-leb (x % 128) 99 h
+
+pub directory_yes : (x : ℕ) → x % 128 ≡ 127 → directory_number x ≡ true
+unfolding directory_number
+directory_yes x e = eq-eqb (x % 128) 127 e
+
+pub directory_no : (x : ℕ) → (x % 128 ≡ 127 → ⊥) → directory_number x ≡ false
+unfolding directory_number
+directory_no x e = ne_eqb (x % 128) 127 e
+
 pub is_file_lem : (x : ℕ) → x % 128 ≤ 99 → IsKind x kind.File
-unfolding file_number directory_number
-is_file_lem x h = (le-leb (x % 128) 99 h, ne_eqb (x % 128) 127 (λ e. omega (arith, h, e)))
+is_file_lem x h = (file_yes x h, directory_no x (λ e. omega (arith, h, e)))
 
 pub is_directory_lem : (x : ℕ) → 99 < x % 128 → x % 128 ≡ 127 → IsKind x kind.Directory
-unfolding file_number directory_number
-is_directory_lem x h e = (lt-leb (x % 128) 99 h, eq-eqb (x % 128) 127 e)
+is_directory_lem x h e = (file_no x h, directory_yes x e)
 
 pub is_unknown : (x : ℕ) → 99 < x % 128 → (x % 128 ≡ 127 → ⊥) → IsKind x kind.Unknown
-unfolding file_number directory_number
-is_unknown x h e = (lt-leb (x % 128) 99 h, ne_eqb (x % 128) 127 e)
+is_unknown x h e = (file_no x h, directory_no x e)
 
 -- of the kind that a match has told
 pub told_kind : (x : ℕ) (r s : EntryKind) → IsKind x r → r ≡ s → IsKind x s

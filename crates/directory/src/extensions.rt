@@ -1,7 +1,7 @@
 // What an extension byte means.
 ghost use Rattle.std.specs.Prelude.{◌≡◌};
 ghost use Rattle.rules.specs.Names.{directory_number};
-ghost use Rattle.directory.specs.Extensions.{Means};
+ghost use Rattle.directory.specs.Extensions.{IsKind, Means};
 
 use geometry::{ATTRIBUTE, DIRECTORY, MOST_FILE};
 
@@ -22,17 +22,25 @@ pub struct Extension {
     pub attribute: u8,
 }
 
+// What an extension byte's number stands for.
+#[tactic(auto, using(crate::proofs::ExtensionLaws::file_yes, crate::proofs::ExtensionLaws::file_no, crate::proofs::ExtensionLaws::directory_yes, crate::proofs::ExtensionLaws::directory_no))]
+fn kind_of(byte: u8) -> EntryKind
+    ensures { IsKind byte result }
+{
+    match byte % ATTRIBUTE {
+        0..=MOST_FILE => EntryKind::File,
+        DIRECTORY => EntryKind::Directory,
+        _ => EntryKind::Unknown,
+    }
+}
+
 // Takes an extension byte apart.
 pub fn extension_of(byte: u8) -> Extension
     ensures { Means byte result }
 {
     let number = byte % ATTRIBUTE;
     Extension {
-        kind: match number {
-            0..=MOST_FILE => EntryKind::File,
-            DIRECTORY => EntryKind::Directory,
-            _ => EntryKind::Unknown,
-        },
+        kind: kind_of(byte),
         number,
         attribute: byte / ATTRIBUTE,
     }

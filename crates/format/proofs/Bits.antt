@@ -124,7 +124,7 @@ module _ {g : Geometry} {table : List OwnerRecord} {bound : ℕ} {start image : 
         ∙ sym (ap (λ (ws : List Write). after_writes g ws image) (more capacity some_capacity table bound page done left h)) ∙ held.onward;
   }
 
-  held_last : (after : List ℕ) → left ≤ capacity → after ≡ write_page g (write page (marks_from table bound (8 * done) left) 0) image → after ≡ after_writes g (bits_writes g table bound) start
+  pub held_last : (after : List ℕ) → left ≤ capacity → after ≡ write_page g (write page (marks_from table bound (8 * done) left) 0) image → after ≡ after_writes g (bits_writes g table bound) start
   unfolding after_writes
   held_last after h e = e ∙ sym (ap (λ (ws : List Write). after_writes g ws image) (last capacity some_capacity table bound page done left h)) ∙ held.onward
 

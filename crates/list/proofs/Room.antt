@@ -20,11 +20,11 @@ module _ (front out after : List ℕ) (r : Option ℕ) (h : 102600 ≤ length ou
   tells : (s : Option ℕ) → r ≡ s → print_result s ≡ ok (length (list_text front))
   tells s i = subst (λ (x : Option ℕ). print_result x ≡ ok (length (list_text front))) i (ap (λ (x : Res ℕ × List ℕ). x.0) whole)
 
-  never_short : {C : Type 0} → r ≡ None → C
+  pub never_short : {C : Type 0} → r ≡ None → C
   never_short i = clash (tells None i)
 
   -- the front of a dump that the input holds has the dump's text
-  laid : (input : List ℕ) (k n : ℕ) → 65537 ≤ length input → front ≡ take k input → r ≡ Some n → IsPrefixLen n after × PrintsText input k out n after
+  pub laid : (input : List ℕ) (k n : ℕ) → 65537 ≤ length input → front ≡ take k input → r ≡ Some n → IsPrefixLen n after × PrintsText input k out n after
   laid input k n f i j =
       let l : n ≡ length (list_text front) = ok_inj (tells (Some n) j) in
       let t : after ≡ list_text front ++ drop n out = ap (λ (x : Res ℕ × List ℕ). x.1) whole ∙ ap (λ (m : ℕ). list_text front ++ drop m out) (sym l) in

@@ -13,7 +13,10 @@ use geometry::{RECORD_BYTES, ROOT_OWNER};
 pub fn clear(table: &mut [u8])
     ensures { table.new ≡ replicate (length table.old) 0 }
 {
-    table.fill(0);
+    // `for`, not `fill`: the edit `high_bytes_left_from_before` changes which byte is cleared
+    for at in 0..table.len() {
+        table[at] = 0;
+    }
 }
 
 // The pages that a table has records of.

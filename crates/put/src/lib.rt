@@ -99,9 +99,14 @@ fn put_path(
     requires table_len { (length table.old ≡ 4 * g.pages) × TableOf g image.old (records_of table.old) × Open budget }
     ensures { PathPut g image.old path.now bytes.now budget image.new result }
 {
-    let file = place_file(image, g, path)?;
-    edit::release_old(image, g, file.replaces, table);
-    edit::put_file(image, g, file, bytes, table, budget)
+    // `match`, not `?`: the edit `done_and_nothing_written` turns the answer of the first arm
+    match place_file(image, g, path) {
+        Err(refusal) => Err(refusal),
+        Ok(file) => {
+            edit::release_old(image, g, file.replaces, table);
+            edit::put_file(image, g, file, bytes, table, budget)
+        }
+    }
 }
 
 // Puts into an image whose geometry is known: the check, the put, then the table of the image as it then stands.

@@ -1,7 +1,7 @@
 -- Both halves together: the bitmap compared, the table filled, the call.
 use Rattle.refusals.specs.declared.Refusal.{Refusal}
 use Rattle.std.specs.Prelude.{true, false, is_err, Result, Ok, Err, Some, Option, None}
-use mathlib.Core.Path.{◌≡◌, ap, ap₂, sym, ◌∙◌, subst}
+use mathlib.Core.Path.{◌≡◌, refl, ap, ap₂, sym, ◌∙◌, subst}
 use mathlib.Core.List.{List, ◌++◌}
 use Prim.Native.Nat.{ℕ, ◌+◌, ◌-◌, ◌*◌, ◌≤◌, ◌<◌}
 use native.Mathlib.Omega.{arith}
@@ -87,6 +87,13 @@ kept g vs (Err z) u k e = absurd (mathlib.Core.Bool.false≢true (sym e))
 pub emptied : (g : Geometry) (vs : Views) (r : Result Totals Refusal) (u v : List OwnerRecord) → ImageJudged g vs r u → is_err r ≡ true → v ≡ all_free g.pages → TableChecked g vs r v
 emptied g vs (Ok d) u v k e z = absurd (mathlib.Core.Bool.false≢true e)
 emptied g vs (Err x) u v k e z = (k, z)
+
+pub refused_table : (g : Geometry) (vs : Views) (r : Result Totals Refusal) (u v : List OwnerRecord) → ImageJudged g vs r u → (z : Refusal) → r ≡ Err z → v ≡ all_free g.pages → TableChecked g vs (Err z) v
+refused_table g vs r u v k z e f = subst (λ (x : Result Totals Refusal). TableChecked g vs x v) e (emptied g vs r u v k (ap (λ (x : Result Totals Refusal). is_err x) e) f)
+
+pub not_err : (r : Result Totals Refusal) → ((z : Refusal) → r ≡ Err z → ⊥) → is_err r ≡ false
+not_err (Ok d) n = refl
+not_err (Err z) n = absurd (n z refl)
 
 -- ---- the call
 module _ {A : Type 0} (P N : ℕ) (image table : List ℕ) (g : Geometry) (e : geometry_of P N (length image) (length table) ≡ Some g) (question : Image → Res A) where

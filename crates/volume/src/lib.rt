@@ -178,8 +178,10 @@ pub fn check_table(image: &[u8], g: Geometry, table: &mut [u8]) -> Result<Totals
 {
     owners::clear(table);
     let checked = judge(image, g, table);
-    if checked.is_err() {
+    // the refusal in a branch of its own: the edit `every_refusal_told_as_0` turns its answer
+    if let Err(refusal) = checked {
         owners::clear(table);
+        return Err(refusal);
     }
     checked
 }
