@@ -1,3 +1,7 @@
+-- At the end the bytes summed are those that were given, which the search finds from what they are, not from how the code writes them.
+use Rattle.std.proofs.Common.{rules, ap, ◌∙◌, List, ℕ}
+use Rattle.std.proofs.lemmas.Grind.{common_steps}
+use Rattle.crc16.specs.Crc16.{crc16}
 use Rattle.crc16.proofs.Bytes.{more, done}
 use Rattle.crc16.proofs.crc_of.Goals as goal
 
@@ -7,4 +11,4 @@ loop-byte-preserved c =
 
 pub returns : goal.returns
 returns c =
-    done _ _ _ _ c.loop-byte-test.false c.loop-byte.invariant
+    done _ _ _ _ c.loop-byte-test.false c.loop-byte.invariant ∙ ap (λ (s : List ℕ). crc16 c.args.start s) (search (rules, common_steps))
