@@ -191,7 +191,12 @@ pub fn check(image: &[u8], size: u32, pages: u32, table: &mut [u8]) -> Result<To
     ensures table_after { (answer_of result, table.new) ≡ check_call size pages image.now table.old }
     ensures accepts { Accepts size pages image.now table.old (IsOk (answer_of result)) }
 {
-    let g = Geometry::new(size, pages, image.len(), table.len())?;
-    let end = RECORD_BYTES * g.pages;
-    check_table(image, g, &mut table[..end])
+    // the refusal in an arm of its own: the edit `every_refusal_told_as_0` turns this answer too
+    match Geometry::new(size, pages, image.len(), table.len()) {
+        Err(refusal) => Err(refusal),
+        Ok(g) => {
+            let end = RECORD_BYTES * g.pages;
+            check_table(image, g, &mut table[..end])
+        }
+    }
 }

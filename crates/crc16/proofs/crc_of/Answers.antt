@@ -1,4 +1,4 @@
--- At the end the bytes summed are those that were given, which the search finds from what they are, not from how the code writes them.
+-- At the end the bytes summed are those that were given: `search` finds it by what the slices hold.
 use Rattle.std.proofs.Common.{rules, ap, ◌∙◌, List, ℕ}
 use Rattle.std.proofs.lemmas.Grind.{common_steps}
 use Rattle.crc16.specs.Crc16.{crc16}

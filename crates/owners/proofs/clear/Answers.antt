@@ -10,7 +10,7 @@ use Rattle.owners.proofs.clear.Goals as goal
 all : (t : List ℕ) → replicate (length t) 0 ++ drop (length t) t ≡ replicate (length t) 0
 all t = rw (drop-length t, append-nil)
 
--- One byte more is 0: the one at place `i`, however the code writes it (`j`).
+-- One byte more is 0: the one at the place `j` of the code, which is `i`.
 more : (i j : ℕ) (t l : List ℕ) → i < length t → l ≡ replicate i 0 ++ drop i t → j ≡ i → set l j 0 ≡ replicate (i + 1) 0 ++ drop (i + 1) t
 more i j t l h e s = rw (s, e) (fill_more i 0 t h)
 
